@@ -1,1 +1,3 @@
 pub mod ChainFacts
+pub mod KnownFacts
+pub mod ScanFacts

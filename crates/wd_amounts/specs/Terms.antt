@@ -1,5 +1,5 @@
 -- What an operand counts.
-use Rattle.std.specs.Prelude.{ℕ, zero, suc, ◌-◌, ◌==◌, ◌&&◌, ◌||◌, not, codes, Bool, true, false, if◌then◌else◌, List, [], ◌∷◌, length, take, drop, Option, Some, None}
+use Rattle.std.specs.Prelude.{ℕ, zero, suc, ◌-◌, ◌==◌, ◌&&◌, ◌||◌, codes, nat_lt, Bool, true, false, if◌then◌else◌, List, [], ◌∷◌, length, take, drop, Option, Some, None}
 use Rattle.std.specs.Str.{bytes_eq}
 use Rattle.wd_lex.specs.declared.token.Terminal.TheVariants as m
 use Rattle.wd_lex.specs.declared.token.Token.{Token}
@@ -8,27 +8,32 @@ use Rattle.wd_lex.specs.declared.token.TokenKind.TheVariants as t
 use Rattle.wd_operands.specs.Nests.{nest_length}
 use Rattle.wd_operands.specs.Operands.{is_name, is_over, is_sign}
 use Rattle.wd_amounts.specs.declared.token.Stop.{Stop}
-use Rattle.wd_amounts.specs.declared.token.Stop.TheVariants.{Sign, Factor, Comma}
+use Rattle.wd_amounts.specs.declared.token.Stop.TheVariants.{Sign, Factor, Comma, Branch}
 use Rattle.wd_amounts.specs.declared.unit.Unit.{Unit as Counts}
 use Rattle.wd_amounts.specs.declared.unit.Unit.TheVariants.{Days, Microseconds, Plain, Number}
-use Rattle.wd_amounts.specs.Units.{decimal_alone, joined, with_default}
-use Rattle.wd_amounts.specs.Names.{Use, unit_named}
+use Rattle.wd_amounts.specs.Units.{as_value, branched, joined, number_alone, with_default}
 use Rattle.wd_amounts.specs.declared.amount.Amount.{Amount}
 use Rattle.wd_amounts.specs.Amounts.{amount_at}
 use Rattle.wd_amounts.specs.declared.numeral.Numeral.{Numeral}
 use Rattle.wd_amounts.specs.Numerals.{numeral_at}
-use Rattle.wd_amounts.specs.Tokens.{◌>>=◌, brackets_at, holds_text, is_dot, or_else, part_length}
+use Rattle.wd_amounts.specs.Tokens.{◌>>=◌, brackets_at, holds_text, is_case, is_dot, is_end, or_else, part_length}
 
 -- ---- names, numbers and literals
 
-abbrev pub token_unit : List Use → TokenKind → Option Counts
-token_unit known (t.Word name) = unit_named known name
-token_unit known (t.Quoted name) = unit_named known name
+-- what a name counts, where that is known
+abbrev pub Known : Type 0
+Known = List ℕ → Option Counts
+
+-- a number and NULL go with whatever stands beside them
+abbrev pub token_unit : Known → TokenKind → Option Counts
+token_unit known (t.Word name) = known name
+token_unit known (t.Quoted name) = known name
 token_unit known (t.Number number) = Some (Number 0)
+token_unit known (t.Terminal m.Null) = Some (Number 0)
 token_unit known _ = None
 
 -- a name, of a table or not, or a number; nothing, before a sign, is as 0
-unfoldable pub column_unit : List Use → List Token → Option Counts
+unfoldable pub column_unit : Known → List Token → Option Counts
 column_unit known [] = Some (Number 0)
 column_unit known (only ∷ []) = token_unit known only.kind
 column_unit known (table ∷ dot ∷ column ∷ []) = if is_name table.kind && is_dot dot.kind && is_name column.kind then token_unit known column.kind else None
@@ -67,10 +72,10 @@ is_window [] = false
 is_window (first ∷ []) = is_name first.kind
 is_window (first ∷ second ∷ tokens) = nest_length (first ∷ second ∷ tokens) == length (first ∷ second ∷ tokens)
 
--- nothing, or OVER and a window in which no text stands
+-- nothing, or OVER and a window
 unfoldable pub ends_call : List Token → Bool
 ends_call [] = true
-ends_call (token ∷ tokens) = is_over token.kind && is_window tokens && not (holds_text tokens)
+ends_call (token ∷ tokens) = is_over token.kind && is_window tokens
 
 -- the arguments of a call, after its name
 unfoldable pub arguments_of : List Token → Option (List Token)
@@ -98,29 +103,18 @@ unfoldable pub summed_argument : List Token → Option (List Token)
 summed_argument [] = None
 summed_argument (token ∷ tokens) = if is_sum token.kind then first_argument tokens else None
 
--- nothing, or a comma and 0
-abbrev pub is_zero : TokenKind → Bool
-is_zero (t.Number number) = number == 0
-is_zero _ = false
+-- the tokens after the first comma
+unfoldable pub past_comma : List Token → List Token
+past_comma tokens = drop 1 (drop (part_length Comma tokens) tokens)
 
-unfoldable pub ends_with_zero : List Token → Bool
-ends_with_zero [] = true
-ends_with_zero (comma ∷ only ∷ []) = is_zero only.kind
-ends_with_zero _ = false
+abbrev pub third_in : Option (List Token) → List Token
+third_in None = []
+third_in (Some arguments) = let others = past_comma (past_comma arguments) in take (part_length Comma others) others
 
--- the further arguments of a call: after a first comma and a number of rows, nothing but perhaps 0
-unfoldable pub is_default_zero : List Token → Bool
-is_default_zero arguments =
-    let others = drop 1 (drop (part_length Comma arguments) arguments) in ends_with_zero (drop (part_length Comma others) others)
-
-abbrev pub zero_in : Option (List Token) → Bool
-zero_in None = true
-zero_in (Some arguments) = is_default_zero arguments
-
--- a call has no default but 0
-unfoldable pub defaults_to_zero : List Token → Bool
-defaults_to_zero [] = true
-defaults_to_zero (token ∷ tokens) = zero_in (arguments_of tokens)
+-- the third argument of a call, and nothing where it has none
+unfoldable pub default_of : List Token → List Token
+default_of [] = []
+default_of (token ∷ tokens) = third_in (arguments_of tokens)
 
 -- ---- casts
 
@@ -128,14 +122,6 @@ defaults_to_zero (token ∷ tokens) = zero_in (arguments_of tokens)
 abbrev pub is_day : TokenKind → Bool
 is_day (t.Number number) = number == 86400000000
 is_day _ = false
-
-abbrev pub is_case : TokenKind → Bool
-is_case (t.Terminal m.Case) = true
-is_case _ = false
-
-abbrev pub is_end : TokenKind → Bool
-is_end (t.Terminal m.End) = true
-is_end _ = false
 
 abbrev pub is_slash : TokenKind → Bool
 is_slash (t.Terminal m.Slash) = true
@@ -167,16 +153,25 @@ cast_unit tokens = by_end (begins_case tokens) (ended_unit (drop (length tokens 
 
 -- ---- chains
 
+-- what comes of what is known so far, an operator and the part after it
+abbrev pub Join : Type 0
+Join = TokenKind → Option Counts → Option Counts → Option Counts
+
 -- parts of which so much is known, with an operator before each that is still to come; the number bounds the turns
-unfoldable pub chain_from : Stop → (List Token → Option Counts) → ℕ → Option Counts → List Token → Option Counts
-chain_from stop part zero unit tokens = unit
-chain_from stop part (suc turns) unit [] = unit
-chain_from stop part (suc turns) unit (operator ∷ tokens) =
-    chain_from stop part turns (joined operator.kind unit (part (take (part_length stop tokens) tokens))) (drop (part_length stop tokens) tokens)
+unfoldable pub chain_from : Stop → Join → (List Token → Option Counts) → ℕ → Option Counts → List Token → Option Counts
+chain_from stop join part zero unit tokens = unit
+chain_from stop join part (suc turns) unit [] = unit
+chain_from stop join part (suc turns) unit (operator ∷ tokens) =
+    chain_from stop join part turns (join operator.kind unit (part (take (part_length stop tokens) tokens))) (drop (part_length stop tokens) tokens)
 
 -- parts with such operators between them: the count of the tokens is always enough
-abbrev pub chain_of : Stop → (List Token → Option Counts) → List Token → Option Counts
-chain_of stop part tokens = chain_from stop part (length tokens) (part (take (part_length stop tokens) tokens)) (drop (part_length stop tokens) tokens)
+abbrev pub chain_of : Stop → Join → (List Token → Option Counts) → List Token → Option Counts
+chain_of stop join part tokens = chain_from stop join part (length tokens) (part (take (part_length stop tokens) tokens)) (drop (part_length stop tokens) tokens)
+
+-- what stands between CASE and its END, and nothing after them
+unfoldable pub cased : List Token → Option (List Token)
+cased tokens =
+    if begins_case tokens && nest_length tokens == length tokens && nat_lt 1 (length tokens) then Some (take (length tokens - 2) (drop 1 tokens)) else None
 
 -- what stands in brackets, and nothing after them
 unfoldable pub bracketed : List Token → Option (List Token)
@@ -186,7 +181,7 @@ bracketed tokens = brackets_at tokens >>= λ nest. if length nest.1 == 0 then So
 unfoldable pub inner_operand : List Token → Option (List Token)
 inner_operand tokens = or_else (bracketed tokens) (picked_argument tokens)
 
-unfoldable pub plain_unit : List Use → List Token → Option Counts
+unfoldable pub plain_unit : Known → List Token → Option Counts
 plain_unit known tokens = or_else (or_else (column_unit known tokens) (literal_unit tokens)) (or_else (count_unit tokens) (cast_unit tokens))
 
 -- a factor without its sign
@@ -194,31 +189,39 @@ unfoldable pub unsigned : List Token → List Token
 unsigned [] = []
 unsigned (token ∷ tokens) = if is_sign token.kind then tokens else token ∷ tokens
 
--- a name or a number, or else what counts a decimal
-unfoldable pub factor_unit : (List Token → Option Counts) → List Use → List Token → Option Counts
-factor_unit inner known tokens = if length (unsigned tokens) == 0 then None else or_else (column_unit known (unsigned tokens)) (decimal_alone (inner tokens))
+-- a name or a number, or else what counts ones or a decimal
+unfoldable pub factor_unit : (List Token → Option Counts) → Known → List Token → Option Counts
+factor_unit inner known tokens = if length (unsigned tokens) == 0 then None else or_else (column_unit known (unsigned tokens)) (number_alone (as_value (inner tokens)))
 
--- factors with stars between them, two at least
-unfoldable pub multiple_unit : (List Token → Option Counts) → List Use → List Token → Option Counts
-multiple_unit inner known tokens = if part_length Factor tokens == length tokens then None else chain_of Factor (factor_unit inner known) tokens
+-- factors with what stands between factors between them, two at least
+unfoldable pub multiple_unit : (List Token → Option Counts) → Known → List Token → Option Counts
+multiple_unit inner known tokens = if part_length Factor tokens == length tokens then None else chain_of Factor joined (factor_unit inner known) tokens
 
--- the sum of decimals, or a product
-unfoldable pub scaled_unit : (List Token → Option Counts) → List Use → List Token → Option Counts
-scaled_unit inner known tokens = or_else (decimal_alone (summed_argument tokens >>= inner)) (multiple_unit inner known tokens)
+-- the values of a CASE: what all its branches share
+unfoldable pub case_unit : (List Token → Option Counts) → List Token → Option Counts
+case_unit inner tokens = cased tokens >>= chain_of Branch branched inner
 
-abbrev pub term_by : (List Token → Option Counts) → List Use → List Token → Option (List Token) → Option Counts
-term_by inner known tokens (Some inside) = with_default (defaults_to_zero tokens) (inner inside)
+-- the sum of numbers
+abbrev pub summed_unit : (List Token → Option Counts) → List Token → Option Counts
+summed_unit inner tokens = summed_argument tokens >>= λ argument. number_alone (as_value (inner argument))
+
+-- a CASE, a sum of numbers, or a product
+unfoldable pub scaled_unit : (List Token → Option Counts) → Known → List Token → Option Counts
+scaled_unit inner known tokens = or_else (or_else (case_unit inner tokens) (summed_unit inner tokens)) (multiple_unit inner known tokens)
+
+abbrev pub term_by : (List Token → Option Counts) → Known → List Token → Option (List Token) → Option Counts
+term_by inner known tokens (Some inside) = with_default (inner inside) (inner (default_of tokens))
 term_by inner known tokens None = or_else (plain_unit known tokens) (scaled_unit inner known tokens)
 
 -- what no sum is
-unfoldable pub term_unit : (List Token → Option Counts) → List Use → List Token → Option Counts
+unfoldable pub term_unit : (List Token → Option Counts) → Known → List Token → Option Counts
 term_unit inner known tokens = term_by inner known tokens (inner_operand tokens)
 
 -- what an operand counts, looked for in so many brackets
-unfoldable pub unit_within : List Use → ℕ → List Token → Option Counts
+unfoldable pub unit_within : Known → ℕ → List Token → Option Counts
 unit_within known zero tokens = None
-unit_within known (suc depth) tokens = chain_of Sign (term_unit (unit_within known depth) known) tokens
+unit_within known (suc depth) tokens = chain_of Sign joined (term_unit (unit_within known depth) known) tokens
 
 -- brackets are followed to 64 levels
-abbrev pub unit_of : List Use → List Token → Option Counts
+abbrev pub unit_of : Known → List Token → Option Counts
 unit_of known tokens = unit_within known 65 tokens

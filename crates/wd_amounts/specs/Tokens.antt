@@ -7,7 +7,7 @@ use Rattle.wd_lex.specs.declared.token.TokenKind.TheVariants as t
 use Rattle.wd_operands.specs.Nests.{nest_length}
 use Rattle.wd_operands.specs.Operands.{is_left_bracket, is_sign, operand_length}
 use Rattle.wd_amounts.specs.declared.token.Stop.{Stop}
-use Rattle.wd_amounts.specs.declared.token.Stop.TheVariants.{Sign, Factor, Operator, Comma, As}
+use Rattle.wd_amounts.specs.declared.token.Stop.TheVariants.{Sign, Factor, Operator, Comma, As, Then, Branch, Link, Frame}
 
 infixl 10 ◌>>=◌
 abbrev pub ◌>>=◌ : {A B : Type 0} → Option A → (A → Option B) → Option B
@@ -44,6 +44,33 @@ is_comparison (t.Terminal m.Greater) = true
 is_comparison (t.Terminal m.GreaterOrEqual) = true
 is_comparison _ = false
 
+abbrev pub is_case : TokenKind → Bool
+is_case (t.Terminal m.Case) = true
+is_case _ = false
+
+abbrev pub is_end : TokenKind → Bool
+is_end (t.Terminal m.End) = true
+is_end _ = false
+
+abbrev pub is_then : TokenKind → Bool
+is_then (t.Terminal m.Then) = true
+is_then _ = false
+
+-- WHEN, THEN and ELSE
+abbrev pub is_branch : TokenKind → Bool
+is_branch (t.Terminal m.When) = true
+is_branch (t.Terminal m.Then) = true
+is_branch (t.Terminal m.Else) = true
+is_branch _ = false
+
+-- an item of a list begins after these
+abbrev pub begins_item : TokenKind → Bool
+begins_item (t.Terminal m.Select) = true
+begins_item (t.Terminal m.Distinct) = true
+begins_item (t.Terminal m.Comma) = true
+begins_item (t.Terminal m.By) = true
+begins_item _ = false
+
 -- a text stands somewhere among them
 unfoldable pub holds_text : List Token → Bool
 holds_text [] = false
@@ -62,8 +89,22 @@ is_between_factors (t.Terminal m.Slash) = true
 is_between_factors (t.Terminal m.Percent) = true
 is_between_factors _ = false
 
--- A sign, what stands between factors, either of these, a comma or AS that no bracket encloses ends a part; but a sign right after what
--- stands between factors is that of a factor.
+-- an argument, a value of CASE or what stands in brackets ends before these
+abbrev pub closes_value : TokenKind → Bool
+closes_value (t.Terminal m.RightBracket) = true
+closes_value (t.Terminal m.Comma) = true
+closes_value (t.Terminal m.End) = true
+closes_value kind = is_branch kind
+
+-- a key and the frame after it end before these
+abbrev pub closes_key : TokenKind → Bool
+closes_key (t.Terminal m.RightBracket) = true
+closes_key (t.Terminal m.Comma) = true
+closes_key (t.Terminal m.By) = true
+closes_key _ = false
+
+-- What ends a part, where no bracket encloses it: a sign, but a sign right after what stands between factors is that of a factor; what
+-- stands between factors; either of these, and what closes a value; a comma; AS; THEN; what begins a branch of CASE; what closes a key.
 abbrev pub stops : Stop → Bool → TokenKind → Bool
 stops Sign is_factor kind = is_sign kind && not is_factor
 stops Factor is_factor kind = is_between_factors kind
@@ -71,6 +112,10 @@ stops Operator is_factor kind = is_between_factors kind || (is_sign kind && not 
 stops Comma is_factor (t.Terminal m.Comma) = true
 stops Comma is_factor _ = false
 stops As is_factor kind = is_as kind
+stops Then is_factor kind = is_then kind
+stops Branch is_factor kind = is_branch kind
+stops Link is_factor kind = is_between_factors kind || (is_sign kind && not is_factor) || closes_value kind
+stops Frame is_factor kind = closes_key kind
 
 -- how many brackets are open after a token
 abbrev pub depth_after : ℕ → TokenKind → ℕ

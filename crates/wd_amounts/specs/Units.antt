@@ -1,12 +1,13 @@
 -- What a number counts.
-use Rattle.std.specs.Prelude.{ℕ, ◌==◌, ◌&&◌, nat_le, nat_lt, Bool, true, false, if◌then◌else◌, Option, Some, None}
+use Rattle.std.specs.Prelude.{ℕ, ◌==◌, ◌&&◌, ◌||◌, nat_le, nat_lt, Bool, true, false, if◌then◌else◌, Option, Some, None}
 use Rattle.wd_lex.specs.declared.token.Terminal.TheVariants as m
 use Rattle.wd_lex.specs.declared.token.TokenKind.{TokenKind}
 use Rattle.wd_lex.specs.declared.token.TokenKind.TheVariants as t
 use Rattle.wd_dialect_read.specs.declared.kind.ColumnKind.{ColumnKind}
 use Rattle.wd_dialect_read.specs.declared.kind.ColumnKind.TheVariants as kind
 use Rattle.wd_amounts.specs.declared.unit.Unit.{Unit as Counts}
-use Rattle.wd_amounts.specs.declared.unit.Unit.TheVariants.{Days, Microseconds, Span, Plain, Number, Decimal}
+use Rattle.wd_amounts.specs.declared.unit.Unit.TheVariants.{Days, Microseconds, Span, Plain, Number, Decimal, Unclear}
+use Rattle.wd_amounts.specs.Tokens.{◌>>=◌, or_else}
 
 abbrev pub is_same : Counts → Counts → Bool
 is_same Days Days = true
@@ -36,6 +37,20 @@ abbrev pub is_number : Counts → Bool
 is_number (Number places) = true
 is_number _ = false
 
+abbrev pub is_unclear : Counts → Bool
+is_unclear Unclear = true
+is_unclear _ = false
+
+-- units of the last place of a decimal, be it clear of which or not
+abbrev pub is_decimal : Counts → Bool
+is_decimal (Decimal scale) = true
+is_decimal Unclear = true
+is_decimal _ = false
+
+abbrev pub counts_decimal : Option Counts → Bool
+counts_decimal None = false
+counts_decimal (Some unit) = is_decimal unit
+
 -- what is written as a whole number alone can say so many of these
 abbrev pub takes_numbers : Counts → Bool
 takes_numbers Plain = true
@@ -58,9 +73,18 @@ goes_with first _ = false
 -- what two count that are compared, or added where neither is a moment: a number that is written counts what the other does
 abbrev pub shared : Counts → Counts → Option Counts
 shared first second =
-    if is_same first second then Some first
+    if is_unclear first || is_unclear second then Some Unclear
+    else (if is_same first second then Some first
     else (if goes_with first second then Some first
-    else (if goes_with second first then Some second else None))
+    else (if goes_with second first then Some second else None)))
+
+abbrev pub unclear_if : Bool → Option Counts
+unclear_if true = Some Unclear
+unclear_if false = None
+
+-- what counts the one or the other: what they share, and where they share nothing and one of them is a decimal, it isn't clear what
+abbrev pub either : Option Counts → Option Counts → Option Counts
+either first second = or_else (first >>= λ one. second >>= λ other. shared one other) (unclear_if (counts_decimal first || counts_decimal second))
 
 -- a whole number that is written, and whatever counts no unit of its own, say how many of something there are
 abbrev pub counts_ones : Counts → Bool
@@ -93,23 +117,47 @@ difference_unit first second = shared first second
 -- so many of what the other factor counts
 abbrev pub product_unit : Counts → Counts → Option Counts
 product_unit first second =
-    if counts_ones second && takes_numbers first then Some first
-    else (if counts_ones first && takes_numbers second then Some second else None)
+    if is_unclear first || is_unclear second then Some Unclear
+    else (if counts_ones first && counts_ones second then Some Plain
+    else (if counts_ones second && takes_numbers first then Some first
+    else (if counts_ones first && takes_numbers second then Some second else None)))
 
--- what two operands come to with an operator between them; of a quotient that is not known
+-- a quotient of whole numbers, or its remainder
+abbrev pub quotient_unit : Counts → Counts → Option Counts
+quotient_unit first second = if counts_ones first && counts_ones second then Some Plain else None
+
+-- what two operands come to with an operator between them
 abbrev pub joined : TokenKind → Option Counts → Option Counts → Option Counts
 joined (t.Terminal m.Plus) (Some first) (Some second) = sum_unit first second
 joined (t.Terminal m.Minus) (Some first) (Some second) = difference_unit first second
 joined (t.Terminal m.Star) (Some first) (Some second) = product_unit first second
+joined (t.Terminal m.Slash) (Some first) (Some second) = quotient_unit first second
+joined (t.Terminal m.Percent) (Some first) (Some second) = quotient_unit first second
 joined _ _ _ = None
 
--- a decimal, and nothing else
-abbrev pub decimal_alone : Option Counts → Option Counts
-decimal_alone (Some (Decimal scale)) = Some (Decimal scale)
-decimal_alone _ = None
+-- the values of a CASE so far, and what follows WHEN, THEN or ELSE: a condition, or a further value
+abbrev pub branched : TokenKind → Option Counts → Option Counts → Option Counts
+branched (t.Terminal m.When) so_far condition = so_far
+branched _ so_far value = either so_far value
 
--- what a call of one of several values counts, where its default is 0 or not given, or else may be one that counts otherwise
-abbrev pub with_default : Bool → Option Counts → Option Counts
-with_default false (Some (Decimal scale)) = None
-with_default false (Some (Number places)) = None
-with_default _ unit = unit
+-- the values of an operand: a number that is written counts ones, where it is whole
+abbrev pub as_value : Option Counts → Option Counts
+as_value (Some (Number places)) = if places == 0 then Some Plain else None
+as_value unit = unit
+
+-- ones, or units of a decimal
+abbrev pub number_alone : Option Counts → Option Counts
+number_alone (Some Plain) = Some Plain
+number_alone (Some (Decimal scale)) = Some (Decimal scale)
+number_alone (Some Unclear) = Some Unclear
+number_alone _ = None
+
+abbrev pub is_moment : Option Counts → Bool
+is_moment (Some Days) = true
+is_moment (Some Microseconds) = true
+is_moment (Some Span) = true
+is_moment _ = false
+
+-- a value, or a default in its place, which is a moment where the value is one
+abbrev pub with_default : Option Counts → Option Counts → Option Counts
+with_default value default = if is_moment value then value else either value default

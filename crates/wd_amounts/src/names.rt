@@ -1,36 +1,20 @@
-//! What the names of a query count. A name is looked for among all uses of names, one after the other.
+//! The names of a schema's columns, and those that a query gives.
 
 ghost use Rattle.std.specs.Prelude.{◌≡◌, ◌++◌, map, false, IfOk};
 ghost use Rattle.wd_amounts.specs.Names as spec;
 ghost use Rattle.wd_amounts.specs.Given.{Finds};
-ghost use Rattle.wd_amounts.specs.Names.{column_uses, given, given_uses, items_uses, lists_names};
+ghost use Rattle.wd_amounts.specs.Names.{column_uses, items_uses, lists_names, text_if};
 ghost use Rattle.wd_amounts.specs.Seen.{use_seen};
 
+use crate::scan::NameUse;
 use crate::token::{
     begins_bracket, is_as, is_constant, is_filter, is_name, is_right_bracket, is_test_word,
 };
-use crate::unit::{Unit, is_same, unit_of_kind};
+use crate::unit::unit_of_kind;
 use std::alloc::Global;
-use wd_dialect_read::{Item, SaidTable, Statement};
+use wd_dialect_read::{Item, Statement};
 use wd_lex::{Terminal, Token, TokenKind};
 use wd_value::OutOfMemory;
-
-/// What the uses of a name count.
-#[derive(Clone, Copy)]
-pub enum Agreed {
-    Unused,
-    /// All of them this, where it is known.
-    On(Option<Unit>),
-    /// Not one thing.
-    Not,
-}
-
-/// A use of a name, and what it counts there, where that is known.
-#[derive(Clone, Copy)]
-pub struct NameUse<'t> {
-    pub name: &'t str,
-    pub unit: Option<Unit>,
-}
 
 /// Adds the columns of a table.
 #[tactic(auto, unfolding(crate::specs::Names::items_uses))]
@@ -68,8 +52,20 @@ fn push_all_columns<'t>(
     Ok(())
 }
 
+/// The columns of all tables, as uses of their names.
+pub(crate) fn columns(
+    alloc: Global,
+    statements: &[Statement],
+) -> Result<Vec<NameUse<'_>>, OutOfMemory>
+    ensures { IfOk result (λ found. map use_seen found.items ≡ column_uses statements.now) }
+{
+    let mut found = Vec::new(alloc);
+    push_all_columns(&mut found, statements)?;
+    Ok(found)
+}
+
 /// Whether a name right after a token is an alias.
-fn ends_operand(kind: &TokenKind) -> bool
+pub(crate) fn ends_operand(kind: &TokenKind) -> bool
     ensures { result ≡ spec.ends_operand kind.now }
 {
     match kind {
@@ -79,7 +75,7 @@ fn ends_operand(kind: &TokenKind) -> bool
 }
 
 /// The text of a name.
-fn name_text(kind: &TokenKind) -> Option<&str>
+pub(crate) fn name_text(kind: &TokenKind) -> Option<&str>
     ensures { Finds (λ text. text.now) result (spec.name_text kind.now) }
 {
     match kind {
@@ -95,41 +91,33 @@ fn name_text(kind: &TokenKind) -> Option<&str>
 
 /// Adds a name that a query gives.
 fn push_given<'t>(
-    uses: &mut Vec<NameUse<'t>>,
+    names: &mut Vec<&'t str>,
     is_given: bool,
     kind: &'t TokenKind,
 ) -> Result<(), OutOfMemory>
-    ensures { IfOk result (λ _. map use_seen uses.new.items ≡ map use_seen uses.old.items ++ given is_given kind.now) }
+    ensures { IfOk result (λ _. map (λ n. n.now) names.new.items ≡ map (λ n. n.now) names.old.items ++ text_if is_given kind.now) }
 {
     if is_given {
         if let Some(name) = name_text(kind) {
-            uses.push(NameUse { name, unit: None })?;
+            names.push(name)?;
         }
     }
     Ok(())
 }
 
-/// Adds the names that a query gives.
-#[tactic(auto, unfolding(crate::specs::Names::given_uses))]
-fn push_all_given<'t>(uses: &mut Vec<NameUse<'t>>, tokens: &'t [Token]) -> Result<(), OutOfMemory>
-    ensures { IfOk result (λ _. map use_seen uses.new.items ≡ map use_seen uses.old.items ++ given_uses false tokens.now) }
+/// The names that a query gives: aliases, and names of calls, which are names of their results.
+#[tactic(auto, unfolding(crate::specs::Names::given_names))]
+pub fn given_names(alloc: Global, tokens: &[Token]) -> Result<Vec<&str>, OutOfMemory>
+    ensures { IfOk result (λ found. map (λ n. n.now) found.items ≡ spec.given_names false tokens.now) }
 {
+    let mut found = Vec::new(alloc);
     let mut is_alias = false;
     let mut rest = tokens;
     while let [first, after @ ..] = rest {
-        push_given(uses, is_alias || begins_bracket(after), &first.kind)?;
+        push_given(&mut found, is_alias || begins_bracket(after), &first.kind)?;
         is_alias = ends_operand(&first.kind);
         rest = after;
     }
-    Ok(())
-}
-
-/// The names that a query gives, as their uses.
-pub fn given_names(alloc: Global, tokens: &[Token]) -> Result<Vec<NameUse<'_>>, OutOfMemory>
-    ensures { IfOk result (λ found. map use_seen found.items ≡ given_uses false tokens.now) }
-{
-    let mut found = Vec::new(alloc);
-    push_all_given(&mut found, tokens)?;
     Ok(found)
 }
 
@@ -167,80 +155,4 @@ pub fn has_lists(tokens: &[Token]) -> bool
         rest = after;
     }
     false
-}
-
-/// The uses of names in a query over the tables of a schema.
-#[tactic(auto, unfolding(crate::specs::Names::uses))]
-pub fn uses<'t>(
-    alloc: Global,
-    statements: &'t [Statement],
-    tokens: &'t [Token],
-) -> Result<Vec<NameUse<'t>>, OutOfMemory>
-    ensures { IfOk result (λ found. map use_seen found.items ≡ spec.uses statements.now tokens.now) }
-{
-    let mut found = Vec::new(alloc);
-    if !has_lists(tokens) {
-        push_all_columns(&mut found, statements)?;
-        push_all_given(&mut found, tokens)?;
-    }
-    Ok(found)
-}
-
-/// Whether two uses are known to count alike.
-fn is_also(first: Option<Unit>, second: Option<Unit>) -> bool
-    ensures { result ≡ spec.is_also first second }
-{
-    match (first, second) {
-        (Some(first), Some(second)) => is_same(first, second),
-        _ => false,
-    }
-}
-
-/// What the uses of a name count that are known so far, and one more.
-fn with_use(so_far: Agreed, unit: Option<Unit>) -> Agreed
-    ensures { result ≡ spec.with_use so_far unit }
-{
-    match so_far {
-        Agreed::Unused => Agreed::On(unit),
-        Agreed::On(first) => if is_also(first, unit) {
-            so_far
-        } else {
-            Agreed::Not
-        },
-        Agreed::Not => Agreed::Not,
-    }
-}
-
-/// What they count with one more use, which may be of another name.
-fn with_next(so_far: Agreed, next: &NameUse, name: &str) -> Agreed
-    ensures { result ≡ spec.with_next so_far (use_seen next.now) name.now }
-{
-    if next.name == name {
-        with_use(so_far, next.unit)
-    } else {
-        so_far
-    }
-}
-
-fn agreed_unit(agreed: Agreed) -> Option<Unit>
-    ensures { result ≡ spec.agreed_unit agreed }
-{
-    match agreed {
-        Agreed::On(unit) => unit,
-        Agreed::Unused | Agreed::Not => None,
-    }
-}
-
-/// What a name counts, where all its uses are known and count that.
-#[tactic(auto, unfolding(crate::specs::Names::unit_named, crate::specs::Names::agreed_from))]
-pub fn unit_named(known: &[NameUse], name: &str) -> Option<Unit>
-    ensures { result ≡ spec.unit_named (map use_seen known.now) name.now }
-{
-    let mut agreed = Agreed::Unused;
-    let mut rest = known;
-    while let [first, after @ ..] = rest {
-        agreed = with_next(agreed, first, name);
-        rest = after;
-    }
-    agreed_unit(agreed)
 }

@@ -66,7 +66,7 @@ fn whole_length(text: &[u8]) -> usize
 }
 
 /// The bytes without the first.
-fn behind_point(text: &[u8]) -> &[u8]
+fn past_point(text: &[u8]) -> &[u8]
     ensures { result.now ≡ drop 1 text.now }
 {
     let (_, rest) = text.split_at(text.len().min(1));
@@ -79,7 +79,7 @@ fn numeral_of(text: &[u8]) -> Option<Numeral>
     ensures { result ≡ spec.numeral_of text.now }
 {
     let (whole, rest) = text.split_at(whole_length(text));
-    digits_around(whole, behind_point(rest))
+    digits_around(whole, past_point(rest))
 }
 
 /// What a text says after a word.

@@ -1,16 +1,18 @@
 //! What an operand counts.
 
-ghost use Rattle.std.specs.Prelude.{◌≡◌, ◌≤◌, map};
-ghost use Rattle.wd_amounts.specs.Seen.{use_seen};
+ghost use Rattle.std.specs.Prelude.{◌≡◌, ◌≤◌};
+ghost use Rattle.wd_amounts.specs.Seen.{known_seen};
 ghost use Rattle.wd_amounts.specs.Terms as spec;
-ghost use Rattle.wd_amounts.specs.Terms.{unit_within};
+ghost use Rattle.wd_amounts.specs.Terms.{chain_of, unit_within};
+ghost use Rattle.wd_amounts.specs.Units as units;
+ghost use Rattle.wd_amounts.specs.declared.token.Stop.TheVariants.{Branch};
 
-use crate::names::NameUse;
+use crate::known::KnownNames;
 use crate::term::{
-    column_unit, defaults_to_zero, inner_operand, plain_unit, summed_argument, unsigned,
+    cased, column_unit, default_of, inner_operand, plain_unit, summed_argument, unsigned,
 };
 use crate::token::{Stop, part_length};
-use crate::unit::{Unit, decimal_alone, joined, with_default};
+use crate::unit::{Unit, as_value, branched, joined, number_alone, with_default};
 use wd_lex::Token;
 
 /// How many brackets are followed, and the operand itself.
@@ -19,11 +21,14 @@ const MOST_DEEP: usize = 65;
 /// What is no sum.
 #[tactic(auto, unfolding(crate::specs::Terms::term_unit))]
 #[cycle(unit_within)]
-fn term_unit(known: &[NameUse], depth: usize, tokens: &[Token]) -> Option<Unit>
-    ensures { result ≡ spec.term_unit (unit_within (map use_seen known.now) depth) (map use_seen known.now) tokens.now }
+fn term_unit(known: &KnownNames, depth: usize, tokens: &[Token]) -> Option<Unit>
+    ensures { result ≡ spec.term_unit (unit_within (known_seen known.now) depth) (known_seen known.now) tokens.now }
 {
     match inner_operand(tokens) {
-        Some(inside) => with_default(defaults_to_zero(tokens), unit_within(known, depth, inside)),
+        Some(inside) => with_default(
+            unit_within(known, depth, inside),
+            unit_within(known, depth, default_of(tokens)),
+        ),
         None => match plain_unit(known, tokens) {
             Some(unit) => Some(unit),
             None => scaled_unit(known, depth, tokens),
@@ -31,25 +36,68 @@ fn term_unit(known: &[NameUse], depth: usize, tokens: &[Token]) -> Option<Unit>
     }
 }
 
-/// What a sum of decimals or a product counts.
+/// What a CASE, a sum of numbers or a product counts.
 #[tactic(auto, unfolding(crate::specs::Terms::scaled_unit))]
 #[cycle(unit_within)]
-fn scaled_unit(known: &[NameUse], depth: usize, tokens: &[Token]) -> Option<Unit>
-    ensures { result ≡ spec.scaled_unit (unit_within (map use_seen known.now) depth) (map use_seen known.now) tokens.now }
+fn scaled_unit(known: &KnownNames, depth: usize, tokens: &[Token]) -> Option<Unit>
+    ensures { result ≡ spec.scaled_unit (unit_within (known_seen known.now) depth) (known_seen known.now) tokens.now }
 {
-    if let Some(argument) = summed_argument(tokens) {
-        if let Some(unit) = decimal_alone(unit_within(known, depth, argument)) {
-            return Some(unit);
-        }
+    match case_unit(known, depth, tokens) {
+        Some(unit) => Some(unit),
+        None => match summed_unit(known, depth, tokens) {
+            Some(unit) => Some(unit),
+            None => multiple_unit(known, depth, tokens),
+        },
     }
-    multiple_unit(known, depth, tokens)
 }
 
-/// What a factor counts: a name or a number, or else a decimal.
+/// What a sum of numbers counts.
+#[cycle(unit_within)]
+fn summed_unit(known: &KnownNames, depth: usize, tokens: &[Token]) -> Option<Unit>
+    ensures { result ≡ spec.summed_unit (unit_within (known_seen known.now) depth) tokens.now }
+{
+    match summed_argument(tokens) {
+        Some(argument) => number_alone(as_value(unit_within(known, depth, argument))),
+        None => None,
+    }
+}
+
+/// What the values of a CASE count.
+#[tactic(auto, unfolding(crate::specs::Terms::case_unit))]
+#[cycle(unit_within)]
+fn case_unit(known: &KnownNames, depth: usize, tokens: &[Token]) -> Option<Unit>
+    ensures { result ≡ spec.case_unit (unit_within (known_seen known.now) depth) tokens.now }
+{
+    match cased(tokens) {
+        Some(inside) => branches_unit(known, depth, inside),
+        None => None,
+    }
+}
+
+/// What the values of a CASE count, of which this stands before its END.
+#[cycle(unit_within)]
+fn branches_unit(known: &KnownNames, depth: usize, inside: &[Token]) -> Option<Unit>
+    ensures { result ≡ chain_of Branch units.branched (unit_within (known_seen known.now) depth) inside.now }
+{
+    let (first, others) = inside.split_at(part_length(Stop::Branch, inside));
+    let mut unit = unit_within(known, depth, first);
+    let mut rest = others;
+    for _ in 0..inside.len() {
+        let [word, following @ ..] = rest else {
+            return unit;
+        };
+        let (part, others) = following.split_at(part_length(Stop::Branch, following));
+        unit = branched(&word.kind, unit, unit_within(known, depth, part));
+        rest = others;
+    }
+    unit
+}
+
+/// What a factor counts: a name or a number, or else ones or a decimal.
 #[tactic(auto, unfolding(crate::specs::Terms::factor_unit))]
 #[cycle(unit_within)]
-fn factor_unit(known: &[NameUse], depth: usize, tokens: &[Token]) -> Option<Unit>
-    ensures { result ≡ spec.factor_unit (unit_within (map use_seen known.now) depth) (map use_seen known.now) tokens.now }
+fn factor_unit(known: &KnownNames, depth: usize, tokens: &[Token]) -> Option<Unit>
+    ensures { result ≡ spec.factor_unit (unit_within (known_seen known.now) depth) (known_seen known.now) tokens.now }
 {
     let name = unsigned(tokens);
     if name.is_empty() {
@@ -57,15 +105,15 @@ fn factor_unit(known: &[NameUse], depth: usize, tokens: &[Token]) -> Option<Unit
     }
     match column_unit(known, name) {
         Some(unit) => Some(unit),
-        None => decimal_alone(unit_within(known, depth, tokens)),
+        None => number_alone(as_value(unit_within(known, depth, tokens))),
     }
 }
 
 /// What a product of two factors or more counts.
 #[tactic(auto, unfolding(crate::specs::Terms::multiple_unit))]
 #[cycle(unit_within)]
-fn multiple_unit(known: &[NameUse], depth: usize, tokens: &[Token]) -> Option<Unit>
-    ensures { result ≡ spec.multiple_unit (unit_within (map use_seen known.now) depth) (map use_seen known.now) tokens.now }
+fn multiple_unit(known: &KnownNames, depth: usize, tokens: &[Token]) -> Option<Unit>
+    ensures { result ≡ spec.multiple_unit (unit_within (known_seen known.now) depth) (known_seen known.now) tokens.now }
 {
     let (first, others) = tokens.split_at(part_length(Stop::Factor, tokens));
     if others.is_empty() {
@@ -86,8 +134,8 @@ fn multiple_unit(known: &[NameUse], depth: usize, tokens: &[Token]) -> Option<Un
 
 /// What an operand counts, looked for in so many brackets.
 #[cycle(unit_within)]
-fn unit_within(known: &[NameUse], depth: usize, tokens: &[Token]) -> Option<Unit>
-    ensures { result ≡ unit_within (map use_seen known.now) depth tokens.now }
+fn unit_within(known: &KnownNames, depth: usize, tokens: &[Token]) -> Option<Unit>
+    ensures { result ≡ unit_within (known_seen known.now) depth tokens.now }
 {
     if depth == 0 {
         return None;
@@ -107,8 +155,8 @@ fn unit_within(known: &[NameUse], depth: usize, tokens: &[Token]) -> Option<Unit
 }
 
 /// What an operand counts.
-pub fn unit_of(known: &[NameUse], tokens: &[Token]) -> Option<Unit>
-    ensures { result ≡ spec.unit_of (map use_seen known.now) tokens.now }
+pub fn unit_of(known: &KnownNames, tokens: &[Token]) -> Option<Unit>
+    ensures { result ≡ spec.unit_of (known_seen known.now) tokens.now }
 {
     unit_within(known, MOST_DEEP, tokens)
 }

@@ -1,32 +1,34 @@
 //! Calls and what stands in brackets, and what is left of an operand without them.
 
-ghost use Rattle.std.specs.Prelude.{◌≡◌, drop, map};
+ghost use Rattle.std.specs.Prelude.{◌≡◌, drop};
 ghost use Rattle.wd_amounts.specs.Given.{Finds};
-ghost use Rattle.wd_amounts.specs.Seen.{use_seen};
+ghost use Rattle.wd_amounts.specs.Seen.{known_seen};
 ghost use Rattle.wd_amounts.specs.Terms as spec;
 
 use crate::amount::{Amount, amount_at};
-use crate::names::{NameUse, unit_named};
+use crate::known::KnownNames;
 use crate::numeral::{Numeral, numeral_at};
-use crate::token::{Stop, brackets_at, holds_text, is_dot, is_name, is_over, is_sign, part_length};
+use crate::token::{
+    Stop, brackets_at, holds_text, is_case, is_dot, is_end, is_name, is_over, is_sign, part_length,
+};
 use crate::unit::Unit;
 use wd_lex::{Terminal, Token, TokenKind};
 use wd_operands::nest_length;
 
-fn token_unit(known: &[NameUse], kind: &TokenKind) -> Option<Unit>
-    ensures { result ≡ spec.token_unit (map use_seen known.now) kind.now }
+fn token_unit(known: &KnownNames, kind: &TokenKind) -> Option<Unit>
+    ensures { result ≡ spec.token_unit (known_seen known.now) kind.now }
 {
     match kind {
-        TokenKind::Word(name) | TokenKind::Quoted(name) => unit_named(known, name.as_str()),
-        TokenKind::Number(_) => Some(Unit::Number(0)),
+        TokenKind::Word(name) | TokenKind::Quoted(name) => known.unit_named(name.as_str()),
+        TokenKind::Number(_) | TokenKind::Terminal(Terminal::Null) => Some(Unit::Number(0)),
         _ => None,
     }
 }
 
 /// A name, of a table or not, or a number. Nothing, before a sign, is as 0.
 #[tactic(auto, unfolding(crate::specs::Terms::column_unit))]
-pub fn column_unit(known: &[NameUse], tokens: &[Token]) -> Option<Unit>
-    ensures { result ≡ spec.column_unit (map use_seen known.now) tokens.now }
+pub fn column_unit(known: &KnownNames, tokens: &[Token]) -> Option<Unit>
+    ensures { result ≡ spec.column_unit (known_seen known.now) tokens.now }
 {
     match tokens {
         [] => Some(Unit::Number(0)),
@@ -122,14 +124,14 @@ fn is_window(tokens: &[Token]) -> bool
     }
 }
 
-/// Whether it is nothing, or OVER and a window in which no text stands.
+/// Whether it is nothing, or OVER and a window.
 #[tactic(auto, unfolding(crate::specs::Terms::ends_call))]
 fn ends_call(tokens: &[Token]) -> bool
     ensures { result ≡ spec.ends_call tokens.now }
 {
     match tokens {
         [] => true,
-        [first, rest @ ..] => is_over(&first.kind) && is_window(rest) && !holds_text(rest),
+        [first, rest @ ..] => is_over(&first.kind) && is_window(rest),
     }
 }
 
@@ -187,7 +189,7 @@ fn count_unit(tokens: &[Token]) -> Option<Unit>
 
 /// The argument of which a call gives one of the values.
 #[tactic(auto, unfolding(crate::specs::Terms::picked_argument))]
-fn picked_argument(tokens: &[Token]) -> Option<&[Token]>
+pub fn picked_argument(tokens: &[Token]) -> Option<&[Token]>
     ensures { Finds (λ r. r.now) result (spec.picked_argument tokens.now) }
 {
     match tokens {
@@ -224,57 +226,31 @@ pub fn summed_argument(tokens: &[Token]) -> Option<&[Token]>
     }
 }
 
-fn is_zero(kind: &TokenKind) -> bool
-    ensures { result ≡ spec.is_zero kind.now }
+/// The tokens after the first comma.
+#[tactic(auto, unfolding(crate::specs::Terms::past_comma))]
+fn past_comma(tokens: &[Token]) -> &[Token]
+    ensures { result.now ≡ spec.past_comma tokens.now }
 {
-    match kind {
-        TokenKind::Number(number) => *number == 0,
-        _ => false,
-    }
+    let (_, rest) = tokens.split_at(part_length(Stop::Comma, tokens));
+    let (_, others) = rest.split_at(rest.len().min(1));
+    others
 }
 
-/// Whether it is nothing, or a comma and 0.
-#[tactic(auto, unfolding(crate::specs::Terms::ends_with_zero))]
-fn ends_with_zero(tokens: &[Token]) -> bool
-    ensures { result ≡ spec.ends_with_zero tokens.now }
-{
-    match tokens {
-        [] => true,
-        [_, only] => is_zero(&only.kind),
-        _ => false,
-    }
-}
-
-/// The tokens without the first.
-fn behind_first(tokens: &[Token]) -> &[Token]
-    ensures { result.now ≡ drop 1 tokens.now }
-{
-    let (_, rest) = tokens.split_at(tokens.len().min(1));
-    rest
-}
-
-/// Whether there are at most two arguments, or a third that is 0.
-#[tactic(auto, unfolding(crate::specs::Terms::is_default_zero))]
-fn is_default_zero(arguments: &[Token]) -> bool
-    ensures { result ≡ spec.is_default_zero arguments.now }
-{
-    let (_, following) = arguments.split_at(part_length(Stop::Comma, arguments));
-    let others = behind_first(following);
-    let (_, last) = others.split_at(part_length(Stop::Comma, others));
-    ends_with_zero(last)
-}
-
-/// Whether a call has no default but 0.
-#[tactic(auto, unfolding(crate::specs::Terms::defaults_to_zero))]
-pub fn defaults_to_zero(tokens: &[Token]) -> bool
-    ensures { result ≡ spec.defaults_to_zero tokens.now }
+/// The third argument of a call, and nothing where it has none.
+#[tactic(auto, unfolding(crate::specs::Terms::default_of))]
+pub fn default_of(tokens: &[Token]) -> &[Token]
+    ensures { result.now ≡ spec.default_of tokens.now }
 {
     let [_, rest @ ..] = tokens else {
-        return true;
+        return &[];
     };
     match arguments_of(rest) {
-        Some(arguments) => is_default_zero(arguments),
-        None => true,
+        Some(arguments) => {
+            let others = past_comma(past_comma(arguments));
+            let (third, _) = others.split_at(part_length(Stop::Comma, others));
+            third
+        }
+        None => &[],
     }
 }
 
@@ -308,18 +284,6 @@ fn is_day(kind: &TokenKind) -> bool
         TokenKind::Number(number) => *number == 86_400_000_000,
         _ => false,
     }
-}
-
-fn is_case(kind: &TokenKind) -> bool
-    ensures { result ≡ spec.is_case kind.now }
-{
-    matches!(kind, TokenKind::Terminal(Terminal::Case))
-}
-
-fn is_end(kind: &TokenKind) -> bool
-    ensures { result ≡ spec.is_end kind.now }
-{
-    matches!(kind, TokenKind::Terminal(Terminal::End))
 }
 
 fn is_slash(kind: &TokenKind) -> bool
@@ -381,10 +345,23 @@ fn cast_unit(tokens: &[Token]) -> Option<Unit>
     by_end(begins_case(tokens), ended_unit(last))
 }
 
+/// What stands between CASE and its END, where nothing stands after them.
+#[tactic(auto, unfolding(crate::specs::Terms::cased))]
+pub fn cased(tokens: &[Token]) -> Option<&[Token]>
+    ensures { Finds (λ r. r.now) result (spec.cased tokens.now) }
+{
+    if !begins_case(tokens) || nest_length(tokens) != tokens.len() || tokens.len() < 2 {
+        return None;
+    }
+    let (_, rest) = tokens.split_at(1);
+    let (inside, _) = rest.split_at(tokens.len() - 2);
+    Some(inside)
+}
+
 /// What a name, a number, a literal, a call or a cast counts that has no smaller operand.
 #[tactic(auto, unfolding(crate::specs::Terms::plain_unit))]
-pub fn plain_unit(known: &[NameUse], tokens: &[Token]) -> Option<Unit>
-    ensures { result ≡ spec.plain_unit (map use_seen known.now) tokens.now }
+pub fn plain_unit(known: &KnownNames, tokens: &[Token]) -> Option<Unit>
+    ensures { result ≡ spec.plain_unit (known_seen known.now) tokens.now }
 {
     if let Some(unit) = column_unit(known, tokens) {
         return Some(unit);

@@ -21,6 +21,14 @@ pub enum Stop {
     Comma,
     /// AS
     As,
+    /// THEN
+    Then,
+    /// WHEN, THEN or ELSE
+    Branch,
+    /// an operator, or what closes a value: a comma, a bracket, a branch of CASE or its END
+    Link,
+    /// what closes a key and the frame after it: a comma, a bracket or BY
+    Frame,
 }
 
 /// Whether a word begins what stands between an operand and the next, so that it is no name.
@@ -77,6 +85,28 @@ pub fn is_dot(kind: &TokenKind) -> bool
     ensures { result ≡ spec.is_dot kind.now }
 {
     matches!(kind, TokenKind::Terminal(Terminal::Dot))
+}
+
+pub fn is_case(kind: &TokenKind) -> bool
+    ensures { result ≡ spec.is_case kind.now }
+{
+    matches!(kind, TokenKind::Terminal(Terminal::Case))
+}
+
+pub fn is_end(kind: &TokenKind) -> bool
+    ensures { result ≡ spec.is_end kind.now }
+{
+    matches!(kind, TokenKind::Terminal(Terminal::End))
+}
+
+/// Whether an item of a list begins after it.
+pub fn begins_item(kind: &TokenKind) -> bool
+    ensures { result ≡ spec.begins_item kind.now }
+{
+    matches!(
+        kind,
+        TokenKind::Terminal(Terminal::Select | Terminal::Distinct | Terminal::Comma | Terminal::By)
+    )
 }
 
 fn is_text(kind: &TokenKind) -> bool
@@ -154,6 +184,26 @@ pub fn is_between_factors(kind: &TokenKind) -> bool
     )
 }
 
+/// Whether it is WHEN, THEN or ELSE.
+pub fn is_branch(kind: &TokenKind) -> bool
+    ensures { result ≡ spec.is_branch kind.now }
+{
+    matches!(
+        kind,
+        TokenKind::Terminal(Terminal::When | Terminal::Then | Terminal::Else)
+    )
+}
+
+/// Whether an argument, a value of CASE or what stands in brackets ends before it.
+fn closes_value(kind: &TokenKind) -> bool
+    ensures { result ≡ spec.closes_value kind.now }
+{
+    match kind {
+        TokenKind::Terminal(Terminal::RightBracket | Terminal::Comma | Terminal::End) => true,
+        _ => is_branch(kind),
+    }
+}
+
 /// Whether a token ends a part, where no bracket is open, and a factor begins or not.
 fn stops(stop: Stop, is_factor: bool, kind: &TokenKind) -> bool
     ensures { result ≡ spec.stops stop is_factor kind.now }
@@ -164,6 +214,15 @@ fn stops(stop: Stop, is_factor: bool, kind: &TokenKind) -> bool
         Stop::Operator => is_between_factors(kind) || is_sign(kind) && !is_factor,
         Stop::Comma => matches!(kind, TokenKind::Terminal(Terminal::Comma)),
         Stop::As => is_as(kind),
+        Stop::Then => matches!(kind, TokenKind::Terminal(Terminal::Then)),
+        Stop::Branch => is_branch(kind),
+        Stop::Link => {
+            is_between_factors(kind) || is_sign(kind) && !is_factor || closes_value(kind)
+        }
+        Stop::Frame => matches!(
+            kind,
+            TokenKind::Terminal(Terminal::RightBracket | Terminal::Comma | Terminal::By)
+        ),
     }
 }
 

@@ -21,6 +21,8 @@ pub enum Unit {
     Number(u64),
     /// Units of the last of so many places after the point.
     Decimal(u64),
+    /// Decimals, of which it isn't clear what they count: of several scales, or of one and whole numbers.
+    Unclear,
 }
 
 pub fn is_same(first: Unit, second: Unit) -> bool
@@ -70,6 +72,28 @@ pub fn is_number(unit: Unit) -> bool
     matches!(unit, Unit::Number(_))
 }
 
+pub fn is_unclear(unit: Unit) -> bool
+    ensures { result ≡ spec.is_unclear unit }
+{
+    matches!(unit, Unit::Unclear)
+}
+
+/// Whether it counts units of the last place of a decimal, be it clear of which or not.
+fn is_decimal(unit: Unit) -> bool
+    ensures { result ≡ spec.is_decimal unit }
+{
+    matches!(unit, Unit::Decimal(_) | Unit::Unclear)
+}
+
+pub fn counts_decimal(unit: Option<Unit>) -> bool
+    ensures { result ≡ spec.counts_decimal unit }
+{
+    match unit {
+        Some(unit) => is_decimal(unit),
+        None => false,
+    }
+}
+
 /// Whether what is written as a whole number alone can say so many of these.
 fn takes_numbers(unit: Unit) -> bool
     ensures { result ≡ spec.takes_numbers unit }
@@ -103,7 +127,9 @@ fn goes_with(first: Unit, second: Unit) -> bool
 pub fn shared(first: Unit, second: Unit) -> Option<Unit>
     ensures { result ≡ spec.shared first second }
 {
-    if is_same(first, second) {
+    if is_unclear(first) || is_unclear(second) {
+        Some(Unit::Unclear)
+    } else if is_same(first, second) {
         Some(first)
     } else if goes_with(first, second) {
         Some(first)
@@ -111,6 +137,24 @@ pub fn shared(first: Unit, second: Unit) -> Option<Unit>
         Some(second)
     } else {
         None
+    }
+}
+
+/// What counts the one or the other.
+pub fn either(first: Option<Unit>, second: Option<Unit>) -> Option<Unit>
+    ensures { result ≡ spec.either first second }
+{
+    let both = match (first, second) {
+        (Some(first), Some(second)) => shared(first, second),
+        _ => None,
+    };
+    match both {
+        Some(unit) => Some(unit),
+        None => if counts_decimal(first) || counts_decimal(second) {
+            Some(Unit::Unclear)
+        } else {
+            None
+        },
     }
 }
 
@@ -166,10 +210,25 @@ fn difference_unit(first: Unit, second: Unit) -> Option<Unit>
 fn product_unit(first: Unit, second: Unit) -> Option<Unit>
     ensures { result ≡ spec.product_unit first second }
 {
-    if counts_ones(second) && takes_numbers(first) {
+    if is_unclear(first) || is_unclear(second) {
+        Some(Unit::Unclear)
+    } else if counts_ones(first) && counts_ones(second) {
+        Some(Unit::Plain)
+    } else if counts_ones(second) && takes_numbers(first) {
         Some(first)
     } else if counts_ones(first) && takes_numbers(second) {
         Some(second)
+    } else {
+        None
+    }
+}
+
+/// A quotient of whole numbers, or its remainder.
+fn quotient_unit(first: Unit, second: Unit) -> Option<Unit>
+    ensures { result ≡ spec.quotient_unit first second }
+{
+    if counts_ones(first) && counts_ones(second) {
+        Some(Unit::Plain)
     } else {
         None
     }
@@ -179,34 +238,61 @@ fn product_unit(first: Unit, second: Unit) -> Option<Unit>
 pub fn joined(sign: &TokenKind, first: Option<Unit>, second: Option<Unit>) -> Option<Unit>
     ensures { result ≡ spec.joined sign.now first second }
 {
-    match (sign, first, second) {
-        (TokenKind::Terminal(Terminal::Plus), Some(first), Some(second)) => sum_unit(first, second),
-        (TokenKind::Terminal(Terminal::Minus), Some(first), Some(second)) => {
-            difference_unit(first, second)
-        }
-        (TokenKind::Terminal(Terminal::Star), Some(first), Some(second)) => {
-            product_unit(first, second)
-        }
+    let (Some(first), Some(second)) = (first, second) else {
+        return None;
+    };
+    match sign {
+        TokenKind::Terminal(Terminal::Plus) => sum_unit(first, second),
+        TokenKind::Terminal(Terminal::Minus) => difference_unit(first, second),
+        TokenKind::Terminal(Terminal::Star) => product_unit(first, second),
+        TokenKind::Terminal(Terminal::Slash | Terminal::Percent) => quotient_unit(first, second),
         _ => None,
     }
 }
 
-/// A decimal, and nothing else.
-pub fn decimal_alone(unit: Option<Unit>) -> Option<Unit>
-    ensures { result ≡ spec.decimal_alone unit }
+/// What the values of a CASE count: those so far, and what follows WHEN, THEN or ELSE.
+pub fn branched(word: &TokenKind, so_far: Option<Unit>, next: Option<Unit>) -> Option<Unit>
+    ensures { result ≡ spec.branched word.now so_far next }
+{
+    match word {
+        TokenKind::Terminal(Terminal::When) => so_far,
+        _ => either(so_far, next),
+    }
+}
+
+/// What the values of an operand count: a number that is written counts ones, where it is whole.
+pub fn as_value(unit: Option<Unit>) -> Option<Unit>
+    ensures { result ≡ spec.as_value unit }
 {
     match unit {
-        Some(Unit::Decimal(_)) => unit,
+        Some(Unit::Number(places)) => if places == 0 { Some(Unit::Plain) } else { None },
+        _ => unit,
+    }
+}
+
+/// Ones, or units of a decimal.
+pub fn number_alone(unit: Option<Unit>) -> Option<Unit>
+    ensures { result ≡ spec.number_alone unit }
+{
+    match unit {
+        Some(Unit::Plain | Unit::Decimal(_) | Unit::Unclear) => unit,
         _ => None,
     }
 }
 
-/// What a call of one of several values counts, where its default is 0 or not given, or else may be one that counts otherwise.
-pub fn with_default(is_zero: bool, unit: Option<Unit>) -> Option<Unit>
-    ensures { result ≡ spec.with_default is_zero unit }
+fn is_moment(unit: Option<Unit>) -> bool
+    ensures { result ≡ spec.is_moment unit }
 {
-    match (is_zero, unit) {
-        (false, Some(Unit::Decimal(_) | Unit::Number(_))) => None,
-        _ => unit,
+    matches!(unit, Some(Unit::Days | Unit::Microseconds | Unit::Span))
+}
+
+/// What a value counts, or a default in its place.
+pub fn with_default(value: Option<Unit>, default: Option<Unit>) -> Option<Unit>
+    ensures { result ≡ spec.with_default value default }
+{
+    if is_moment(value) {
+        value
+    } else {
+        either(value, default)
     }
 }

@@ -15,7 +15,7 @@ use Rattle.wd_casts.specs.declared.known.Known.TheVariants.{Nothing, Literal, Nu
 use Rattle.wd_casts.specs.declared.term.Cast.{Cast}
 use Rattle.wd_casts.specs.declared.equation.Form.{Form}
 use Rattle.wd_casts.specs.Equations.{equation}
-use Rattle.wd_casts.specs.Names.{Use, kind_named}
+use Rattle.wd_casts.specs.Names.{Kinds}
 use Rattle.wd_casts.specs.Terms.{Term, term_at}
 
 -- ---- names and constants
@@ -24,18 +24,18 @@ abbrev pub value_of : Option Kind → Known
 value_of None = Nothing
 value_of (Some kind) = Value kind
 
-abbrev pub token_known : List Use → TokenKind → Known
-token_known names (t.Word name) = value_of (kind_named names name)
-token_known names (t.Quoted name) = value_of (kind_named names name)
-token_known names (t.Number number) = Number number
-token_known names (t.Literal text) = Literal
-token_known names _ = Nothing
+abbrev pub token_known : Kinds → TokenKind → Known
+token_known kinds (t.Word name) = value_of (kinds name)
+token_known kinds (t.Quoted name) = value_of (kinds name)
+token_known kinds (t.Number number) = Number number
+token_known kinds (t.Literal text) = Literal
+token_known kinds _ = Nothing
 
 -- a name, of a table or not, a number or a text
-unfoldable pub column_known : List Use → List Token → Known
-column_known names (only ∷ []) = token_known names only.kind
-column_known names (table ∷ dot ∷ column ∷ []) = if is_name table.kind && is_dot dot.kind && is_name column.kind then token_known names column.kind else Nothing
-column_known names _ = Nothing
+unfoldable pub column_known : Kinds → List Token → Known
+column_known kinds (only ∷ []) = token_known kinds only.kind
+column_known kinds (table ∷ dot ∷ column ∷ []) = if is_name table.kind && is_dot dot.kind && is_name column.kind then token_known kinds column.kind else Nothing
+column_known kinds _ = Nothing
 
 -- ---- calls
 
@@ -48,8 +48,8 @@ unfoldable pub counts_rows : List Token → Bool
 counts_rows [] = false
 counts_rows (token ∷ tokens) = is_counted token.kind && begins_bracket tokens
 
-unfoldable pub plain_known : List Use → List Token → Known
-plain_known names tokens = if counts_rows tokens then Value k.Big else column_known names tokens
+unfoldable pub plain_known : Kinds → List Token → Known
+plain_known kinds tokens = if counts_rows tokens then Value k.Big else column_known kinds tokens
 
 -- the first argument, where a comma and one token stand after it at most: the distance of LAG, and no default
 unfoldable pub first_argument : List Token → Option (List Token)
@@ -69,13 +69,13 @@ abbrev pub as_value : Known → Known
 as_value (Value kind) = Value kind
 as_value _ = Nothing
 
-abbrev pub primary_by : (List Token → Known) → List Use → List Token → Option (List Token) → Known
-primary_by inner names tokens (Some inside) = as_value (inner inside)
-primary_by inner names tokens None = plain_known names tokens
+abbrev pub primary_by : (List Token → Known) → Kinds → List Token → Option (List Token) → Known
+primary_by inner kinds tokens (Some inside) = as_value (inner inside)
+primary_by inner kinds tokens None = plain_known kinds tokens
 
 -- what is known of an operand without casts
-unfoldable pub primary_known : (List Token → Known) → List Use → List Token → Known
-primary_known inner names tokens = primary_by inner names tokens (inner_operand tokens)
+unfoldable pub primary_known : (List Token → Known) → Kinds → List Token → Known
+primary_known inner kinds tokens = primary_by inner kinds tokens (inner_operand tokens)
 
 -- ---- casts
 
@@ -91,20 +91,20 @@ unfoldable pub known_after : Known → List Cast → Known
 known_after known [] = known
 known_after known (cast ∷ casts) = known_after (known_as known cast.kind) casts
 
-abbrev pub term_by : (List Token → Known) → List Use → List Token → List Cast → Known
-term_by inner names operand [] = primary_known inner names operand
-term_by inner names operand (cast ∷ casts) = known_after (inner operand) (cast ∷ casts)
+abbrev pub term_by : (List Token → Known) → Kinds → List Token → List Cast → Known
+term_by inner kinds operand [] = primary_known inner kinds operand
+term_by inner kinds operand (cast ∷ casts) = known_after (inner operand) (cast ∷ casts)
 
 -- a term that is all of the tokens
-abbrev pub whole_known : (List Token → Known) → List Use → Option Term → Known
-whole_known inner names None = Nothing
-whole_known inner names (Some term) = if length term.rest == 0 then term_by inner names term.operand term.casts else Nothing
+abbrev pub whole_known : (List Token → Known) → Kinds → Option Term → Known
+whole_known inner kinds None = Nothing
+whole_known inner kinds (Some term) = if length term.rest == 0 then term_by inner kinds term.operand term.casts else Nothing
 
 -- what is known of tokens that are one operand with its casts, looked for in so many brackets and casts
-unfoldable pub known_within : List Use → ℕ → List Token → Known
-known_within names zero tokens = Nothing
-known_within names (suc depth) tokens = whole_known (known_within names depth) names (term_at tokens)
+unfoldable pub known_within : Kinds → ℕ → List Token → Known
+known_within kinds zero tokens = Nothing
+known_within kinds (suc depth) tokens = whole_known (known_within kinds depth) kinds (term_at tokens)
 
 -- brackets and casts are followed to 130 levels
-abbrev pub known_of : List Use → List Token → Known
-known_of names tokens = known_within names 130 tokens
+abbrev pub known_of : Kinds → List Token → Known
+known_of kinds tokens = known_within kinds 130 tokens

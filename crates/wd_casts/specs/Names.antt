@@ -6,12 +6,11 @@ use Rattle.wd_dialect_read.specs.declared.said.Item.{Item}
 use Rattle.wd_dialect_read.specs.declared.said.Item.TheVariants as i
 use Rattle.wd_dialect_read.specs.declared.said.Statement.{Statement}
 use Rattle.wd_dialect_read.specs.declared.said.Statement.TheVariants as s
-use Rattle.wd_amounts.specs.Names.{given_uses, has_lists}
-use Rattle.wd_amounts.specs.Names as amounts
+use Rattle.wd_amounts.specs.Names.{given_names, has_lists}
 use Rattle.wd_casts.specs.declared.kind.Kind.{Kind}
 use Rattle.wd_casts.specs.declared.kind.Kind.TheVariants as k
-use Rattle.wd_casts.specs.declared.names.Agreed.{Agreed}
-use Rattle.wd_casts.specs.declared.names.Agreed.TheVariants.{Unused, On, Not}
+use Rattle.wd_casts.specs.declared.agreed.Agreed.{Agreed}
+use Rattle.wd_casts.specs.declared.agreed.Agreed.TheVariants.{Unused, On, Not}
 use Rattle.wd_casts.specs.Kinds.{kind_of_column}
 
 -- a use of a name, and what its values are there, where that is known
@@ -38,15 +37,19 @@ column_uses [] = []
 column_uses (statement ∷ statements) = statement_uses statement ++ column_uses statements
 
 -- it is not known what a name is that the query gives
-unfoldable pub unknown_uses : List amounts.Use → List Use
+unfoldable pub unknown_uses : List (List ℕ) → List Use
 unknown_uses [] = []
-unknown_uses (x ∷ xs) = (x.0, None) ∷ unknown_uses xs
+unknown_uses (name ∷ names) = (name, None) ∷ unknown_uses names
 
 -- the uses of names in a query: none are known where it gives whole lists of names
 unfoldable pub uses : List Statement → List Token → List Use
-uses statements tokens = if has_lists false tokens then [] else column_uses statements ++ unknown_uses (given_uses false tokens)
+uses statements tokens = if has_lists false tokens then [] else column_uses statements ++ unknown_uses (given_names false tokens)
 
 -- ---- what a name is
+
+-- what the values of a name are, where that is known
+abbrev pub Kinds : Type 0
+Kinds = List ℕ → Option Kind
 
 abbrev pub is_same : Kind → Kind → Bool
 is_same k.Small k.Small = true
@@ -77,5 +80,5 @@ agreed_kind (On kind) = Some kind
 agreed_kind _ = None
 
 -- what a name is, where all its uses are known and are that
-unfoldable pub kind_named : List Use → List ℕ → Option Kind
-kind_named known name = agreed_kind (agreed_from Unused name known)
+abbrev pub kind_named : List Use → Kinds
+kind_named uses name = agreed_kind (agreed_from Unused name uses)

@@ -12,7 +12,7 @@ use Rattle.wd_casts.specs.declared.known.Known.TheVariants.{Nothing}
 use Rattle.wd_casts.specs.declared.term.Cast.{Cast}
 use Rattle.wd_casts.specs.Equations.{cast_tokens, equation}
 use Rattle.wd_casts.specs.Known.{known_after, known_as, known_of}
-use Rattle.wd_casts.specs.Names.{Use, uses}
+use Rattle.wd_casts.specs.Names.{Kinds, kind_named, uses}
 use Rattle.wd_casts.specs.Terms.{Term, term_at}
 
 -- ---- casts whose equations are known
@@ -34,8 +34,8 @@ place_of known term =
     if length term.casts == 0 then None
     else (if is_nothing (known_after known term.casts) then None else Some (record { known = known; operand = term.operand; casts = term.casts; rest = term.rest }))
 
-unfoldable pub place_at : List Use → Bool → List Token → Option Place
-place_at names begins tokens = if begins then (term_at tokens >>= λ term. place_of (known_of names term.operand) term) else None
+unfoldable pub place_at : Kinds → Bool → List Token → Option Place
+place_at kinds begins tokens = if begins then (term_at tokens >>= λ term. place_of (known_of kinds term.operand) term) else None
 
 -- the equations of casts, the first of them first
 unfoldable pub cast_by : Known → List Cast → List Token → List Token
@@ -68,19 +68,19 @@ step_by inner tokens (Some place) = (cast_by place.known place.casts (inner plac
 step_by inner [] None = ([], false, [])
 step_by inner (token ∷ tokens) None = (token ∷ [], begins_after token.kind, tokens)
 
-unfoldable pub step : (List Token → List Token) → List Use → Bool → List Token → Step
-step inner names begins tokens = step_by inner tokens (place_at names begins tokens)
+unfoldable pub step : (List Token → List Token) → Kinds → Bool → List Token → Step
+step inner kinds begins tokens = step_by inner tokens (place_at kinds begins tokens)
 
 abbrev pub and_then : Step → (Bool → List Token → List Token) → List Token
 and_then first more = first.0 ++ more first.1 first.2
 
 -- step by step to the end; the number bounds the turns. The count of the tokens is enough, since each step takes a token at least, and an
 -- operand has fewer than the whole
-unfoldable pub walked : List Use → ℕ → Bool → List Token → List Token
-walked names zero begins tokens = []
-walked names (suc turns) begins [] = []
-walked names (suc turns) begins (token ∷ tokens) = and_then (step (walked names turns true) names begins (token ∷ tokens)) (walked names turns)
+unfoldable pub walked : Kinds → ℕ → Bool → List Token → List Token
+walked kinds zero begins tokens = []
+walked kinds (suc turns) begins [] = []
+walked kinds (suc turns) begins (token ∷ tokens) = and_then (step (walked kinds turns true) kinds begins (token ∷ tokens)) (walked kinds turns)
 
 -- the tokens of a query over the tables of these statements, without the casts whose equations are known
 unfoldable pub without_casts : List Statement → List Token → List Token
-without_casts statements tokens = walked (uses statements tokens) (length tokens) true tokens
+without_casts statements tokens = walked (kind_named (uses statements tokens)) (length tokens) true tokens

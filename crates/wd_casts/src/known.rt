@@ -1,14 +1,14 @@
 //! What is known of an operand: that it is a text or a number, or what its values are by the columns of a schema.
 
-ghost use Rattle.std.specs.Prelude.{◌≡◌, map, Some, IfOk};
+ghost use Rattle.std.specs.Prelude.{◌≡◌, Some, IfOk};
 ghost use Rattle.wd_clauses.specs.Given.{Finds};
 ghost use Rattle.wd_casts.specs.Known as spec;
 ghost use Rattle.wd_casts.specs.Known.{known_within};
-ghost use Rattle.wd_casts.specs.Seen.{term_seen, use_seen};
+ghost use Rattle.wd_casts.specs.Seen.{kinds_seen, term_seen};
 
+use crate::agreed::KnownKinds;
 use crate::equation::equation;
 use crate::kind::Kind;
-use crate::names::{NameUse, kind_named};
 use crate::term::{Cast, Term, term_at};
 use std::alloc::{AllocError, Global};
 use wd_amounts::{
@@ -40,12 +40,12 @@ fn value_of(kind: Option<Kind>) -> Known
     }
 }
 
-fn token_known(names: &[NameUse], kind: &TokenKind) -> Known
-    ensures { result ≡ spec.token_known (map use_seen names.now) kind.now }
+fn token_known(kinds: &KnownKinds, kind: &TokenKind) -> Known
+    ensures { result ≡ spec.token_known (kinds_seen kinds.now) kind.now }
 {
     match kind {
         TokenKind::Word(name) | TokenKind::Quoted(name) => {
-            value_of(kind_named(names, name.as_str()))
+            value_of(kinds.kind_named(name.as_str()))
         }
         TokenKind::Number(number) => Known::Number(*number),
         TokenKind::Literal(_) => Known::Literal,
@@ -55,14 +55,14 @@ fn token_known(names: &[NameUse], kind: &TokenKind) -> Known
 
 /// A name, of a table or not, a number or a text.
 #[tactic(auto, unfolding(crate::specs::Known::column_known))]
-fn column_known(names: &[NameUse], tokens: &[Token]) -> Known
-    ensures { result ≡ spec.column_known (map use_seen names.now) tokens.now }
+fn column_known(kinds: &KnownKinds, tokens: &[Token]) -> Known
+    ensures { result ≡ spec.column_known (kinds_seen kinds.now) tokens.now }
 {
     match tokens {
-        [only] => token_known(names, &only.kind),
+        [only] => token_known(kinds, &only.kind),
         [table, dot, column] => {
             if is_name(&table.kind) && is_dot(&dot.kind) && is_name(&column.kind) {
-                token_known(names, &column.kind)
+                token_known(kinds, &column.kind)
             } else {
                 Known::Nothing
             }
@@ -96,13 +96,13 @@ fn counts_rows(tokens: &[Token]) -> bool
 }
 
 #[tactic(auto, unfolding(crate::specs::Known::plain_known))]
-fn plain_known(names: &[NameUse], tokens: &[Token]) -> Known
-    ensures { result ≡ spec.plain_known (map use_seen names.now) tokens.now }
+fn plain_known(kinds: &KnownKinds, tokens: &[Token]) -> Known
+    ensures { result ≡ spec.plain_known (kinds_seen kinds.now) tokens.now }
 {
     if counts_rows(tokens) {
         Known::Value(Kind::Big)
     } else {
-        column_known(names, tokens)
+        column_known(kinds, tokens)
     }
 }
 
@@ -181,18 +181,18 @@ pub fn known_after(first: Known, casts: &[Cast]) -> Known
 #[cycle(known_within)]
 fn primary_known(
     alloc: Global,
-    names: &[NameUse],
+    kinds: &KnownKinds,
     depth: usize,
     tokens: &[Token],
 ) -> Result<Known, AllocError>
-    ensures { IfOk result (λ known. known ≡ spec.primary_known (known_within (map use_seen names.now) depth) (map use_seen names.now) tokens.now) }
+    ensures { IfOk result (λ known. known ≡ spec.primary_known (known_within (kinds_seen kinds.now) depth) (kinds_seen kinds.now) tokens.now) }
 {
     match inner_operand(tokens) {
         Some(inside) => {
-            let known = known_within(alloc, names, depth, inside)?;
+            let known = known_within(alloc, kinds, depth, inside)?;
             Ok(as_value(known))
         }
-        None => Ok(plain_known(names, tokens)),
+        None => Ok(plain_known(kinds, tokens)),
     }
 }
 
@@ -200,16 +200,16 @@ fn primary_known(
 #[cycle(known_within)]
 fn term_known(
     alloc: Global,
-    names: &[NameUse],
+    kinds: &KnownKinds,
     depth: usize,
     term: &Term,
 ) -> Result<Known, AllocError>
-    ensures { IfOk result (λ known. known ≡ spec.term_by (known_within (map use_seen names.now) depth) (map use_seen names.now) term.now.operand.now term.now.casts.items) }
+    ensures { IfOk result (λ known. known ≡ spec.term_by (known_within (kinds_seen kinds.now) depth) (kinds_seen kinds.now) term.now.operand.now term.now.casts.items) }
 {
     if term.casts.is_empty() {
-        primary_known(alloc, names, depth, term.operand)
+        primary_known(alloc, kinds, depth, term.operand)
     } else {
-        let known = known_within(alloc, names, depth, term.operand)?;
+        let known = known_within(alloc, kinds, depth, term.operand)?;
         Ok(known_after(known, &term.casts))
     }
 }
@@ -218,14 +218,14 @@ fn term_known(
 #[cycle(known_within)]
 fn whole_known(
     alloc: Global,
-    names: &[NameUse],
+    kinds: &KnownKinds,
     depth: usize,
     term: &Term,
 ) -> Result<Known, AllocError>
-    ensures { IfOk result (λ known. known ≡ spec.whole_known (known_within (map use_seen names.now) depth) (map use_seen names.now) (Some (term_seen term.now))) }
+    ensures { IfOk result (λ known. known ≡ spec.whole_known (known_within (kinds_seen kinds.now) depth) (kinds_seen kinds.now) (Some (term_seen term.now))) }
 {
     if term.rest.is_empty() {
-        term_known(alloc, names, depth, term)
+        term_known(alloc, kinds, depth, term)
     } else {
         Ok(Known::Nothing)
     }
@@ -235,24 +235,24 @@ fn whole_known(
 #[cycle(known_within)]
 fn known_within(
     alloc: Global,
-    names: &[NameUse],
+    kinds: &KnownKinds,
     depth: usize,
     tokens: &[Token],
 ) -> Result<Known, AllocError>
-    ensures { IfOk result (λ known. known ≡ known_within (map use_seen names.now) depth tokens.now) }
+    ensures { IfOk result (λ known. known ≡ known_within (kinds_seen kinds.now) depth tokens.now) }
 {
     if depth == 0 {
         return Ok(Known::Nothing);
     }
     match term_at(alloc, tokens)? {
-        Some(term) => whole_known(alloc, names, depth - 1, &term),
+        Some(term) => whole_known(alloc, kinds, depth - 1, &term),
         None => Ok(Known::Nothing),
     }
 }
 
 /// What is known of an operand.
-pub fn known_of(alloc: Global, names: &[NameUse], tokens: &[Token]) -> Result<Known, AllocError>
-    ensures { IfOk result (λ known. known ≡ spec.known_of (map use_seen names.now) tokens.now) }
+pub fn known_of(alloc: Global, kinds: &KnownKinds, tokens: &[Token]) -> Result<Known, AllocError>
+    ensures { IfOk result (λ known. known ≡ spec.known_of (kinds_seen kinds.now) tokens.now) }
 {
-    known_within(alloc, names, MOST_DEEP, tokens)
+    known_within(alloc, kinds, MOST_DEEP, tokens)
 }

@@ -2,11 +2,12 @@
 //! gives it.
 //!
 //! `mask` gives a query in the characters of the profile's lexer: `::` stands as `%%`, and the point in a number as a blank. `decimal`
-//! makes literals of numbers with a point. `term` reads an operand with its casts, `known` says what is known of the operand by the
-//! columns of a schema (`names`), and `equation` what a cast of it is. `walk` goes over the tokens from left to right and writes the
-//! equations.
+//! makes literals of numbers with a point. `term` reads an operand with its casts, `known` says what is known of the operand by what the
+//! uses of its names (`names`) agree on (`agreed`), and `equation` what a cast of it is. `walk` goes over the tokens from left to right
+//! and writes the equations.
 #![tactic(auto)]
 
+mod agreed;
 mod decimal;
 mod equation;
 mod kind;

@@ -1,27 +1,16 @@
-//! What the names of a query are. A name is looked for among all uses of names, one after the other.
+//! The uses of names in a query: as columns of a schema, and as names that the query gives.
 
 ghost use Rattle.std.specs.Prelude.{◌≡◌, ◌++◌, map, IfOk};
 ghost use Rattle.wd_casts.specs.Names as spec;
 ghost use Rattle.wd_casts.specs.Names.{column_uses, items_uses, unknown_uses};
 ghost use Rattle.wd_casts.specs.Seen.{use_seen};
-ghost use Rattle.wd_amounts.specs.Seen as amounts;
 
 use crate::kind::{Kind, kind_of_column};
 use std::alloc::Global;
-use wd_amounts::{NameUse as GivenUse, given_names, has_lists};
+use wd_amounts::{given_names, has_lists};
 use wd_dialect_read::{Item, Statement};
 use wd_lex::Token;
 use wd_value::OutOfMemory;
-
-/// What the uses of a name are.
-#[derive(Clone, Copy)]
-pub enum Agreed {
-    Unused,
-    /// All of them this.
-    On(Kind),
-    /// Not one thing, or not known.
-    Not,
-}
 
 /// A use of a name, and what its values are there, where that is known.
 #[derive(Clone, Copy)]
@@ -68,13 +57,13 @@ fn push_all_columns<'t>(
 
 /// Adds names of which it is not known what they are.
 #[tactic(auto, unfolding(crate::specs::Names::unknown_uses))]
-fn push_unknown<'t>(uses: &mut Vec<NameUse<'t>>, given: &[GivenUse<'t>]) -> Result<(), OutOfMemory>
-    ensures { IfOk result (λ _. map use_seen uses.new.items ≡ map use_seen uses.old.items ++ unknown_uses (map amounts.use_seen given.now)) }
+fn push_unknown<'t>(uses: &mut Vec<NameUse<'t>>, given: &[&'t str]) -> Result<(), OutOfMemory>
+    ensures { IfOk result (λ _. map use_seen uses.new.items ≡ map use_seen uses.old.items ++ unknown_uses (map (λ n. n.now) given.now)) }
 {
     let mut rest = given;
     while let [first, after @ ..] = rest {
         uses.push(NameUse {
-            name: first.name,
+            name: *first,
             kind: None,
         })?;
         rest = after;
@@ -98,69 +87,4 @@ pub fn uses<'t>(
         push_unknown(&mut found, &given)?;
     }
     Ok(found)
-}
-
-fn is_same(first: Kind, second: Kind) -> bool
-    ensures { result ≡ spec.is_same first second }
-{
-    matches!(
-        (first, second),
-        (Kind::Small, Kind::Small)
-            | (Kind::Whole, Kind::Whole)
-            | (Kind::Big, Kind::Big)
-            | (Kind::Boolean, Kind::Boolean)
-            | (Kind::Text, Kind::Text)
-            | (Kind::Date, Kind::Date)
-            | (Kind::Timestamp, Kind::Timestamp)
-            | (Kind::Interval, Kind::Interval)
-    )
-}
-
-/// What the uses of a name are that are known so far, and one more.
-fn with_kind(so_far: Agreed, kind: Option<Kind>) -> Agreed
-    ensures { result ≡ spec.with_kind so_far kind }
-{
-    match (so_far, kind) {
-        (Agreed::Unused, Some(kind)) => Agreed::On(kind),
-        (Agreed::On(first), Some(kind)) => if is_same(first, kind) {
-            so_far
-        } else {
-            Agreed::Not
-        },
-        _ => Agreed::Not,
-    }
-}
-
-/// What they are with one more use, which may be of another name.
-fn with_next(so_far: Agreed, next: &NameUse, name: &str) -> Agreed
-    ensures { result ≡ spec.with_next so_far (use_seen next.now) name.now }
-{
-    if next.name == name {
-        with_kind(so_far, next.kind)
-    } else {
-        so_far
-    }
-}
-
-fn agreed_kind(agreed: Agreed) -> Option<Kind>
-    ensures { result ≡ spec.agreed_kind agreed }
-{
-    match agreed {
-        Agreed::On(kind) => Some(kind),
-        Agreed::Unused | Agreed::Not => None,
-    }
-}
-
-/// What a name is, where all its uses are known and are that.
-#[tactic(auto, unfolding(crate::specs::Names::kind_named, crate::specs::Names::agreed_from))]
-pub fn kind_named(known: &[NameUse], name: &str) -> Option<Kind>
-    ensures { result ≡ spec.kind_named (map use_seen known.now) name.now }
-{
-    let mut agreed = Agreed::Unused;
-    let mut rest = known;
-    while let [first, after @ ..] = rest {
-        agreed = with_next(agreed, first, name);
-        rest = after;
-    }
-    agreed_kind(agreed)
 }

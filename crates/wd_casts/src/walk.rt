@@ -3,17 +3,17 @@
 //! The operand of a cast is walked in turn. It stands within fewer brackets than the whole, or is the operand of a CAST, and brackets are
 //! followed to 64 levels, so that `walk` is called within itself at most 130 times.
 
-ghost use Rattle.std.specs.Prelude.{◌≡◌, length, map, true, IfOk};
+ghost use Rattle.std.specs.Prelude.{◌≡◌, length, true, IfOk};
 ghost use Rattle.wd_clauses.specs.Given.{Finds, Makes, Writes};
 ghost use Rattle.wd_casts.specs.Equations as equations;
-ghost use Rattle.wd_casts.specs.Seen.{term_seen, use_seen};
+ghost use Rattle.wd_casts.specs.Seen.{kinds_seen, term_seen};
 ghost use Rattle.wd_casts.specs.Walked as spec;
 ghost use Rattle.wd_casts.specs.Walked.{step, walked};
 ghost use Rattle.wd_casts.specs.Placed.{place_seen};
 
+use crate::agreed::{KnownKinds, known_kinds};
 use crate::equation::{Form, add_form, equation};
 use crate::known::{Known, known_after, known_as, known_of};
-use crate::names::{NameUse, uses};
 use crate::term::{Cast, Term, term_at};
 use std::alloc::{AllocError, Global};
 use wd_amounts::is_test_word;
@@ -49,18 +49,18 @@ fn place_of<'t>(known: Known, term: Term<'t>) -> Option<Place<'t>>
 #[tactic(auto, unfolding(crate::specs::Walked::place_at))]
 fn place_at<'t>(
     alloc: Global,
-    names: &[NameUse],
+    kinds: &KnownKinds,
     begins: bool,
     tokens: &'t [Token],
 ) -> Result<Option<Place<'t>>, AllocError>
-    ensures { IfOk result (λ found. Finds place_seen found (spec.place_at (map use_seen names.now) begins tokens.now)) }
+    ensures { IfOk result (λ found. Finds place_seen found (spec.place_at (kinds_seen kinds.now) begins tokens.now)) }
 {
     if !begins {
         return Ok(None);
     }
     match term_at(alloc, tokens)? {
         Some(term) => {
-            let known = known_of(alloc, names, term.operand)?;
+            let known = known_of(alloc, kinds, term.operand)?;
             Ok(place_of(known, term))
         }
         None => Ok(None),
@@ -122,14 +122,14 @@ fn begins_after(kind: &TokenKind) -> bool
 #[cycle(walk)]
 fn add_place(
     written: &mut Vec<Token>,
-    names: &[NameUse],
+    kinds: &KnownKinds,
     turns: usize,
     place: &Place,
 ) -> Result<(), RespellError>
-    ensures { Writes written.old.items written.new.items result (spec.cast_by place.now.known place.now.term.casts.items (walked (map use_seen names.now) turns true place.now.term.operand.now)) }
+    ensures { Writes written.old.items written.new.items result (spec.cast_by place.now.known place.now.term.casts.items (walked (kinds_seen kinds.now) turns true place.now.term.operand.now)) }
 {
     let mut operand = Vec::new(*written.allocator());
-    walk(&mut operand, names, turns, true, place.term.operand)?;
+    walk(&mut operand, kinds, turns, true, place.term.operand)?;
     let cast = cast_by(place.known, &place.term.casts, operand)?;
     add_all(written, &cast)?;
     Ok(())
@@ -140,17 +140,17 @@ fn add_place(
 #[cycle(walk)]
 fn step<'t>(
     written: &mut Vec<Token>,
-    names: &[NameUse],
+    kinds: &KnownKinds,
     turns: usize,
     begins: bool,
     tokens: &'t [Token],
 ) -> Result<(bool, &'t [Token]), RespellError>
-    ensures added { Writes written.old.items written.new.items result (step (walked (map use_seen names.now) turns true) (map use_seen names.now) begins tokens.now).0 }
-    ensures next { IfOk result (λ x. x.0 ≡ (step (walked (map use_seen names.now) turns true) (map use_seen names.now) begins tokens.now).1) }
-    ensures rest { IfOk result (λ x. x.1.now ≡ (step (walked (map use_seen names.now) turns true) (map use_seen names.now) begins tokens.now).2) }
+    ensures added { Writes written.old.items written.new.items result (step (walked (kinds_seen kinds.now) turns true) (kinds_seen kinds.now) begins tokens.now).0 }
+    ensures next { IfOk result (λ x. x.0 ≡ (step (walked (kinds_seen kinds.now) turns true) (kinds_seen kinds.now) begins tokens.now).1) }
+    ensures rest { IfOk result (λ x. x.1.now ≡ (step (walked (kinds_seen kinds.now) turns true) (kinds_seen kinds.now) begins tokens.now).2) }
 {
-    if let Some(place) = place_at(*written.allocator(), names, begins, tokens)? {
-        add_place(written, names, turns, &place)?;
+    if let Some(place) = place_at(*written.allocator(), kinds, begins, tokens)? {
+        add_place(written, kinds, turns, &place)?;
         return Ok((false, place.term.rest));
     }
     match tokens {
@@ -166,12 +166,12 @@ fn step<'t>(
 #[cycle(walk)]
 fn walk(
     written: &mut Vec<Token>,
-    names: &[NameUse],
+    kinds: &KnownKinds,
     turns: usize,
     from: bool,
     tokens: &[Token],
 ) -> Result<(), RespellError>
-    ensures { Writes written.old.items written.new.items result (walked (map use_seen names.now) turns from tokens.now) }
+    ensures { Writes written.old.items written.new.items result (walked (kinds_seen kinds.now) turns from tokens.now) }
 {
     let mut begins = from;
     let mut rest = tokens;
@@ -179,23 +179,23 @@ fn walk(
         if rest.is_empty() {
             return Ok(());
         }
-        let (next, following) = step(written, names, turns - 1 - turn, begins, rest)?;
+        let (next, following) = step(written, kinds, turns - 1 - turn, begins, rest)?;
         begins = next;
         rest = following;
     }
     Ok(())
 }
 
-/// The tokens without casts, with these names.
+/// The tokens without casts, where so much is known of names.
 fn walked_all(
     alloc: Global,
-    names: &[NameUse],
+    kinds: &KnownKinds,
     tokens: &[Token],
 ) -> Result<Vec<Token>, RespellError>
-    ensures { Makes (λ x. x.items) (λ x. x) result (walked (map use_seen names.now) (length tokens.now) true tokens.now) }
+    ensures { Makes (λ x. x.items) (λ x. x) result (walked (kinds_seen kinds.now) (length tokens.now) true tokens.now) }
 {
     let mut written = Vec::new(alloc);
-    walk(&mut written, names, tokens.len(), true, tokens)?;
+    walk(&mut written, kinds, tokens.len(), true, tokens)?;
     Ok(written)
 }
 
@@ -210,8 +210,8 @@ pub fn without_casts(
 ) -> Result<Vec<Token>, RespellError>
     ensures { Makes (λ x. x.items) (λ x. x) result (spec.without_casts statements.now tokens.now) }
 {
-    match uses(alloc, statements, tokens) {
-        Ok(names) => walked_all(alloc, &names, tokens),
+    match known_kinds(alloc, statements, tokens) {
+        Ok(kinds) => walked_all(alloc, &kinds, tokens),
         Err(_) => Err(RespellError::OutOfMemory),
     }
 }

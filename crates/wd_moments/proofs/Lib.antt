@@ -1,4 +1,4 @@
 pub mod AddFacts
 pub mod DecimalFacts
-pub mod NumberFacts
-pub mod WalkFacts
+pub mod OperandFacts
+pub mod StepFacts

@@ -8,9 +8,8 @@ use Rattle.wd_operands.specs.Operands.{is_left_bracket, is_name}
 use Rattle.wd_amounts.specs.declared.unit.Unit.{Unit as Counts}
 use Rattle.wd_amounts.specs.declared.unit.Unit.TheVariants.{Days, Microseconds}
 use Rattle.wd_amounts.specs.Units.{shared}
-use Rattle.wd_amounts.specs.Names.{Use}
 use Rattle.wd_amounts.specs.Amounts.{number_said}
-use Rattle.wd_amounts.specs.Terms.{unit_of}
+use Rattle.wd_amounts.specs.Terms.{Known, unit_of}
 use Rattle.wd_amounts.specs.Tokens.{◌>>=◌, is_comparison, is_right_bracket, operand_at}
 
 -- An operand is the whole left side of a comparison after an opening bracket, a comma, a word that begins a condition or a value,
@@ -80,7 +79,7 @@ is_done [] = true
 is_done (token ∷ tokens) = not (is_name token.kind)
 
 -- the comparison at the start, where it is known what its sides count and that they can be compared
-unfoldable pub comparison_at : List Use → List Token → Option Comparison
+unfoldable pub comparison_at : Known → List Token → Option Comparison
 comparison_at known tokens =
     operand_at tokens >>= λ left. sign_at left.1 >>= λ sign. operand_at sign.1 >>= λ right.
     if is_done right.1 then (common (unit_of known left.0) (unit_of known right.0) left.0 right.0 >>= λ units. Some (record { left = left.0; sign = sign.0; right = right.0; first = units.0; second = units.1; rest = right.1 })) else None

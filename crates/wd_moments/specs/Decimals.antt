@@ -1,16 +1,16 @@
 -- Numbers beside decimals, put as units of their last place.
-use Rattle.std.specs.Prelude.{ℕ, zero, suc, ◌-◌, ◌*◌, ◌==◌, ◌++◌, not, nat_le, nat_lt, Bool, true, false, if◌then◌else◌, List, [], ◌∷◌, Option, Some, None}
+use Rattle.std.specs.Prelude.{ℕ, zero, suc, ◌-◌, ◌*◌, ◌==◌, ◌&&◌, codes, nat_le, nat_lt, Bool, true, false, if◌then◌else◌, List, [], ◌∷◌, Option, Some, None}
+use Rattle.std.specs.Str.{bytes_eq}
 use Rattle.wd_lex.specs.declared.token.Terminal.TheVariants as m
 use Rattle.wd_lex.specs.declared.token.Token.{Token}
 use Rattle.wd_lex.specs.declared.token.TokenKind.{TokenKind}
 use Rattle.wd_lex.specs.declared.token.TokenKind.TheVariants as t
-use Rattle.wd_operands.specs.Operands.{is_left_bracket, is_sign}
+use Rattle.wd_operands.specs.Operands.{is_sign}
 use Rattle.wd_moments.specs.declared.decimal.Stand.{Stand}
-use Rattle.wd_moments.specs.declared.decimal.Stand.TheVariants.{Term, Factor, Behind, Window, Within}
+use Rattle.wd_moments.specs.declared.decimal.Stand.TheVariants.{Term, Factor, Other, Within}
 use Rattle.wd_amounts.specs.declared.numeral.Numeral.{Numeral}
 use Rattle.wd_amounts.specs.Numerals.{numeral_at}
 use Rattle.wd_amounts.specs.Tokens.{◌>>=◌, depth_after}
-use Rattle.wd_amounts.specs.Terms.{is_star}
 use Rattle.wd_moments.specs.Literals.{Written, number_token}
 
 -- so many whole ones in units of their last place: ten times as many for each place, while 64 bits with a sign hold them
@@ -20,39 +20,49 @@ units_of (suc scale) number = if nat_lt number 922337203685477581 then units_of 
 
 -- ---- where a number says how much a decimal is
 
--- how many brackets of a window, or of the further arguments of a call, are open
+-- how many brackets of a call's number of rows are open
 abbrev pub depth_of : Stand → ℕ
 depth_of (Within depth) = depth
 depth_of _ = 0
 
 abbrev pub within : ℕ → Stand
-within depth = if depth == 0 then Behind else Within depth
+within depth = if depth == 0 then Other else Within depth
 
--- A term begins in brackets and after a sign; after a star comes a factor, perhaps with a sign of its own, and a comma begins the
--- further arguments of a call.
+abbrev pub is_comma : TokenKind → Bool
+is_comma (t.Terminal m.Comma) = true
+is_comma _ = false
+
+abbrev pub begins_bounds : TokenKind → Bool
+begins_bounds (t.Word text) = bytes_eq text (codes "between")
+begins_bounds _ = false
+
+-- A term begins in brackets, after a sign, where a value of CASE does, and in the bounds of a frame; after a star comes a factor,
+-- perhaps with a sign of its own. After the first comma of a call comes its number of rows, and after the next a default, which is a term.
 abbrev pub stand_by : TokenKind → Stand
 stand_by (t.Terminal m.LeftBracket) = Term
 stand_by (t.Terminal m.Plus) = Term
 stand_by (t.Terminal m.Minus) = Term
+stand_by (t.Terminal m.Then) = Term
+stand_by (t.Terminal m.Else) = Term
+stand_by (t.Terminal m.Range) = Term
+stand_by (t.Terminal m.And) = Term
 stand_by (t.Terminal m.Star) = Factor
 stand_by (t.Terminal m.Comma) = Within 1
-stand_by (t.Terminal m.Over) = Window
-stand_by _ = Behind
+stand_by kind = if begins_bounds kind then Term else Other
 
 abbrev pub stand_after : Stand → TokenKind → Stand
-stand_after (Within depth) kind = within (depth_after depth kind)
-stand_after Window kind = if is_left_bracket kind then Within 1 else Behind
+stand_after (Within depth) kind = if depth == 1 && is_comma kind then Term else within (depth_after depth kind)
 stand_after Factor kind = if is_sign kind then Factor else stand_by kind
 stand_after _ kind = stand_by kind
 
-unfoldable pub begins_star : List Token → Bool
-begins_star [] = false
-begins_star (token ∷ tokens) = is_star token.kind
+-- after a part that stands for itself
+abbrev pub beyond : Stand → Stand
+beyond (Within depth) = Within depth
+beyond _ = Other
 
--- a term of its own, of which no multiple is taken
-abbrev pub is_term : Stand → List Token → Bool
-is_term Term tokens = not (begins_star tokens)
-is_term _ tokens = false
+abbrev pub is_term : Stand → Bool
+is_term Term = true
+is_term _ = false
 
 -- ---- numbers in units
 
@@ -76,22 +86,14 @@ numeral_units scale x = if nat_le x.places scale then Some (or_past (units_of (s
 
 -- the number with a point at the start in units, where it is a term
 unfoldable pub term_units : ℕ → Stand → List Token → Option ℕ
-term_units scale stand (word ∷ text ∷ tokens) = numeral_at (word ∷ text ∷ tokens) >>= λ x. if is_term stand tokens then numeral_units scale x else None
-term_units scale stand _ = None
+term_units scale stand tokens = numeral_at tokens >>= λ x. if is_term stand then numeral_units scale x else None
 
-abbrev pub by_units : ℕ → Stand → Token → List Token → Option ℕ → Written
-by_units scale stand token tokens (Some units) = (number_token units token.span ∷ [], true)
-by_units scale stand token tokens None = (token_in_units scale (is_term stand tokens) token ∷ [], false)
+abbrev pub by_units : ℕ → Stand → Token → Option ℕ → Written
+by_units scale stand token (Some units) = (number_token units token.span ∷ [], true)
+by_units scale stand token None = (token_in_units scale (is_term stand) token ∷ [], false)
 
 -- what is written for the first of tokens that count a decimal, from such a place on: units in place of a number that is a term. And
 -- whether it stands for the next one, too
 unfoldable pub first_in_units : ℕ → Stand → List Token → Written
 first_in_units scale stand [] = ([], false)
-first_in_units scale stand (token ∷ tokens) = by_units scale stand token tokens (term_units scale stand (token ∷ tokens))
-
--- all of them; the first is left out where what is written before stands for it
-unfoldable pub units_in : ℕ → Bool → Stand → List Token → List Token
-units_in scale leaves stand [] = []
-units_in scale true stand (token ∷ tokens) = units_in scale false (stand_after stand token.kind) tokens
-units_in scale false stand (token ∷ tokens) =
-    (first_in_units scale stand (token ∷ tokens)).0 ++ units_in scale (first_in_units scale stand (token ∷ tokens)).1 (stand_after stand token.kind) tokens
+first_in_units scale stand (token ∷ tokens) = by_units scale stand token (term_units scale stand (token ∷ tokens))

@@ -1,27 +1,20 @@
--- Operands outside of comparisons that count a moment: items of a select list, keys and arguments.
-use Rattle.std.specs.Prelude.{◌||◌, ◌&&◌, not, codes, is_some, Bool, true, false, if◌then◌else◌, List, [], ◌∷◌, Option, Some, None}
+-- Operands outside of comparisons that count a moment or a decimal: items of a select list, keys and their frames, and arguments.
+use Rattle.std.specs.Prelude.{ℕ, ◌+◌, ◌||◌, ◌&&◌, not, codes, is_some, Bool, true, false, if◌then◌else◌, List, [], ◌∷◌, length, take, drop, Option, Some, None}
 use Rattle.std.specs.Str.{bytes_eq}
 use Rattle.wd_lex.specs.declared.token.Terminal.TheVariants as m
 use Rattle.wd_lex.specs.declared.token.Token.{Token}
 use Rattle.wd_lex.specs.declared.token.TokenKind.{TokenKind}
 use Rattle.wd_lex.specs.declared.token.TokenKind.TheVariants as t
 use Rattle.wd_amounts.specs.declared.unit.Unit.{Unit as Counts}
-use Rattle.wd_amounts.specs.declared.unit.Unit.TheVariants.{Days, Microseconds}
+use Rattle.wd_amounts.specs.declared.unit.Unit.TheVariants.{Days, Microseconds, Decimal}
 use Rattle.wd_amounts.specs.Amounts.{amount_at}
-use Rattle.wd_amounts.specs.Names.{Use}
-use Rattle.wd_amounts.specs.Terms.{unit_of}
-use Rattle.wd_amounts.specs.Tokens.{◌>>=◌, is_comparison, operand_at}
+use Rattle.wd_amounts.specs.Numerals.{numeral_at}
+use Rattle.wd_amounts.specs.Terms.{Known, unit_of}
+use Rattle.wd_amounts.specs.declared.token.Stop.TheVariants.{Frame}
+use Rattle.wd_amounts.specs.Tokens.{◌>>=◌, begins_item, is_comparison, operand_at, part_length}
 use Rattle.wd_moments.specs.declared.item.Start.{Start}
 use Rattle.wd_moments.specs.declared.item.Start.TheVariants.{Elsewhere, AtSide, AtItem}
 use Rattle.wd_moments.specs.Comparisons.{begins_side}
-
--- an item begins after these
-abbrev pub begins_item : TokenKind → Bool
-begins_item (t.Terminal m.Select) = true
-begins_item (t.Terminal m.Distinct) = true
-begins_item (t.Terminal m.Comma) = true
-begins_item (t.Terminal m.By) = true
-begins_item _ = false
 
 -- what may begin after a token: an item, which may be the left side of a comparison, too, or such a side alone
 abbrev pub start_after : TokenKind → Start
@@ -34,12 +27,6 @@ is_item _ = false
 abbrev pub is_side : Start → Bool
 is_side Elsewhere = false
 is_side _ = true
-
--- days, or microseconds of a moment; of spans two may be equal and look different, as 1 day and 24 hours
-abbrev pub is_moment : Counts → Bool
-is_moment Days = true
-is_moment Microseconds = true
-is_moment _ = false
 
 -- the word of a field, which cuts an interval before it
 abbrev pub is_field : TokenKind → Bool
@@ -57,7 +44,35 @@ unfoldable pub holds_amount : List Token → Bool
 holds_amount [] = false
 holds_amount (token ∷ tokens) = is_some (amount_at (token ∷ tokens)) || holds_amount tokens
 
--- an operand, what it counts, and the tokens after it
+abbrev pub is_number : TokenKind → Bool
+is_number (t.Number number) = true
+is_number _ = false
+
+-- a number stands among tokens, with a point or not
+unfoldable pub holds_number : List Token → Bool
+holds_number [] = false
+holds_number (token ∷ tokens) = is_number token.kind || is_some (numeral_at (token ∷ tokens)) || holds_number tokens
+
+-- what counts this has literals to be written in its units
+abbrev pub is_written : Counts → List Token → Bool
+is_written Days tokens = holds_amount tokens
+is_written Microseconds tokens = holds_amount tokens
+is_written (Decimal scale) tokens = holds_number tokens
+is_written _ tokens = false
+
+abbrev pub is_range : TokenKind → Bool
+is_range (t.Terminal m.Range) = true
+is_range _ = false
+
+unfoldable pub holds_range : List Token → Bool
+holds_range [] = false
+holds_range (token ∷ tokens) = is_range token.kind || holds_range tokens
+
+-- how many tokens after a key are its frame, where that is in RANGE, so that the frame's offsets count what the key does
+unfoldable pub frame_length : List Token → ℕ
+frame_length tokens = if holds_range (take (part_length Frame tokens) tokens) then part_length Frame tokens else 0
+
+-- an operand, perhaps with a frame after it, what it counts, and the tokens after it
 pub record Item : Type 0 where
   pub operand : List Token
   pub unit : Counts
@@ -65,8 +80,11 @@ pub record Item : Type 0 where
 
 abbrev pub item_of : List Token → List Token → Option Counts → Option Item
 item_of operand rest None = None
-item_of operand rest (Some unit) = if is_moment unit && ends_item rest && holds_amount operand then Some (record { operand = operand; unit = unit; rest = rest }) else None
+item_of operand rest (Some unit) = if ends_item rest && is_written unit operand then Some (record { operand = operand; unit = unit; rest = rest }) else None
 
--- the operand at the start, where it counts a moment, and a literal of a moment or a span stands in it
-unfoldable pub item_at : List Use → List Token → Option Item
-item_at known tokens = operand_at tokens >>= λ found. item_of found.0 found.1 (unit_of known found.0)
+abbrev pub item_by : Option Counts → List Token → ℕ → Option Item
+item_by unit tokens length = item_of (take length tokens) (drop length tokens) unit
+
+-- the operand at the start and its frame, where it counts a moment or a decimal, and literals or numbers stand in them
+unfoldable pub item_at : Known → List Token → Option Item
+item_at known tokens = operand_at tokens >>= λ found. item_by (unit_of known found.0) tokens (length found.0 + frame_length found.1)

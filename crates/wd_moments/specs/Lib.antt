@@ -5,4 +5,5 @@ pub mod Items
 pub mod Literals
 pub mod Numbered
 pub mod Seen
+pub mod Sides
 pub mod Unlike

@@ -1,5 +1,5 @@
 -- Numbers in place of the literals of moments.
-use Rattle.std.specs.Prelude.{ℕ, ℤ, pos, int_lt, unsigned_abs, Bool, true, false, if◌then◌else◌, List, [], ◌∷◌, ◌++◌, Option, Some, None}
+use Rattle.std.specs.Prelude.{ℕ, ℤ, pos, int_lt, unsigned_abs, ◌/◌, ◌%◌, ◌==◌, ◌||◌, not, Bool, true, false, if◌then◌else◌, List, [], ◌∷◌, Option, Some, None}
 use Rattle.wd_lex.specs.declared.token.Terminal.{Terminal}
 use Rattle.wd_lex.specs.declared.token.Terminal.TheVariants as m
 use Rattle.wd_lex.specs.declared.token.Span.{Span as Place}
@@ -7,6 +7,7 @@ use Rattle.wd_lex.specs.declared.token.Token.{Token}
 use Rattle.wd_lex.specs.declared.token.TokenKind.TheVariants as t
 use Rattle.wd_amounts.specs.declared.amount.Amount.{Amount}
 use Rattle.wd_amounts.specs.declared.unit.Unit.{Unit as Counts}
+use Rattle.wd_amounts.specs.declared.unit.Unit.TheVariants.{Days, Span}
 use Rattle.wd_amounts.specs.Amounts.{amount_at, number_said}
 
 abbrev pub made : Terminal → Place → Token
@@ -33,16 +34,23 @@ abbrev pub by_number : Token → Option ℤ → Written
 by_number token (Some number) = (number_tokens token.span number, false)
 by_number token None = (token ∷ [], false)
 
+-- whole days in so many microseconds
+abbrev pub days_in : ℤ → Option ℕ
+days_in number = if int_lt number (pos 0) || not (unsigned_abs number % 86400000000 == 0) then None else Some (unsigned_abs number / 86400000000)
+
+abbrev pub by_days : Token → Option ℕ → Written
+by_days token None = (token ∷ [], false)
+by_days token (Some days) = (number_token days token.span ∷ [], true)
+
+-- a span beside days is a number of days
+abbrev pub by_units : Counts → Counts → Token → ℤ → Written
+by_units Days Span token number = by_days token (days_in number)
+by_units unit other token number = (number_tokens token.span number, true)
+
 abbrev pub by_amount : Counts → Token → Option Amount → Written
-by_amount unit token (Some x) = (number_tokens token.span x.number, true)
+by_amount unit token (Some x) = by_units unit x.unit token x.number
 by_amount unit token None = by_number token (number_said unit token.kind)
 
 unfoldable pub first_written : Counts → List Token → Written
 first_written unit [] = ([], false)
 first_written unit (token ∷ tokens) = by_amount unit token (amount_at (token ∷ tokens))
-
--- tokens that count a unit, with numbers in place of literals; the first is left out where what is written before stands for it
-unfoldable pub numbers_in : Counts → Bool → List Token → List Token
-numbers_in unit leaves [] = []
-numbers_in unit true (token ∷ tokens) = numbers_in unit false tokens
-numbers_in unit false (token ∷ tokens) = (first_written unit (token ∷ tokens)).0 ++ numbers_in unit (first_written unit (token ∷ tokens)).1 tokens

@@ -1,13 +1,13 @@
 //! Comparisons whose sides count one unit.
 
-ghost use Rattle.std.specs.Prelude.{◌≡◌, map};
+ghost use Rattle.std.specs.Prelude.{◌≡◌};
 ghost use Rattle.wd_moments.specs.Comparisons as spec;
 ghost use Rattle.wd_amounts.specs.Given.{Finds};
-ghost use Rattle.wd_amounts.specs.Seen.{use_seen};
+ghost use Rattle.wd_amounts.specs.Seen.{known_seen};
 ghost use Rattle.wd_moments.specs.Seen.{comparison_seen};
 
 use wd_amounts::{
-    NameUse, Unit, is_comparison, is_left_bracket, is_name, is_right_bracket, number_said,
+    KnownNames, Unit, is_comparison, is_left_bracket, is_name, is_right_bracket, number_said,
     operand_at, shared, unit_of,
 };
 use wd_lex::{Terminal, Token, TokenKind};
@@ -146,8 +146,8 @@ fn is_done(tokens: &[Token]) -> bool
 
 /// The comparison at the start, where it is known what its sides count.
 #[tactic(auto, unfolding(crate::specs::Comparisons::comparison_at))]
-pub fn comparison_at<'t>(known: &[NameUse], tokens: &'t [Token]) -> Option<Comparison<'t>>
-    ensures { Finds comparison_seen result (spec.comparison_at (map use_seen known.now) tokens.now) }
+pub fn comparison_at<'t>(known: &KnownNames, tokens: &'t [Token]) -> Option<Comparison<'t>>
+    ensures { Finds comparison_seen result (spec.comparison_at (known_seen known.now) tokens.now) }
 {
     let Some((left, rest)) = operand_at(tokens) else {
         return None;

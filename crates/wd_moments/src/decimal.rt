@@ -1,28 +1,25 @@
 //! Numbers beside decimals, put as units of their last place.
 
-ghost use Rattle.std.specs.Prelude.{◌≡◌, ◌∷◌, [], ◌≤◌, ◌+◌, length, false, true, IfOk};
+ghost use Rattle.std.specs.Prelude.{◌≡◌, ◌∷◌, [], ◌≤◌, ◌+◌, length, true, IfOk};
 ghost use Rattle.wd_moments.specs.Given.{Adds, most_tokens};
 ghost use Rattle.wd_moments.specs.Decimals as spec;
-ghost use Rattle.wd_moments.specs.Decimals.{depth_of, first_in_units, token_in_units, units_in};
-ghost use Rattle.wd_moments.specs.declared.decimal.Stand.TheVariants.{Term};
+ghost use Rattle.wd_moments.specs.Decimals.{depth_of, first_in_units, token_in_units};
 
 use crate::error::MomentError;
 use crate::write::{push_copy, push_number};
-use wd_amounts::{Numeral, depth_after, is_left_bracket, is_sign, is_star, numeral_at};
+use wd_amounts::{Numeral, depth_after, is_sign, numeral_at};
 use wd_lex::{Terminal, Token, TokenKind};
 
-/// Where a token of what counts a decimal stands.
+/// Where a token of an operand stands.
 #[derive(Clone, Copy)]
 pub enum Stand {
     /// Where a term begins.
     Term,
     /// After a star.
     Factor,
-    /// Behind the start of a term.
-    Behind,
-    /// After OVER.
-    Window,
-    /// In so many brackets of a window, or of the further arguments of a call.
+    /// Elsewhere.
+    Other,
+    /// In so many brackets of a call's number of rows.
     Within(usize),
 }
 
@@ -44,9 +41,25 @@ fn within(depth: usize) -> Stand
     ensures { result ≡ spec.within depth }
 {
     if depth == 0 {
-        Stand::Behind
+        Stand::Other
     } else {
         Stand::Within(depth)
+    }
+}
+
+fn is_comma(kind: &TokenKind) -> bool
+    ensures { result ≡ spec.is_comma kind.now }
+{
+    matches!(kind, TokenKind::Terminal(Terminal::Comma))
+}
+
+/// Whether the bounds of a frame begin after it.
+fn begins_bounds(kind: &TokenKind) -> bool
+    ensures { result ≡ spec.begins_bounds kind.now }
+{
+    match kind {
+        TokenKind::Word(text) => text.as_str() == "between",
+        _ => false,
     }
 }
 
@@ -55,52 +68,57 @@ fn stand_by(kind: &TokenKind) -> Stand
     ensures within { depth_of result ≤ 1 }
 {
     match kind {
-        TokenKind::Terminal(Terminal::LeftBracket | Terminal::Plus | Terminal::Minus) => {
-            Stand::Term
-        }
+        TokenKind::Terminal(
+            Terminal::LeftBracket
+            | Terminal::Plus
+            | Terminal::Minus
+            | Terminal::Then
+            | Terminal::Else
+            | Terminal::Range
+            | Terminal::And,
+        ) => Stand::Term,
         TokenKind::Terminal(Terminal::Star) => Stand::Factor,
         TokenKind::Terminal(Terminal::Comma) => Stand::Within(1),
-        TokenKind::Terminal(Terminal::Over) => Stand::Window,
-        _ => Stand::Behind,
+        _ => if begins_bounds(kind) {
+            Stand::Term
+        } else {
+            Stand::Other
+        },
     }
 }
 
 /// Where the token after this one stands.
-fn stand_after(stand: Stand, kind: &TokenKind) -> Stand
+pub fn stand_after(stand: Stand, kind: &TokenKind) -> Stand
     requires { depth_of stand ≤ 9223372036854775807 }
     ensures value { result ≡ spec.stand_after stand kind.now }
     ensures within { depth_of result ≤ depth_of stand + 1 }
 {
     match stand {
-        Stand::Within(depth) => within(depth_after(depth, kind)),
-        Stand::Window => if is_left_bracket(kind) {
-            Stand::Within(1)
+        Stand::Within(depth) => if depth == 1 && is_comma(kind) {
+            Stand::Term
         } else {
-            Stand::Behind
+            within(depth_after(depth, kind))
         },
         Stand::Factor if is_sign(kind) => Stand::Factor,
         _ => stand_by(kind),
     }
 }
 
-#[tactic(auto, unfolding(crate::specs::Decimals::begins_star))]
-fn begins_star(tokens: &[Token]) -> bool
-    ensures { result ≡ spec.begins_star tokens.now }
+/// Where the token after a part stands that stands for itself.
+pub fn beyond(stand: Stand) -> Stand
+    ensures value { result ≡ spec.beyond stand }
+    ensures within { depth_of result ≤ depth_of stand }
 {
-    match tokens {
-        [first, ..] => is_star(&first.kind),
-        [] => false,
+    match stand {
+        Stand::Within(depth) => Stand::Within(depth),
+        _ => Stand::Other,
     }
 }
 
-/// Whether a term of its own begins here, of which no multiple is taken; these tokens follow its first.
-fn is_term(stand: Stand, tokens: &[Token]) -> bool
-    ensures { result ≡ spec.is_term stand tokens.now }
+fn is_term(stand: Stand) -> bool
+    ensures { result ≡ spec.is_term stand }
 {
-    match stand {
-        Stand::Term => !begins_star(tokens),
-        _ => false,
-    }
+    matches!(stand, Stand::Term)
 }
 
 /// So many units, or the first number that 64 bits with a sign do not hold, which the profile refuses.
@@ -114,7 +132,7 @@ fn or_past(units: Option<u64>) -> u64
 }
 
 /// Writes a token, a number in units.
-fn push_in_units(out: &mut Vec<Token>, scale: u64, token: &Token) -> Result<(), MomentError>
+fn push_units(out: &mut Vec<Token>, scale: u64, token: &Token) -> Result<(), MomentError>
     requires { length out.old.items ≤ most_tokens }
     ensures { Adds result out.old.items out.new.items (token_in_units scale true token.now ∷ []) }
 {
@@ -137,7 +155,7 @@ fn push_token(
     ensures { Adds result out.old.items out.new.items (token_in_units scale is_term token.now ∷ []) }
 {
     if is_term {
-        push_in_units(out, scale, token)
+        push_units(out, scale, token)
     } else {
         push_copy(out, token)
     }
@@ -160,11 +178,8 @@ fn numeral_units(scale: u64, numeral: Numeral) -> Option<u64>
 fn term_units(scale: u64, stand: Stand, tokens: &[Token]) -> Option<u64>
     ensures { result ≡ spec.term_units scale stand tokens.now }
 {
-    let [_, _, rest @ ..] = tokens else {
-        return None;
-    };
     let numeral = numeral_at(tokens)?;
-    if is_term(stand, rest) {
+    if is_term(stand) {
         numeral_units(scale, numeral)
     } else {
         None
@@ -173,7 +188,7 @@ fn term_units(scale: u64, stand: Stand, tokens: &[Token]) -> Option<u64>
 
 /// Writes what stands for the first token, or for it and the next, and says whether it stands for the next.
 #[tactic(auto, unfolding(crate::specs::Decimals::first_in_units))]
-fn push_first(
+pub fn push_in_units(
     out: &mut Vec<Token>,
     scale: u64,
     stand: Stand,
@@ -181,9 +196,9 @@ fn push_first(
 ) -> Result<bool, MomentError>
     requires { length out.old.items ≤ most_tokens }
     ensures added { Adds result out.old.items out.new.items (first_in_units scale stand tokens.now).0 }
-    ensures leaves { IfOk result (λ leaves. leaves ≡ (first_in_units scale stand tokens.now).1) }
+    ensures pair { IfOk result (λ is_pair. is_pair ≡ (first_in_units scale stand tokens.now).1) }
 {
-    let [first, rest @ ..] = tokens else {
+    let [first, ..] = tokens else {
         return Ok(false);
     };
     match term_units(scale, stand, tokens) {
@@ -192,29 +207,8 @@ fn push_first(
             Ok(true)
         }
         None => {
-            push_token(out, scale, is_term(stand, rest), first)?;
+            push_token(out, scale, is_term(stand), first)?;
             Ok(false)
         }
     }
-}
-
-/// Writes tokens that count a decimal, with its units in place of the numbers that are terms.
-pub fn push_units(out: &mut Vec<Token>, scale: u64, tokens: &[Token]) -> Result<(), MomentError>
-    requires { length out.old.items ≤ most_tokens }
-    ensures { Adds result out.old.items out.new.items (units_in scale false Term tokens.now) }
-{
-    let mut leaves = false;
-    let mut stand = Stand::Term;
-    let mut rest = tokens;
-    while let [first, after @ ..] = rest {
-        let here = stand;
-        stand = stand_after(here, &first.kind);
-        leaves = if leaves {
-            false
-        } else {
-            push_first(out, scale, here, rest)?
-        };
-        rest = after;
-    }
-    Ok(())
 }

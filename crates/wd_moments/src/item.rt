@@ -1,13 +1,16 @@
-//! Operands outside of comparisons that count a moment: items of a select list, keys and arguments.
+//! Operands outside of comparisons that count a moment or a decimal: items of a select list, keys and their frames, and arguments.
 
-ghost use Rattle.std.specs.Prelude.{◌≡◌, map};
+ghost use Rattle.std.specs.Prelude.{◌≡◌, ◌≤◌, length};
 ghost use Rattle.wd_amounts.specs.Given.{Finds};
-ghost use Rattle.wd_amounts.specs.Seen.{use_seen};
+ghost use Rattle.wd_amounts.specs.Seen.{known_seen};
 ghost use Rattle.wd_moments.specs.Items as spec;
 ghost use Rattle.wd_moments.specs.Seen.{item_seen};
 
 use crate::comparison::begins_side;
-use wd_amounts::{NameUse, Unit, amount_at, is_comparison, operand_at, unit_of};
+use wd_amounts::{
+    KnownNames, Stop, Unit, amount_at, begins_item, is_comparison, numeral_at, operand_at,
+    part_length, unit_of,
+};
 use wd_lex::{Terminal, Token, TokenKind};
 
 /// What may begin at a token.
@@ -20,21 +23,12 @@ pub enum Start {
     AtItem,
 }
 
-/// An operand that counts a moment, and the tokens after it.
+/// An operand, perhaps with a frame after it, what it counts, and the tokens after it.
 #[derive(Clone, Copy)]
 pub struct Item<'t> {
     pub operand: &'t [Token],
     pub unit: Unit,
     pub rest: &'t [Token],
-}
-
-fn begins_item(kind: &TokenKind) -> bool
-    ensures { result ≡ spec.begins_item kind.now }
-{
-    matches!(
-        kind,
-        TokenKind::Terminal(Terminal::Select | Terminal::Distinct | Terminal::Comma | Terminal::By)
-    )
 }
 
 /// What may begin after a token.
@@ -60,13 +54,6 @@ pub fn is_side(start: Start) -> bool
     ensures { result ≡ spec.is_side start }
 {
     !matches!(start, Start::Elsewhere)
-}
-
-/// Whether it counts days, or microseconds of a moment.
-fn is_moment(unit: Unit) -> bool
-    ensures { result ≡ spec.is_moment unit }
-{
-    matches!(unit, Unit::Days | Unit::Microseconds)
 }
 
 /// Whether it is the word of a field, which cuts an interval before it.
@@ -113,23 +100,85 @@ fn holds_amount(tokens: &[Token]) -> bool
     false
 }
 
-/// The operand at the start, where it counts a moment, and a literal of a moment or a span stands in it.
-#[tactic(auto, unfolding(crate::specs::Items::item_at))]
-pub fn item_at<'t>(known: &[NameUse], tokens: &'t [Token]) -> Option<Item<'t>>
-    ensures { Finds item_seen result (spec.item_at (map use_seen known.now) tokens.now) }
+/// Whether a number stands among tokens, with a point or not.
+#[tactic(auto, unfolding(crate::specs::Items::holds_number))]
+fn holds_number(tokens: &[Token]) -> bool
+    ensures { result ≡ spec.holds_number tokens.now }
 {
-    let Some((operand, rest)) = operand_at(tokens) else {
-        return None;
-    };
-    if !ends_item(rest) || !holds_amount(operand) {
-        return None;
+    let mut rest = tokens;
+    while let [first, after @ ..] = rest {
+        if matches!(first.kind, TokenKind::Number(_)) || numeral_at(rest).is_some() {
+            return true;
+        }
+        rest = after;
     }
-    match unit_of(known, operand) {
-        Some(unit) if is_moment(unit) => Some(Item {
+    false
+}
+
+/// Whether what counts this has literals that are to be written in its units.
+fn is_written(unit: Unit, tokens: &[Token]) -> bool
+    ensures { result ≡ spec.is_written unit tokens.now }
+{
+    match unit {
+        Unit::Days | Unit::Microseconds => holds_amount(tokens),
+        Unit::Decimal(_) => holds_number(tokens),
+        _ => false,
+    }
+}
+
+/// Whether RANGE stands among tokens.
+#[tactic(auto, unfolding(crate::specs::Items::holds_range))]
+fn holds_range(tokens: &[Token]) -> bool
+    ensures { result ≡ spec.holds_range tokens.now }
+{
+    let mut rest = tokens;
+    while let [first, after @ ..] = rest {
+        if matches!(first.kind, TokenKind::Terminal(Terminal::Range)) {
+            return true;
+        }
+        rest = after;
+    }
+    false
+}
+
+/// How many tokens after a key are its frame, where that is in RANGE.
+#[tactic(auto, unfolding(crate::specs::Items::frame_length))]
+fn frame_length(tokens: &[Token]) -> usize
+    ensures value { result ≡ spec.frame_length tokens.now }
+    ensures within { result ≤ length tokens.now }
+{
+    let count = part_length(Stop::Frame, tokens);
+    let (frame, _) = tokens.split_at(count);
+    if holds_range(frame) { count } else { 0 }
+}
+
+/// So many tokens as an item that counts this, where literals are to be written in its units.
+fn item_of<'t>(unit: Option<Unit>, tokens: &'t [Token], count: usize) -> Option<Item<'t>>
+    requires { count ≤ length tokens.now }
+    ensures { Finds item_seen result (spec.item_by unit tokens.now count) }
+{
+    let (operand, rest) = tokens.split_at(count);
+    match unit {
+        Some(unit) if ends_item(rest) && is_written(unit, operand) => Some(Item {
             operand,
             unit,
             rest,
         }),
         _ => None,
     }
+}
+
+/// The operand at the start and its frame, where it counts a moment or a decimal, and literals or numbers stand in them.
+#[tactic(auto, unfolding(crate::specs::Items::item_at))]
+pub fn item_at<'t>(known: &KnownNames, tokens: &'t [Token]) -> Option<Item<'t>>
+    ensures { Finds item_seen result (spec.item_at (known_seen known.now) tokens.now) }
+{
+    let Some((operand, rest)) = operand_at(tokens) else {
+        return None;
+    };
+    item_of(
+        unit_of(known, operand),
+        tokens,
+        operand.len() + frame_length(rest),
+    )
 }

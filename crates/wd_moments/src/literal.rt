@@ -1,15 +1,18 @@
 //! Numbers in place of the literals of moments.
 
-ghost use Rattle.std.specs.Prelude.{◌≡◌, ◌≤◌, length, false, IfOk};
+ghost use Rattle.std.specs.Prelude.{◌≡◌, ◌≤◌, length, Some, IfOk};
 ghost use Rattle.wd_amounts.specs.Amounts as amounts;
 ghost use Rattle.wd_moments.specs.Given.{Adds, most_tokens};
 ghost use Rattle.wd_moments.specs.Literals as spec;
-ghost use Rattle.wd_moments.specs.Literals.{by_number, first_written, numbers_in};
+ghost use Rattle.wd_moments.specs.Literals.{by_amount, by_days, by_number, first_written};
 
 use crate::error::MomentError;
 use crate::write::{push_copy, push_mark, push_number};
-use wd_amounts::{Unit, amount_at, number_said};
+use wd_amounts::{Amount, Unit, amount_at, number_said};
 use wd_lex::{Span, Terminal, Token};
+
+/// The microseconds of a day.
+pub const DAY: u64 = 86_400_000_000;
 
 /// Writes a number, a negative one in brackets.
 #[tactic(auto, unfolding(crate::specs::Literals::number_tokens))]
@@ -46,42 +49,70 @@ fn push_token(out: &mut Vec<Token>, unit: Unit, token: &Token) -> Result<(), Mom
     }
 }
 
-/// Writes what stands for the first token, or for it and the next, and says whether it stands for the next.
-#[tactic(auto, unfolding(crate::specs::Literals::first_written))]
-fn push_first(out: &mut Vec<Token>, unit: Unit, tokens: &[Token]) -> Result<bool, MomentError>
-    requires { length out.old.items ≤ most_tokens }
-    ensures added { Adds result out.old.items out.new.items (first_written unit tokens.now).0 }
-    ensures leaves { IfOk result (λ leaves. leaves ≡ (first_written unit tokens.now).1) }
+/// The whole days in so many microseconds.
+fn days_in(number: i64) -> Option<u64>
+    ensures { result ≡ spec.days_in number }
 {
-    let [first, ..] = tokens else {
-        return Ok(false);
-    };
-    match amount_at(tokens) {
-        Some(amount) => {
-            push_signed(out, first.span, amount.number)?;
+    if number < 0 || number.unsigned_abs() % DAY != 0 {
+        None
+    } else {
+        Some(number.unsigned_abs() / DAY)
+    }
+}
+
+/// Writes a literal, and says whether it stands for two tokens: a span beside days is a number of days, where it is whole.
+fn push_amount(
+    out: &mut Vec<Token>,
+    unit: Unit,
+    token: &Token,
+    amount: Amount,
+) -> Result<bool, MomentError>
+    requires { length out.old.items ≤ most_tokens }
+    ensures added { Adds result out.old.items out.new.items (by_amount unit token.now (Some amount)).0 }
+    ensures pair { IfOk result (λ is_pair. is_pair ≡ (by_amount unit token.now (Some amount)).1) }
+{
+    match (unit, amount.unit) {
+        (Unit::Days, Unit::Span) => push_days(out, token, days_in(amount.number)),
+        _ => {
+            push_signed(out, token.span, amount.number)?;
+            Ok(true)
+        }
+    }
+}
+
+/// Writes a number of days, where it is known.
+fn push_days(out: &mut Vec<Token>, token: &Token, days: Option<u64>) -> Result<bool, MomentError>
+    requires { length out.old.items ≤ most_tokens }
+    ensures added { Adds result out.old.items out.new.items (by_days token.now days).0 }
+    ensures pair { IfOk result (λ is_pair. is_pair ≡ (by_days token.now days).1) }
+{
+    match days {
+        Some(days) => {
+            push_number(out, token.span, days)?;
             Ok(true)
         }
         None => {
-            push_token(out, unit, first)?;
+            push_copy(out, token)?;
             Ok(false)
         }
     }
 }
 
-/// Writes tokens that count a unit, with numbers in place of literals.
-pub fn push_numbers(out: &mut Vec<Token>, unit: Unit, tokens: &[Token]) -> Result<(), MomentError>
+/// Writes what stands for the first token, or for it and the next, and says whether it stands for the next.
+#[tactic(auto, unfolding(crate::specs::Literals::first_written))]
+pub fn push_written(out: &mut Vec<Token>, unit: Unit, tokens: &[Token]) -> Result<bool, MomentError>
     requires { length out.old.items ≤ most_tokens }
-    ensures { Adds result out.old.items out.new.items (numbers_in unit false tokens.now) }
+    ensures added { Adds result out.old.items out.new.items (first_written unit tokens.now).0 }
+    ensures pair { IfOk result (λ is_pair. is_pair ≡ (first_written unit tokens.now).1) }
 {
-    let mut leaves = false;
-    let mut rest = tokens;
-    while let [_, after @ ..] = rest {
-        leaves = if leaves {
-            false
-        } else {
-            push_first(out, unit, rest)?
-        };
-        rest = after;
+    let [first, ..] = tokens else {
+        return Ok(false);
+    };
+    match amount_at(tokens) {
+        Some(amount) => push_amount(out, unit, first, amount),
+        None => {
+            push_token(out, unit, first)?;
+            Ok(false)
+        }
     }
-    Ok(())
 }

@@ -1,39 +1,32 @@
 //! Goes over tokens from left to right, and writes numbers in place of the literals of moments and of numbers beside decimals.
 
-ghost use Rattle.std.specs.Prelude.{◌≡◌, ◌≤◌, ◌<◌, length, map, IfOk, IfErr};
+ghost use Rattle.std.specs.Prelude.{◌≡◌, ◌≤◌, ◌<◌, ◌+◌, length, true, IfOk, IfErr};
 ghost use Rattle.wd_moments.specs.declared.error.MomentError.{MomentError};
 ghost use Rattle.wd_amounts.specs.Given.{Finds};
+ghost use Rattle.wd_amounts.specs.Seen.{known_seen};
+ghost use Rattle.wd_moments.specs.Decimals.{depth_of};
 ghost use Rattle.wd_moments.specs.Given.{Adds, most_tokens};
 ghost use Rattle.wd_moments.specs.Numbered as spec;
-ghost use Rattle.wd_moments.specs.Numbered.{compared, midnight, midnight_back, midnight_front, numbers_for, side, side_beside, step};
-ghost use Rattle.wd_amounts.specs.Seen.{use_seen};
+ghost use Rattle.wd_moments.specs.Numbered.{compared, midnight_back, midnight_front, numbers_for, numbers_within, side_beside, step};
 ghost use Rattle.wd_moments.specs.Seen.{comparison_seen, item_seen};
+ghost use Rattle.wd_moments.specs.Sides.{piece, side};
+ghost use Rattle.wd_moments.specs.Unlike.{unlike_from, with_word};
 
 use crate::comparison::{Comparison, comparison_at};
-use crate::decimal::push_units;
+use crate::decimal::{Stand, beyond};
 use crate::error::MomentError;
 use crate::item::{Item, Start, is_item, is_side, item_at, start_after};
-use crate::literal::push_numbers;
+use crate::literal::DAY;
+use crate::side::{own_length, push_one};
 use crate::unlike::{first_unlike, worded};
-use crate::write::{push_copy, push_mark, push_number};
+use crate::write::{push_copies, push_copy, push_mark, push_number};
 use std::alloc::Global;
-use wd_amounts::{NameUse, Unit, uses};
+use wd_amounts::{KnownNames, Unit, depth_after, known_names};
 use wd_dialect_read::Statement;
 use wd_lex::{Span, Terminal, Token};
 
-/// The microseconds of a day.
-const DAY: u64 = 86_400_000_000;
-
-/// Writes an operand that counts a unit, with numbers of that unit.
-fn push_side(out: &mut Vec<Token>, unit: Unit, tokens: &[Token]) -> Result<(), MomentError>
-    requires { length out.old.items ≤ most_tokens }
-    ensures { Adds result out.old.items out.new.items (side unit tokens.now) }
-{
-    match unit {
-        Unit::Decimal(scale) => push_units(out, scale, tokens),
-        _ => push_numbers(out, unit, tokens),
-    }
-}
+/// How many levels are followed of what stands for itself within an operand.
+const MOST_LEVELS: usize = 65;
 
 /// Writes what opens the midnight of a day.
 fn push_midnight_front(out: &mut Vec<Token>, at: Span) -> Result<(), MomentError>
@@ -55,54 +48,9 @@ fn push_midnight_back(out: &mut Vec<Token>, at: Span) -> Result<(), MomentError>
     push_mark(out, at, Terminal::RightBracket)
 }
 
-/// Writes the midnight of a day.
-fn push_midnight(out: &mut Vec<Token>, at: Span, tokens: &[Token]) -> Result<(), MomentError>
-    requires { length out.old.items ≤ most_tokens }
-    ensures { Adds result out.old.items out.new.items (midnight at tokens.now) }
-{
-    push_midnight_front(out, at)?;
-    push_side(out, Unit::Days, tokens)?;
-    push_midnight_back(out, at)
-}
-
-/// Writes a side of a comparison, beside one that counts another unit or the same.
-fn push_beside(
-    out: &mut Vec<Token>,
-    at: Span,
-    unit: Unit,
-    other: Unit,
-    tokens: &[Token],
-) -> Result<(), MomentError>
-    requires { length out.old.items ≤ most_tokens }
-    ensures { Adds result out.old.items out.new.items (side_beside at unit other tokens.now) }
-{
-    match (unit, other) {
-        (Unit::Days, Unit::Microseconds) => push_midnight(out, at, tokens),
-        _ => push_side(out, unit, tokens),
-    }
-}
-
-/// Writes a comparison with numbers of the units of its sides.
-fn push_compared(out: &mut Vec<Token>, comparison: &Comparison) -> Result<(), MomentError>
-    requires { length out.old.items ≤ most_tokens }
-    ensures { Adds result out.old.items out.new.items (compared (comparison_seen comparison.now)) }
-{
-    let Comparison {
-        left,
-        sign,
-        right,
-        first,
-        second,
-        ..
-    } = *comparison;
-    push_beside(out, sign.span, first, second, left)?;
-    push_copy(out, sign)?;
-    push_beside(out, sign.span, second, first, right)
-}
-
 /// The comparison that begins here, where one may.
-fn compared_at<'t>(known: &[NameUse], start: Start, tokens: &'t [Token]) -> Option<Comparison<'t>>
-    ensures { Finds comparison_seen result (spec.compared_at (map use_seen known.now) start tokens.now) }
+fn compared_at<'t>(known: &KnownNames, start: Start, tokens: &'t [Token]) -> Option<Comparison<'t>>
+    ensures { Finds comparison_seen result (spec.compared_at (known_seen known.now) start tokens.now) }
 {
     if is_side(start) {
         comparison_at(known, tokens)
@@ -112,8 +60,8 @@ fn compared_at<'t>(known: &[NameUse], start: Start, tokens: &'t [Token]) -> Opti
 }
 
 /// The item that begins here, where one may.
-fn item_begun<'t>(known: &[NameUse], start: Start, tokens: &'t [Token]) -> Option<Item<'t>>
-    ensures { Finds item_seen result (spec.item_begun (map use_seen known.now) start tokens.now) }
+fn item_begun<'t>(known: &KnownNames, start: Start, tokens: &'t [Token]) -> Option<Item<'t>>
+    ensures { Finds item_seen result (spec.item_begun (known_seen known.now) start tokens.now) }
 {
     if is_item(start) {
         item_at(known, tokens)
@@ -122,25 +70,127 @@ fn item_begun<'t>(known: &[NameUse], start: Start, tokens: &'t [Token]) -> Optio
     }
 }
 
+/// Writes what stands for a literal, a token or a part that stands for itself, and says where the next one stands, and which tokens begin
+/// there.
+#[cycle(push_numbered)]
+fn push_piece<'t>(
+    out: &mut Vec<Token>,
+    known: &KnownNames,
+    levels: usize,
+    unit: Unit,
+    stand: Stand,
+    tokens: &'t [Token],
+) -> Result<(Stand, &'t [Token]), MomentError>
+    requires room { length out.old.items ≤ most_tokens }
+    requires shallow { depth_of stand ≤ 9223372036854775807 }
+    ensures added { Adds result out.old.items out.new.items (piece (numbers_within (known_seen known.now) levels) (known_seen known.now) unit stand tokens.now).0 }
+    ensures next { IfOk result (λ x. x.0 ≡ (piece (numbers_within (known_seen known.now) levels) (known_seen known.now) unit stand tokens.now).1) }
+    ensures rest { IfOk result (λ x. x.1.now ≡ (piece (numbers_within (known_seen known.now) levels) (known_seen known.now) unit stand tokens.now).2) }
+    ensures shallow { IfOk result (λ x. depth_of x.0 + length x.1.now ≤ depth_of stand + length tokens.now) }
+{
+    let own = own_length(known, unit, stand, tokens);
+    if own == 0 {
+        return push_one(out, unit, stand, tokens);
+    }
+    let (itself, rest) = tokens.split_at(own);
+    push_numbered(out, known, levels, itself)?;
+    Ok((beyond(stand), rest))
+}
+
+/// Writes an operand that counts a unit, with numbers of that unit.
+#[cycle(push_numbered)]
+fn push_side(
+    out: &mut Vec<Token>,
+    known: &KnownNames,
+    levels: usize,
+    unit: Unit,
+    tokens: &[Token],
+) -> Result<(), MomentError>
+    requires { length out.old.items ≤ most_tokens }
+    ensures { Adds result out.old.items out.new.items (side (numbers_within (known_seen known.now) levels) (known_seen known.now) unit tokens.now) }
+{
+    let mut stand = Stand::Term;
+    let mut rest = tokens;
+    for _ in 0..tokens.len() {
+        if rest.is_empty() {
+            return Ok(());
+        }
+        let (next, following) = push_piece(out, known, levels, unit, stand, rest)?;
+        stand = next;
+        rest = following;
+    }
+    Ok(())
+}
+
+/// Writes a side of a comparison, beside one that counts another unit or the same.
+#[cycle(push_numbered)]
+fn push_beside(
+    out: &mut Vec<Token>,
+    known: &KnownNames,
+    levels: usize,
+    at: Span,
+    unit: Unit,
+    other: Unit,
+    tokens: &[Token],
+) -> Result<(), MomentError>
+    requires { length out.old.items ≤ most_tokens }
+    ensures { Adds result out.old.items out.new.items (side_beside (numbers_within (known_seen known.now) levels) (known_seen known.now) at unit other tokens.now) }
+{
+    match (unit, other) {
+        (Unit::Days, Unit::Microseconds) => {
+            push_midnight_front(out, at)?;
+            push_side(out, known, levels, Unit::Days, tokens)?;
+            push_midnight_back(out, at)
+        }
+        _ => push_side(out, known, levels, unit, tokens),
+    }
+}
+
+/// Writes a comparison with numbers of the units of its sides.
+#[cycle(push_numbered)]
+fn push_compared(
+    out: &mut Vec<Token>,
+    known: &KnownNames,
+    levels: usize,
+    comparison: &Comparison,
+) -> Result<(), MomentError>
+    requires { length out.old.items ≤ most_tokens }
+    ensures { Adds result out.old.items out.new.items (compared (numbers_within (known_seen known.now) levels) (known_seen known.now) (comparison_seen comparison.now)) }
+{
+    let Comparison {
+        left,
+        sign,
+        right,
+        first,
+        second,
+        ..
+    } = *comparison;
+    push_beside(out, known, levels, sign.span, first, second, left)?;
+    push_copy(out, sign)?;
+    push_beside(out, known, levels, sign.span, second, first, right)
+}
+
 /// Writes what stands for what begins here, and says what may begin after it, and where that is.
 #[tactic(auto, unfolding(crate::specs::Numbered::step))]
+#[cycle(push_numbered)]
 fn push_step<'t>(
     out: &mut Vec<Token>,
-    known: &[NameUse],
+    known: &KnownNames,
+    levels: usize,
     start: Start,
     tokens: &'t [Token],
 ) -> Result<(Start, &'t [Token]), MomentError>
     requires { length out.old.items ≤ most_tokens }
-    ensures added { Adds result out.old.items out.new.items (step (map use_seen known.now) start tokens.now).0 }
-    ensures next { IfOk result (λ x. x.0 ≡ (step (map use_seen known.now) start tokens.now).1) }
-    ensures rest { IfOk result (λ x. x.1.now ≡ (step (map use_seen known.now) start tokens.now).2) }
+    ensures added { Adds result out.old.items out.new.items (step (numbers_within (known_seen known.now) levels) (known_seen known.now) start tokens.now).0 }
+    ensures next { IfOk result (λ x. x.0 ≡ (step (numbers_within (known_seen known.now) levels) (known_seen known.now) start tokens.now).1) }
+    ensures rest { IfOk result (λ x. x.1.now ≡ (step (numbers_within (known_seen known.now) levels) (known_seen known.now) start tokens.now).2) }
 {
     if let Some(comparison) = compared_at(known, start, tokens) {
-        push_compared(out, &comparison)?;
+        push_compared(out, known, levels, &comparison)?;
         return Ok((Start::Elsewhere, comparison.rest));
     }
     if let Some(item) = item_begun(known, start, tokens) {
-        push_side(out, item.unit, item.operand)?;
+        push_side(out, known, levels, item.unit, item.operand)?;
         return Ok((Start::Elsewhere, item.rest));
     }
     match tokens {
@@ -152,18 +202,27 @@ fn push_step<'t>(
     }
 }
 
-/// Writes tokens with numbers in place of the literals of moments.
-fn walk(out: &mut Vec<Token>, known: &[NameUse], tokens: &[Token]) -> Result<(), MomentError>
+/// Writes tokens with numbers beside what counts their unit. What stands for itself within an operand is followed to so many levels.
+#[cycle(push_numbered)]
+fn push_numbered(
+    out: &mut Vec<Token>,
+    known: &KnownNames,
+    levels: usize,
+    tokens: &[Token],
+) -> Result<(), MomentError>
     requires { length out.old.items ≤ most_tokens }
-    ensures { Adds result out.old.items out.new.items (spec.walked (map use_seen known.now) (length tokens.now) Start.AtSide tokens.now) }
+    ensures { Adds result out.old.items out.new.items (numbers_within (known_seen known.now) levels tokens.now) }
 {
+    if levels == 0 {
+        return push_copies(out, tokens);
+    }
     let mut start = Start::AtSide;
     let mut rest = tokens;
     for _ in 0..tokens.len() {
         if rest.is_empty() {
             return Ok(());
         }
-        let (next, following) = push_step(out, known, start, rest)?;
+        let (next, following) = push_step(out, known, levels - 1, start, rest)?;
         start = next;
         rest = following;
     }
@@ -171,22 +230,71 @@ fn walk(out: &mut Vec<Token>, known: &[NameUse], tokens: &[Token]) -> Result<(),
 }
 
 /// The tokens with numbers beside what counts their unit.
-fn numbered(alloc: Global, known: &[NameUse], tokens: &[Token]) -> Result<Vec<Token>, MomentError>
-    ensures numbered { IfOk result (λ out. out.items ≡ numbers_for (map use_seen known.now) tokens.now) }
+fn numbered(alloc: Global, known: &KnownNames, tokens: &[Token]) -> Result<Vec<Token>, MomentError>
+    ensures numbered { IfOk result (λ out. out.items ≡ numbers_for (known_seen known.now) tokens.now) }
     ensures within { IfOk result (λ out. length out.items ≤ most_tokens) }
-    ensures long { IfErr result (λ e. e ≡ MomentError.TooLong → most_tokens < length (numbers_for (map use_seen known.now) tokens.now)) }
+    ensures long { IfErr result (λ e. e ≡ MomentError.TooLong → most_tokens < length (numbers_for (known_seen known.now) tokens.now)) }
 {
     let mut out = Vec::new(alloc);
-    walk(&mut out, known, tokens)?;
+    push_numbered(&mut out, known, MOST_LEVELS, tokens)?;
     Ok(out)
+}
+
+/// Whether more than 64 brackets are open at once.
+#[tactic(auto, unfolding(crate::specs::Numbered::is_deep))]
+fn is_deep(tokens: &[Token]) -> bool
+    ensures { result ≡ spec.is_deep 0 tokens.now }
+{
+    let mut depth = 0;
+    let mut rest = tokens;
+    while let [first, after @ ..] = rest {
+        if depth > 64 {
+            return true;
+        }
+        depth = depth_after(depth, &first.kind);
+        rest = after;
+    }
+    false
+}
+
+/// Equal tokens, where there are not too many.
+fn unchanged(alloc: Global, tokens: &[Token]) -> Result<Vec<Token>, MomentError>
+    ensures same { IfOk result (λ out. out.items ≡ tokens.now) }
+    ensures within { IfOk result (λ out. length out.items ≤ most_tokens) }
+    ensures long { IfErr result (λ e. e ≡ MomentError.TooLong → most_tokens < length tokens.now) }
+{
+    let mut out = Vec::new(alloc);
+    push_copies(&mut out, tokens)?;
+    Ok(out)
+}
+
+/// The tokens with numbers, and with a word in place of the first operator that has no equation.
+fn numbered_or_worded(
+    alloc: Global,
+    known: &KnownNames,
+    tokens: &[Token],
+) -> Result<Vec<Token>, MomentError>
+    requires { length tokens.now ≤ 9223372036854775806 }
+    ensures numbered { IfOk result (λ out. out.items ≡ numbers_for (known_seen known.now) (with_word (unlike_from (known_seen known.now) 0 true tokens.now) tokens.now)) }
+    ensures within { IfOk result (λ out. length out.items ≤ most_tokens) }
+    ensures long { IfErr result (λ e. e ≡ MomentError.TooLong → most_tokens < length (numbers_for (known_seen known.now) (with_word (unlike_from (known_seen known.now) 0 true tokens.now) tokens.now))) }
+{
+    match first_unlike(known, tokens) {
+        Some(unlike) => {
+            let said = worded(alloc, unlike, tokens)?;
+            numbered(alloc, known, &said)
+        }
+        None => numbered(alloc, known, tokens),
+    }
 }
 
 /// The tokens of a query with numbers in place of the literals of moments, where they are compared with what is known to count the
 /// same unit: days, microseconds of a moment, or microseconds between two moments; and where an operand that counts a moment stands by
-/// itself after SELECT, DISTINCT, BY or a comma. A number has the place of the literal's first word. A number that is compared with a
-/// decimal, or a term of what is, becomes so many units of the decimal's last place. In place of the first operator that has no equation
-/// in whole numbers, as a product of decimals, stands a word that the profile refuses. It refuses with `TooLong` where the result has
-/// more than 65,536 tokens.
+/// itself after SELECT, DISTINCT, BY or a comma, or bounds the frame of such a key. A number has the place of the literal's first word. A
+/// number that is compared with a decimal, or a term of what is or of such an item, becomes so many units of the decimal's last place.
+/// In place of the first operator that has no equation in whole numbers, as a product of decimals, stands a word that the profile
+/// refuses. A query with more than 64 open brackets stays as it is. It refuses with `TooLong` where the result has more than 65,536
+/// tokens.
 #[tactic(auto, unfolding(crate::specs::Numbered::with_numbers))]
 pub fn with_numbers(
     alloc: Global,
@@ -200,12 +308,9 @@ pub fn with_numbers(
     // It is refused as too long only where it would be.
     ensures long { IfErr result (λ e. e ≡ MomentError.TooLong → most_tokens < length (spec.with_numbers statements.now tokens.now)) }
 {
-    let known = uses(alloc, statements, tokens)?;
-    match first_unlike(&known, tokens) {
-        Some(unlike) => {
-            let said = worded(alloc, unlike, tokens)?;
-            numbered(alloc, &known, &said)
-        }
-        None => numbered(alloc, &known, tokens),
+    if is_deep(tokens) {
+        return unchanged(alloc, tokens);
     }
+    let known = known_names(alloc, statements, tokens)?;
+    numbered_or_worded(alloc, &known, tokens)
 }

@@ -1,8 +1,12 @@
-//! Operators between amounts of which no equation in whole numbers is: products and quotients of decimals, and sums and comparisons of
-//! what counts two units. A word stands in place of such an operator, at which the profile refuses the query.
+//! Operators between amounts of which no equation in whole numbers is: products and quotients of decimals, and sums, comparisons, branches
+//! and defaults of what counts two units, or of which it isn't clear what it counts. A word stands in place of such an operator, at which
+//! the profile refuses the query.
+//!
+//! Each operand of a query is gone through once, with what its sum and its product count so far; of a CASE and of a call with a default it
+//! is asked what its values come to. Nothing is built: an operator is found by its place among the tokens.
 
-ghost use Rattle.std.specs.Prelude.{◌≡◌, ◌≤◌, ◌+◌, length, map, true, IfOk};
-ghost use Rattle.wd_amounts.specs.Seen.{use_seen};
+ghost use Rattle.std.specs.Prelude.{◌≡◌, ◌≤◌, ◌+◌, length, true, IfOk};
+ghost use Rattle.wd_amounts.specs.Seen.{known_seen};
 ghost use Rattle.wd_moments.specs.Unlike as spec;
 ghost use Rattle.wd_moments.specs.Unlike.{worded_from};
 
@@ -10,10 +14,13 @@ use crate::comparison::{begins_side, sides_of, sign_at};
 use crate::write::copied;
 use std::alloc::{AllocError, Global};
 use wd_amounts::{
-    NameUse, Stop, Unit, depth_after, is_between_factors, is_comparison, is_number, is_sign,
-    joined, operand_at, part_length, unit_of, unsigned,
+    KnownNames, Stop, Unit, branched, cased, counts_decimal, default_of, depth_after, either,
+    is_between_factors, is_branch, is_case, is_comparison, is_left_bracket, is_number, is_picked,
+    is_sign, is_star, is_unclear, joined, operand_at, part_length, picked_argument, unit_of,
+    unsigned,
 };
-use wd_lex::{Terminal, Token, TokenKind};
+use wd_lex::{Token, TokenKind};
+use wd_operands::{nest_length, primary_length};
 use wd_value::Text;
 
 /// Why an operator is not read.
@@ -43,16 +50,12 @@ pub struct Standing {
     pub depth: usize,
     /// What the sum counts up to the next sign.
     pub sum: Option<Unit>,
-    /// Whether a decimal stands in the product so far.
-    pub has_decimal: bool,
+    /// What the product counts up to the next operator.
+    pub product: Option<Unit>,
     /// Whether a factor begins here, perhaps with a sign of its own.
     pub is_factor: bool,
-}
-
-fn is_decimal(unit: Option<Unit>) -> bool
-    ensures { result ≡ spec.is_decimal unit }
-{
-    matches!(unit, Some(Unit::Decimal(_)))
+    /// Whether the operand has neither texts nor brackets.
+    pub is_simple: bool,
 }
 
 /// Whether it is known what it counts. Of a number that is written that is not asked.
@@ -65,26 +68,76 @@ fn is_known(unit: Option<Unit>) -> bool
     }
 }
 
-/// Whether both are known, and nothing comes of them together.
-fn are_apart(first: Option<Unit>, second: Option<Unit>, together: Option<Unit>) -> bool
-    ensures { result ≡ spec.are_apart first second together }
+fn counts_unclear(unit: Option<Unit>) -> bool
+    ensures { result ≡ spec.counts_unclear unit }
 {
-    match together {
-        Some(_) => false,
-        None => is_known(first) && is_known(second),
+    match unit {
+        Some(unit) => is_unclear(unit),
+        None => false,
     }
 }
 
-/// Whether both are known, and can't be compared.
-fn are_unlike(first: Option<Unit>, second: Option<Unit>) -> bool
-    ensures { result ≡ spec.are_unlike first second }
+/// Whether the one counts a decimal, and of the other it isn't known what it counts.
+fn is_half_known(first: Option<Unit>, second: Option<Unit>) -> bool
+    ensures { result ≡ spec.is_half_known first second }
+{
+    (counts_decimal(first) && second.is_none()) || (first.is_none() && counts_decimal(second))
+}
+
+/// Whether nothing comes of two together, or it isn't clear what.
+fn are_apart(
+    is_simple: bool,
+    first: Option<Unit>,
+    second: Option<Unit>,
+    together: Option<Unit>,
+) -> bool
+    ensures { result ≡ spec.are_apart is_simple first second together }
+{
+    match together {
+        Some(unit) => is_unclear(unit),
+        None => {
+            (is_known(first) && is_known(second)) || (is_simple && is_half_known(first, second))
+        }
+    }
+}
+
+/// Whether two can't be compared.
+fn are_unlike(is_simple: bool, first: Option<Unit>, second: Option<Unit>) -> bool
+    ensures { result ≡ spec.are_unlike is_simple first second }
 {
     match (first, second) {
         (Some(first), Some(second)) => {
-            !is_number(first) && !is_number(second) && sides_of(first, second).is_none()
+            is_unclear(first)
+                || is_unclear(second)
+                || (!is_number(first) && !is_number(second) && sides_of(first, second).is_none())
         }
-        _ => false,
+        _ => is_simple && is_half_known(first, second),
     }
+}
+
+/// Whether it is a text, a bracket or CASE.
+fn opens(kind: &TokenKind) -> bool
+    ensures { result ≡ spec.opens kind.now }
+{
+    match kind {
+        TokenKind::Literal(_) => true,
+        _ => is_left_bracket(kind) || is_case(kind),
+    }
+}
+
+/// Whether neither a text nor a bracket nor CASE stands among tokens.
+#[tactic(auto, unfolding(crate::specs::Unlike::is_simple))]
+fn is_simple(tokens: &[Token]) -> bool
+    ensures { result ≡ spec.is_simple tokens.now }
+{
+    let mut rest = tokens;
+    while let [first, after @ ..] = rest {
+        if opens(&first.kind) {
+            return false;
+        }
+        rest = after;
+    }
+    true
 }
 
 fn clash_if(is_unlike: bool, clash: Clash) -> Option<Clash>
@@ -93,64 +146,97 @@ fn clash_if(is_unlike: bool, clash: Clash) -> Option<Clash>
     if is_unlike { Some(clash) } else { None }
 }
 
-/// What stands between factors, where a decimal is among those before or not, and the next is one or not.
-fn clash_between(kind: &TokenKind, before: bool, next: bool) -> Option<Clash>
-    ensures { result ≡ spec.clash_between kind.now before next }
+/// Whether a decimal is multiplied by what is no number of ones.
+fn has_no_product(
+    is_simple: bool,
+    before: Option<Unit>,
+    next: Option<Unit>,
+    together: Option<Unit>,
+) -> bool
+    ensures { result ≡ spec.has_no_product is_simple before next together }
 {
-    match kind {
-        TokenKind::Terminal(Terminal::Star) => clash_if(before && next, Clash::Product),
-        _ => clash_if(before || next, Clash::Quotient),
+    (counts_decimal(before) || counts_decimal(next))
+        && together.is_none()
+        && ((is_known(before) && is_known(next)) || (is_simple && is_half_known(before, next)))
+}
+
+/// What stands between the product of the factors before and the next one.
+fn clash_between(
+    is_simple: bool,
+    kind: &TokenKind,
+    before: Option<Unit>,
+    next: Option<Unit>,
+) -> Option<Clash>
+    ensures { result ≡ spec.clash_between is_simple kind.now before next }
+{
+    if !is_star(kind) {
+        clash_if(
+            counts_decimal(before) || counts_decimal(next),
+            Clash::Quotient,
+        )
+    } else if counts_decimal(before) && counts_decimal(next) {
+        Some(Clash::Product)
+    } else {
+        clash_if(
+            has_no_product(is_simple, before, next, joined(kind, before, next)),
+            Clash::Units,
+        )
     }
 }
 
 /// What the term at the start counts.
 #[tactic(auto, unfolding(crate::specs::Unlike::term_ahead))]
-fn term_ahead(known: &[NameUse], tokens: &[Token]) -> Option<Unit>
-    ensures { result ≡ spec.term_ahead (map use_seen known.now) tokens.now }
+fn term_ahead(known: &KnownNames, tokens: &[Token]) -> Option<Unit>
+    ensures { result ≡ spec.term_ahead (known_seen known.now) tokens.now }
 {
     let (term, _) = tokens.split_at(part_length(Stop::Sign, tokens));
     unit_of(known, term)
 }
 
-/// Whether the factor at the start, perhaps with a sign of its own, is a decimal.
+/// What the factor at the start counts, perhaps with a sign of its own.
 #[tactic(auto, unfolding(crate::specs::Unlike::factor_ahead))]
-fn factor_ahead(known: &[NameUse], tokens: &[Token]) -> bool
-    ensures { result ≡ spec.factor_ahead (map use_seen known.now) tokens.now }
+fn factor_ahead(known: &KnownNames, tokens: &[Token]) -> Option<Unit>
+    ensures { result ≡ spec.factor_ahead (known_seen known.now) tokens.now }
 {
     let tokens = unsigned(tokens);
     let (factor, _) = tokens.split_at(part_length(Stop::Operator, tokens));
-    is_decimal(unit_of(known, factor))
+    unit_of(known, factor)
 }
 
 /// Why an operator outside brackets is not read; these tokens follow it.
 fn clash_at_operator(
-    known: &[NameUse],
+    known: &KnownNames,
     here: Standing,
     kind: &TokenKind,
     tokens: &[Token],
 ) -> Option<Clash>
-    ensures { result ≡ spec.clash_at_operator (map use_seen known.now) here kind.now tokens.now }
+    ensures { result ≡ spec.clash_at_operator (known_seen known.now) here kind.now tokens.now }
 {
     if is_sign(kind) && !here.is_factor {
         let next = term_ahead(known, tokens);
         clash_if(
-            are_apart(here.sum, next, joined(kind, here.sum, next)),
+            are_apart(here.is_simple, here.sum, next, joined(kind, here.sum, next)),
             Clash::Units,
         )
     } else if is_between_factors(kind) {
-        clash_between(kind, here.has_decimal, factor_ahead(known, tokens))
+        clash_between(
+            here.is_simple,
+            kind,
+            here.product,
+            factor_ahead(known, tokens),
+        )
     } else {
         None
     }
 }
 
 fn clash_here(
-    known: &[NameUse],
+    known: &KnownNames,
     here: Standing,
     kind: &TokenKind,
     tokens: &[Token],
 ) -> Option<Clash>
-    ensures { result ≡ spec.clash_here (map use_seen known.now) here kind.now tokens.now }
+    ensures { result ≡ spec.clash_here (known_seen known.now) here kind.now tokens.now }
 {
     if here.depth == 0 {
         clash_at_operator(known, here, kind, tokens)
@@ -160,10 +246,10 @@ fn clash_here(
 }
 
 /// Where the token after this one stands, with which these tokens begin.
-fn stands_after(known: &[NameUse], here: Standing, kind: &TokenKind, tokens: &[Token]) -> Standing
+fn stands_after(known: &KnownNames, here: Standing, kind: &TokenKind, tokens: &[Token]) -> Standing
     requires shallow { here.depth ≤ 9223372036854775807 }
     requires room { here.place ≤ 9223372036854775807 }
-    ensures value { result ≡ spec.stands_after (map use_seen known.now) here kind.now tokens.now }
+    ensures value { result ≡ spec.stands_after (known_seen known.now) here kind.now tokens.now }
     ensures place { result.place ≡ here.place + 1 }
     ensures within { result.depth ≤ here.depth + 1 }
 {
@@ -173,40 +259,44 @@ fn stands_after(known: &[NameUse], here: Standing, kind: &TokenKind, tokens: &[T
             place,
             depth: 0,
             sum: joined(kind, here.sum, term_ahead(known, tokens)),
-            has_decimal: factor_ahead(known, tokens),
+            product: factor_ahead(known, tokens),
             is_factor: false,
+            is_simple: here.is_simple,
         }
     } else if here.depth == 0 && is_between_factors(kind) {
         Standing {
             place,
             depth: 0,
             sum: here.sum,
-            has_decimal: here.has_decimal || factor_ahead(known, tokens),
+            product: joined(kind, here.product, factor_ahead(known, tokens)),
             is_factor: true,
+            is_simple: here.is_simple,
         }
     } else {
         Standing {
             place,
             depth: depth_after(here.depth, kind),
             sum: here.sum,
-            has_decimal: here.has_decimal,
+            product: here.product,
             is_factor: false,
+            is_simple: here.is_simple,
         }
     }
 }
 
 /// The first such operator of an operand, before which so many tokens stand.
 #[tactic(auto, unfolding(crate::specs::Unlike::operand_clash, crate::specs::Unlike::clash_from))]
-fn operand_clash(known: &[NameUse], count: usize, tokens: &[Token]) -> Option<Unlike>
+fn operand_clash(known: &KnownNames, count: usize, tokens: &[Token]) -> Option<Unlike>
     requires { count + length tokens.now ≤ 9223372036854775807 }
-    ensures { result ≡ spec.operand_clash (map use_seen known.now) count tokens.now }
+    ensures { result ≡ spec.operand_clash (known_seen known.now) count tokens.now }
 {
     let mut here = Standing {
         place: count,
         depth: 0,
         sum: term_ahead(known, tokens),
-        has_decimal: factor_ahead(known, tokens),
+        product: factor_ahead(known, tokens),
         is_factor: false,
+        is_simple: is_simple(tokens),
     };
     let mut rest = tokens;
     while let [first, after @ ..] = rest {
@@ -223,11 +313,15 @@ fn operand_clash(known: &[NameUse], count: usize, tokens: &[Token]) -> Option<Un
 }
 
 /// The sign of a comparison whose sides count two units, where so many tokens stand before its left side.
-fn unlike_sides(known: &[NameUse], count: usize, left: &[Token], right: &[Token]) -> Option<Unlike>
+fn unlike_sides(known: &KnownNames, count: usize, left: &[Token], right: &[Token]) -> Option<Unlike>
     requires { count + length left.now ≤ 9223372036854775807 }
-    ensures { result ≡ spec.unlike_sides (map use_seen known.now) count left.now right.now }
+    ensures { result ≡ spec.unlike_sides (known_seen known.now) count left.now right.now }
 {
-    if are_unlike(unit_of(known, left), unit_of(known, right)) {
+    if are_unlike(
+        is_simple(left) && is_simple(right),
+        unit_of(known, left),
+        unit_of(known, right),
+    ) {
         Some(Unlike {
             place: count + left.len(),
             clash: Clash::Units,
@@ -237,16 +331,16 @@ fn unlike_sides(known: &[NameUse], count: usize, left: &[Token], right: &[Token]
     }
 }
 
-/// The same of a left side and the tokens after it.
+/// The sign of the comparison of a left side and the tokens after it, where its sides count two units.
 #[tactic(auto, unfolding(crate::specs::Unlike::comparison_clash))]
 fn comparison_clash(
-    known: &[NameUse],
+    known: &KnownNames,
     count: usize,
     left: &[Token],
     tokens: &[Token],
 ) -> Option<Unlike>
     requires { count + length left.now ≤ 9223372036854775807 }
-    ensures { result ≡ spec.comparison_clash (map use_seen known.now) count left.now tokens.now }
+    ensures { result ≡ spec.comparison_clash (known_seen known.now) count left.now tokens.now }
 {
     let Some((_, rest)) = sign_at(tokens) else {
         return None;
@@ -259,9 +353,9 @@ fn comparison_clash(
 
 /// The first such operator of the operand at the start, or else the sign of the comparison that it begins.
 #[tactic(auto, unfolding(crate::specs::Unlike::clash_at))]
-fn clash_at(known: &[NameUse], count: usize, tokens: &[Token]) -> Option<Unlike>
+fn clash_at(known: &KnownNames, count: usize, tokens: &[Token]) -> Option<Unlike>
     requires { count + length tokens.now ≤ 9223372036854775807 }
-    ensures { result ≡ spec.clash_at (map use_seen known.now) count tokens.now }
+    ensures { result ≡ spec.clash_at (known_seen known.now) count tokens.now }
 {
     let Some((left, rest)) = operand_at(tokens) else {
         return None;
@@ -272,6 +366,100 @@ fn clash_at(known: &[NameUse], count: usize, tokens: &[Token]) -> Option<Unlike>
     }
 }
 
+/// What the value or the condition at the start counts.
+#[tactic(auto, unfolding(crate::specs::Unlike::branch_ahead))]
+fn branch_ahead(known: &KnownNames, tokens: &[Token]) -> Option<Unit>
+    ensures { result ≡ spec.branch_ahead (known_seen known.now) tokens.now }
+{
+    let (branch, _) = tokens.split_at(part_length(Stop::Branch, tokens));
+    unit_of(known, branch)
+}
+
+/// What the values of a CASE count up to the next branch.
+fn unit_after(
+    known: &KnownNames,
+    depth: usize,
+    unit: Option<Unit>,
+    kind: &TokenKind,
+    tokens: &[Token],
+) -> Option<Unit>
+    ensures { result ≡ spec.unit_after (known_seen known.now) depth unit kind.now tokens.now }
+{
+    if depth == 0 && is_branch(kind) {
+        branched(kind, unit, branch_ahead(known, tokens))
+    } else {
+        unit
+    }
+}
+
+/// The first THEN or ELSE after which it isn't clear what the values of a CASE count; this stands between CASE and its END, and so many
+/// tokens stand before it.
+#[tactic(auto, unfolding(crate::specs::Unlike::branch_from))]
+fn branches_clash(known: &KnownNames, count: usize, inside: &[Token]) -> Option<Unlike>
+    requires { count + length inside.now ≤ 9223372036854775807 }
+    ensures { result ≡ spec.branches_clash (known_seen known.now) count inside.now }
+{
+    let mut place = count;
+    let mut depth = 0;
+    let mut unit = Some(Unit::Number(0));
+    let mut rest = inside;
+    while let [first, after @ ..] = rest {
+        unit = unit_after(known, depth, unit, &first.kind, after);
+        if counts_unclear(unit) {
+            return Some(Unlike {
+                place,
+                clash: Clash::Units,
+            });
+        }
+        depth = depth_after(depth, &first.kind);
+        place += 1;
+        rest = after;
+    }
+    None
+}
+
+/// The branch of the CASE at the start, before which so many tokens stand, after which it isn't clear what its values count.
+#[tactic(auto, unfolding(crate::specs::Unlike::case_clash))]
+fn case_clash(known: &KnownNames, count: usize, tokens: &[Token]) -> Option<Unlike>
+    requires { count + 1 + length tokens.now ≤ 9223372036854775807 }
+    ensures { result ≡ spec.case_clash (known_seen known.now) count tokens.now }
+{
+    let (whole, _) = tokens.split_at(nest_length(tokens));
+    match cased(whole) {
+        Some(inside) => branches_clash(known, count + 1, inside),
+        None => None,
+    }
+}
+
+/// Whether it isn't clear what a value or its default counts.
+fn is_mixed(known: &KnownNames, value: &[Token], default: &[Token]) -> bool
+    ensures { result ≡ spec.is_mixed (known_seen known.now) value.now default.now }
+{
+    !default.is_empty() && counts_unclear(either(unit_of(known, value), unit_of(known, default)))
+}
+
+/// The name of a call with such a default.
+fn call_clash(known: &KnownNames, count: usize, call: &[Token]) -> Option<Unlike>
+    ensures { result ≡ spec.call_clash (known_seen known.now) count call.now }
+{
+    match picked_argument(call) {
+        Some(value) if is_mixed(known, value, default_of(call)) => Some(Unlike {
+            place: count,
+            clash: Clash::Units,
+        }),
+        _ => None,
+    }
+}
+
+/// The name of the call at the start, before which so many tokens stand, where it has such a default.
+#[tactic(auto, unfolding(crate::specs::Unlike::default_clash))]
+fn default_clash(known: &KnownNames, count: usize, tokens: &[Token]) -> Option<Unlike>
+    ensures { result ≡ spec.default_clash (known_seen known.now) count tokens.now }
+{
+    let (call, _) = tokens.split_at(primary_length(tokens));
+    call_clash(known, count, call)
+}
+
 /// Whether an operand may begin after a token.
 fn begins_operand(kind: &TokenKind) -> bool
     ensures { result ≡ spec.begins_operand kind.now }
@@ -280,9 +468,9 @@ fn begins_operand(kind: &TokenKind) -> bool
 }
 
 /// The operator that is not read in what begins here, where an operand may.
-fn clash_begun(known: &[NameUse], count: usize, begins: bool, tokens: &[Token]) -> Option<Unlike>
+fn clash_begun(known: &KnownNames, count: usize, begins: bool, tokens: &[Token]) -> Option<Unlike>
     requires { count + length tokens.now ≤ 9223372036854775807 }
-    ensures { result ≡ spec.clash_begun (map use_seen known.now) count begins tokens.now }
+    ensures { result ≡ spec.clash_begun (known_seen known.now) count begins tokens.now }
 {
     if begins {
         clash_at(known, count, tokens)
@@ -291,16 +479,52 @@ fn clash_begun(known: &[NameUse], count: usize, begins: bool, tokens: &[Token]) 
     }
 }
 
+/// The branch of the CASE at the start, or the call, that is not read.
+fn clash_within(
+    known: &KnownNames,
+    count: usize,
+    kind: &TokenKind,
+    tokens: &[Token],
+) -> Option<Unlike>
+    requires { count + 1 + length tokens.now ≤ 9223372036854775807 }
+    ensures { result ≡ spec.clash_within (known_seen known.now) count kind.now tokens.now }
+{
+    if is_case(kind) {
+        case_clash(known, count, tokens)
+    } else if is_picked(kind) {
+        default_clash(known, count, tokens)
+    } else {
+        None
+    }
+}
+
+/// What is not read at the start, where so many tokens stand before, and an operand may begin or not.
+fn clash_first(
+    known: &KnownNames,
+    count: usize,
+    begins: bool,
+    kind: &TokenKind,
+    tokens: &[Token],
+) -> Option<Unlike>
+    requires { count + 1 + length tokens.now ≤ 9223372036854775807 }
+    ensures { result ≡ spec.clash_first (known_seen known.now) count begins kind.now tokens.now }
+{
+    match clash_begun(known, count, begins, tokens) {
+        Some(unlike) => Some(unlike),
+        None => clash_within(known, count, kind, tokens),
+    }
+}
+
 /// The first operator of a query that is not read.
 #[tactic(auto, unfolding(crate::specs::Unlike::unlike_from))]
-pub fn first_unlike(known: &[NameUse], tokens: &[Token]) -> Option<Unlike>
-    ensures { result ≡ spec.unlike_from (map use_seen known.now) 0 true tokens.now }
+pub fn first_unlike(known: &KnownNames, tokens: &[Token]) -> Option<Unlike>
+    ensures { result ≡ spec.unlike_from (known_seen known.now) 0 true tokens.now }
 {
     let mut count = 0;
     let mut begins = true;
     let mut rest = tokens;
     while let [first, after @ ..] = rest {
-        if let Some(unlike) = clash_begun(known, count, begins, rest) {
+        if let Some(unlike) = clash_first(known, count, begins, &first.kind, rest) {
             return Some(unlike);
         }
         count += 1;

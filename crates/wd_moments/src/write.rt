@@ -71,3 +71,16 @@ pub fn push_copy(out: &mut Vec<Token>, token: &Token) -> Result<(), MomentError>
     let own = copied(token)?;
     push(out, own)
 }
+
+/// Adds equal tokens.
+pub fn push_copies(out: &mut Vec<Token>, tokens: &[Token]) -> Result<(), MomentError>
+    requires { length out.old.items ≤ most_tokens }
+    ensures { Adds result out.old.items out.new.items tokens.now }
+{
+    let mut rest = tokens;
+    while let [first, after @ ..] = rest {
+        push_copy(out, first)?;
+        rest = after;
+    }
+    Ok(())
+}

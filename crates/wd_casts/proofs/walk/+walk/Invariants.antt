@@ -1,5 +1,5 @@
-use Rattle.std.proofs.Common.{◌≡◌, ◌+◌, ◌-◌, ◌*◌, ◌++◌, map}
-use Rattle.wd_casts.specs.Seen.{use_seen}
+use Rattle.std.proofs.Common.{◌≡◌, ◌+◌, ◌-◌, ◌*◌, ◌++◌}
+use Rattle.wd_casts.specs.Seen.{kinds_seen}
 use Rattle.wd_casts.specs.Walked.{walked}
 use Rattle.wd_casts.proofs.walk.+walk.Given as goal
 
@@ -13,4 +13,4 @@ abbrev pub decreases-step : goal.decreases-step
 decreases-step l = 3 * l.turns + 2
 
 abbrev pub invariant-walk-loop-turn : goal.invariant-walk-loop-turn
-invariant-walk-loop-turn l = l.written.items ++ walked (map use_seen l.names) (l.turns - l.turn) l.begins l.rest ≡ l.initial.written.items ++ walked (map use_seen l.names) l.turns l.fn.from l.tokens
+invariant-walk-loop-turn l = l.written.items ++ walked (kinds_seen l.kinds) (l.turns - l.turn) l.begins l.rest ≡ l.initial.written.items ++ walked (kinds_seen l.kinds) l.turns l.fn.from l.tokens

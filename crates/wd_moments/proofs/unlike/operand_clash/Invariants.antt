@@ -1,11 +1,11 @@
-use Rattle.std.proofs.Common.{◌≡◌, ◌+◌, ◌≤◌, length, map}
-use Rattle.wd_amounts.specs.Seen.{use_seen}
+use Rattle.std.proofs.Common.{◌≡◌, ◌+◌, ◌≤◌, length}
+use Rattle.wd_amounts.specs.Seen.{known_seen}
 use Rattle.wd_moments.specs.Unlike.{clash_from, operand_clash}
 use Rattle.wd_moments.proofs.unlike.operand_clash.Given as goal
 
 abbrev pub invariant-loop-rest : goal.invariant-loop-rest
 invariant-loop-rest l = record {
-  clash : clash_from (map use_seen l.known) l.here l.rest ≡ operand_clash (map use_seen l.known) l.count l.fn.tokens;
+  clash : clash_from (known_seen l.known) l.here l.rest ≡ operand_clash (known_seen l.known) l.count l.fn.tokens;
   placed : l.here.place + length l.rest ≡ l.count + length l.fn.tokens;
   shallow : l.here.depth ≤ l.here.place;
 }

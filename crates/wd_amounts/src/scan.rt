@@ -1,0 +1,233 @@
+//! The names that a query gives in so many brackets, each with what it counts: an item's name counts what the item's operand does, the name
+//! of a call what the call does, and of other names, as those of tables, it isn't known. The operand of an item is measured where it
+//! begins; its tokens are counted off, and a name right after them is the item's.
+
+ghost use Rattle.std.specs.Prelude.{◌≡◌, ◌++◌, ◌+◌, ◌≤◌, map, IfOk};
+ghost use Rattle.wd_amounts.specs.Names as spec;
+ghost use Rattle.wd_amounts.specs.Names.{found_at, given_at, is_at, is_awaited, text_if, unit_awaited, use_first, use_here, uses_of};
+ghost use Rattle.wd_amounts.specs.Seen.{known_seen, use_seen};
+ghost use Rattle.wd_amounts.specs.Terms.{unit_of};
+
+use crate::known::KnownNames;
+use crate::names::{ends_operand, name_text};
+use crate::operand::unit_of;
+use crate::token::{begins_bracket, begins_item, depth_after, is_as};
+use crate::unit::{Unit, as_value};
+use std::alloc::Global;
+use wd_lex::{Token, TokenKind};
+use wd_operands::{operand_length, primary_length};
+use wd_value::OutOfMemory;
+
+/// A use of a name, and what it counts there, where that is known.
+#[derive(Clone, Copy)]
+pub struct NameUse<'t> {
+    pub name: &'t str,
+    pub unit: Option<Unit>,
+}
+
+/// The operand of an item: how many of its tokens are to come, and what its values count.
+#[derive(Clone, Copy)]
+pub struct Awaited {
+    pub tokens: usize,
+    pub unit: Option<Unit>,
+}
+
+/// Where a token of a query stands.
+#[derive(Clone, Copy)]
+pub struct Scan {
+    /// How many brackets are open.
+    pub depth: usize,
+    /// Whether a name here is an alias.
+    pub is_alias: bool,
+    /// Whether an item begins here.
+    pub begins: bool,
+    /// The operand of the last item that has begun, until the tokens after it are no name.
+    pub awaited: Option<Awaited>,
+}
+
+/// The operand at the start of an item.
+fn begun(known: &KnownNames, tokens: &[Token]) -> Option<Awaited>
+    ensures { result ≡ spec.begun (unit_of (known_seen known.now)) tokens.now }
+{
+    let length = operand_length(tokens);
+    if length == 0 {
+        return None;
+    }
+    let (operand, _) = tokens.split_at(length);
+    Some(Awaited {
+        tokens: length,
+        unit: as_value(unit_of(known, operand)),
+    })
+}
+
+fn level_of(depth: usize) -> usize
+    ensures { result ≡ spec.level_of depth }
+{
+    if depth < 64 { depth } else { 64 }
+}
+
+/// Whether a token stands in so many brackets.
+fn is_at(level: usize, here: Scan) -> bool
+    ensures { result ≡ is_at level here }
+{
+    level_of(here.depth) == level
+}
+
+/// The operand of the item that begins here, or of the last one.
+fn found_at(known: &KnownNames, level: usize, here: Scan, tokens: &[Token]) -> Option<Awaited>
+    ensures { result ≡ found_at (unit_of (known_seen known.now)) level here tokens.now }
+{
+    if is_at(level, here) && here.begins {
+        begun(known, tokens)
+    } else {
+        here.awaited
+    }
+}
+
+/// What is awaited after a token.
+fn awaited_after(kind: &TokenKind, found: Option<Awaited>) -> Option<Awaited>
+    ensures { result ≡ spec.awaited_after kind.now found }
+{
+    let Awaited { tokens, unit } = found?;
+    if tokens > 0 {
+        let tokens = tokens - 1;
+        Some(Awaited { tokens, unit })
+    } else if is_as(kind) {
+        found
+    } else {
+        None
+    }
+}
+
+/// Whether an operand has ended right before.
+fn is_awaited(found: Option<Awaited>) -> bool
+    ensures { result ≡ is_awaited found }
+{
+    match found {
+        Some(found) => found.tokens == 0,
+        None => false,
+    }
+}
+
+fn unit_awaited(found: Option<Awaited>) -> Option<Unit>
+    ensures { result ≡ unit_awaited found }
+{
+    match found {
+        Some(found) => found.unit,
+        None => None,
+    }
+}
+
+/// Adds a name that counts this.
+fn push_use<'t>(
+    uses: &mut Vec<NameUse<'t>>,
+    is_given: bool,
+    kind: &'t TokenKind,
+    unit: Option<Unit>,
+) -> Result<(), OutOfMemory>
+    ensures { IfOk result (λ _. map use_seen uses.new.items ≡ map use_seen uses.old.items ++ uses_of unit (text_if is_given kind.now)) }
+{
+    if is_given {
+        if let Some(name) = name_text(kind) {
+            uses.push(NameUse { name, unit })?;
+        }
+    }
+    Ok(())
+}
+
+/// What the call at the start counts.
+fn call_unit(known: &KnownNames, tokens: &[Token]) -> Option<Unit>
+    ensures { result ≡ spec.call_unit (unit_of (known_seen known.now)) tokens.now }
+{
+    let (call, _) = tokens.split_at(primary_length(tokens));
+    as_value(unit_of(known, call))
+}
+
+/// Adds the name that the first token gives.
+#[tactic(auto, unfolding(crate::specs::Names::use_first))]
+fn push_first<'t>(
+    uses: &mut Vec<NameUse<'t>>,
+    known: &KnownNames,
+    is_alias: bool,
+    found: Option<Awaited>,
+    tokens: &'t [Token],
+) -> Result<(), OutOfMemory>
+    ensures { IfOk result (λ _. map use_seen uses.new.items ≡ map use_seen uses.old.items ++ use_first (unit_of (known_seen known.now)) is_alias found tokens.now) }
+{
+    let [first, after @ ..] = tokens else {
+        return Ok(());
+    };
+    if is_awaited(found) {
+        push_use(uses, true, &first.kind, unit_awaited(found))
+    } else if begins_bracket(after) {
+        push_use(uses, true, &first.kind, call_unit(known, tokens))
+    } else {
+        push_use(uses, is_alias, &first.kind, None)
+    }
+}
+
+/// Adds the name that the first token gives, where it stands in so many brackets.
+fn push_here<'t>(
+    uses: &mut Vec<NameUse<'t>>,
+    known: &KnownNames,
+    is_here: bool,
+    is_alias: bool,
+    found: Option<Awaited>,
+    tokens: &'t [Token],
+) -> Result<(), OutOfMemory>
+    ensures { IfOk result (λ _. map use_seen uses.new.items ≡ map use_seen uses.old.items ++ use_here (unit_of (known_seen known.now)) is_here is_alias found tokens.now) }
+{
+    if is_here {
+        push_first(uses, known, is_alias, found, tokens)
+    } else {
+        Ok(())
+    }
+}
+
+/// Where the token after this one stands.
+fn scan_after(kind: &TokenKind, depth: usize, found: Option<Awaited>) -> Scan
+    requires { depth ≤ 9223372036854775807 }
+    ensures value { result ≡ spec.scan_after kind.now depth found }
+    ensures within { result.depth ≤ depth + 1 }
+{
+    Scan {
+        depth: depth_after(depth, kind),
+        is_alias: ends_operand(kind),
+        begins: begins_item(kind),
+        awaited: awaited_after(kind, found),
+    }
+}
+
+/// The names that are given in so many brackets, where names are known to count so much.
+#[tactic(auto, unfolding(crate::specs::Names::given_from))]
+pub(crate) fn given_at<'t>(
+    alloc: Global,
+    known: &KnownNames,
+    level: usize,
+    tokens: &'t [Token],
+) -> Result<Vec<NameUse<'t>>, OutOfMemory>
+    ensures { IfOk result (λ found. map use_seen found.items ≡ given_at (unit_of (known_seen known.now)) level tokens.now) }
+{
+    let mut uses = Vec::new(alloc);
+    let mut here = Scan {
+        depth: 0,
+        is_alias: false,
+        begins: false,
+        awaited: None,
+    };
+    let mut rest = tokens;
+    while let [first, after @ ..] = rest {
+        let found = found_at(known, level, here, rest);
+        push_here(
+            &mut uses,
+            known,
+            is_at(level, here),
+            here.is_alias,
+            found,
+            rest,
+        )?;
+        here = scan_after(&first.kind, here.depth, found);
+        rest = after;
+    }
+    Ok(uses)
+}
