@@ -10,14 +10,9 @@ are is printed, and at least half must be read. `--show` prints each query as it
 'N passed, M failed'. `--installed` only ends with status 0 where PostgreSQL 15 or a later one is installed, and else with 3.
 """
 
-import argparse
-import glob
-import os
-import random
-import re
-import subprocess
 import sys
-import tempfile
+
+import postgres
 
 TYPES = {"total": "numeric(10, 2)", "paid": "numeric(10, 2)", "rate": "numeric(10, 4)", "qty": "integer", "d": "date", "t": "timestamp"}
 SCHEMA = f"CREATE TABLE o (id BIGINT PRIMARY KEY, {', '.join(f'{name} {kind}' for name, kind in TYPES.items())});\n"
@@ -153,78 +148,12 @@ class Queries:
         return f"SELECT qty AS id FROM o WHERE qty IS NOT NULL GROUP BY qty HAVING {call} {sign} {self.number(places)}"
 
 
-class Server:
-    """A server of PostgreSQL of its own, with both tables."""
-
-    def __init__(self, folder, bin):
-        self.folder, self.bin = folder, bin
-        os.chmod(folder, 0o777)
-        self.as_user = ["setpriv", "--reuid=65534", "--regid=65534", "--clear-groups"] if os.getuid() == 0 else []
-        self.run("initdb", "-D", f"{folder}/data", "-A", "trust", "-U", "postgres")
-        self.run("pg_ctl", "-D", f"{folder}/data", "-w", "-l", f"{folder}/log", "-o", f"-k {folder} -c listen_addresses= -c fsync=off", "start")
-
-    def run(self, name, *words):
-        subprocess.run([*self.as_user, f"{self.bin}/{name}", *words], check=True, stdout=subprocess.DEVNULL, stderr=subprocess.DEVNULL)
-
-    def stop(self):
-        self.run("pg_ctl", "-D", f"{self.folder}/data", "-m", "immediate", "stop")
-
-    def ask(self, text):
-        """What each statement prints, or the first error."""
-        ran = subprocess.run(["psql", "-X", "-h", self.folder, "-U", "postgres", "-qAt", "-f", "-"], input=text, capture_output=True, text=True)
-        return ran.stdout, ran.stderr
-
-
-def respelled(program, folder, query):
-    """The query as WDREPORT respells it, or None where it does not read it."""
-    with open(f"{folder}/q.sql", "w", encoding="utf-8") as file:
-        file.write(query)
-    judged = subprocess.run([program, "q.sql"], cwd=folder, capture_output=True, text=True)
-    if judged.returncode not in (0, 1):
-        return None
-    shown = subprocess.run([program, "--show-respelled", "q.sql"], cwd=folder, capture_output=True, text=True).stdout
-    return " ".join(shown.split("-- q.sql")[1].split()) if "-- q.sql" in shown else query
-
-
-def main():
-    words = argparse.ArgumentParser()
-    words.add_argument("program", nargs="?", default="crates/wdreport/out/wdreport")
-    words.add_argument("--installed", action="store_true")
-    words.add_argument("--number", type=int, default=400)
-    words.add_argument("--seed", type=int, default=1)
-    words.add_argument("--show", action="store_true")
-    asked = words.parse_args()
-    bins = [path.removesuffix("/initdb") for path in glob.glob("/usr/lib/postgresql/*/bin/initdb")]
-    bins = [it for it in bins if it.split("/")[4].isdigit() and int(it.split("/")[4]) >= 15]
-    if asked.installed or not bins:
-        return 0 if bins else 3
-    draw, program = random.Random(asked.seed), os.path.abspath(asked.program)
-    with tempfile.TemporaryDirectory() as folder, tempfile.TemporaryDirectory() as work:
-        server = Server(folder, max(bins, key=lambda it: int(it.split("/")[4])))
-        try:
-            rows = ", ".join(f"({number + 1}, {', '.join(value(draw, name) for name in TYPES)})" for number in range(ROWS))
-            whole = ", ".join(f"({it})::bigint AS {name}" for name, it in WHOLE.items())
-            server.ask(f"{SCHEMA} INSERT INTO o VALUES {rows}; CREATE SCHEMA whole; CREATE TABLE whole.o AS SELECT id, {whole} FROM o;")
-            with open(f"{work}/schema.sql", "w", encoding="utf-8") as file:
-                file.write(SCHEMA)
-            drawn = [Queries(draw).query() for _ in range(asked.number)]
-            pairs = [(query, respelled(program, work, query)) for query in drawn]
-            read = [(query, other) for query, other in pairs if other is not None]
-            passed = failed = some = 0
-            for query, other in read:
-                ask = lambda path, text: server.ask(f"SET search_path = {path}; SELECT id FROM ({text}) AS answer ORDER BY id;")
-                first, second = ask("public", query), ask("whole", other)
-                same = first == second and not first[1]
-                passed, failed, some = passed + same, failed + (not same), some + bool(first[0].strip())
-                if asked.show or not same:
-                    print(f"{'same' if same else 'DIFFERS'}: {query}\n  {other}\n  {first if not same else ''} {second if not same else ''}")
-        finally:
-            server.stop()
-    print(f"{asked.number} queries, {len(read)} read; {some} answers have rows")
-    enough = 2 * len(read) >= asked.number
-    print(f"{passed + enough} passed, {failed + (not enough)} failed")
-    return 1 if failed or not enough else 0
+def tables(draw):
+    """The statements that make and fill both tables."""
+    rows = ", ".join(f"({number + 1}, {', '.join(value(draw, name) for name in TYPES)})" for number in range(ROWS))
+    whole = ", ".join(f"({it})::bigint AS {name}" for name, it in WHOLE.items())
+    return f"{SCHEMA} INSERT INTO o VALUES {rows}; CREATE SCHEMA whole; CREATE TABLE whole.o AS SELECT id, {whole} FROM o;"
 
 
 if __name__ == "__main__":
-    sys.exit(main())
+    sys.exit(postgres.main(SCHEMA, tables, lambda draw: Queries(draw).query(), ("SET search_path = public;", "SET search_path = whole;")))
