@@ -37,6 +37,19 @@ class Server:
         return sorted(ran.stdout.splitlines()), ran.stderr
 
 
+def starts():
+    """Whether a server starts here."""
+    if not folder_of_programs():
+        return False
+    try:
+        with tempfile.TemporaryDirectory() as folder:
+            Server(folder).stop()
+        return True
+    except (OSError, subprocess.CalledProcessError) as error:
+        print(f"no server of PostgreSQL starts here, so it is asked nothing: {error}")
+        return False
+
+
 def respelled(program, folder, query):
     """The query as the program respells it, or None where it does not read it."""
     with open(f"{folder}/q.sql", "w", encoding="utf-8") as file:
@@ -68,8 +81,8 @@ def main(schema, tables, draws, before):
     words.add_argument("--show", action="store_true")
     words.add_argument("--installed", action="store_true")
     asked = words.parse_args()
-    if asked.installed or not folder_of_programs():
-        return 0 if folder_of_programs() else 3
+    if asked.installed:
+        return 0 if starts() else 3
     draw, program = random.Random(asked.seed), os.path.abspath(asked.program)
     with tempfile.TemporaryDirectory() as folder, tempfile.TemporaryDirectory() as work:
         server = Server(folder)

@@ -6,10 +6,12 @@
 Draws N (400) queries in PostgreSQL's usual SQL, each of which has one answer, and has WDREPORT respell them. PostgreSQL answers each as it
 was drawn and as it is respelled, over the same tables; both answers must have the same rows. A query that WDREPORT does not read is left
 out; how many these are is printed, and at least half must be read. `--show` prints each query as it was drawn and as it is respelled. The
-last line is 'N passed, M failed'. `--installed` only ends with status 0 where PostgreSQL 15 or a later one is installed, and else with 3.
+last line is 'N passed, M failed'. `--installed` only ends with status 0 where a server of PostgreSQL 15 or later starts, and else with 3.
 """
 
 import sys
+
+sys.dont_write_bytecode = True
 
 import postgres
 

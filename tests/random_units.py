@@ -7,10 +7,12 @@ Draws N (400) queries over a table with decimals of two scales, a date and a tim
 each twice: as it was drawn over a table of these types, and as it is respelled over a table of whole numbers, which holds units of the
 last places, days and microseconds. Both answers must have the same rows. A query that WDREPORT does not read is left out; how many these
 are is printed, and at least half must be read. `--show` prints each query as it was drawn and as it is respelled. The last line is
-'N passed, M failed'. `--installed` only ends with status 0 where PostgreSQL 15 or a later one is installed, and else with 3.
+'N passed, M failed'. `--installed` only ends with status 0 where a server of PostgreSQL 15 or later starts, and else with 3.
 """
 
 import sys
+
+sys.dont_write_bytecode = True
 
 import postgres
 
