@@ -129,7 +129,7 @@ class Queries:
 
     def query(self):
         places = self.draw.choice([2, 2, 4])
-        return self.one_of(lambda: self.plain(), lambda: self.derived(places), lambda: self.derived(places), lambda: self.grouped(places))
+        return self.one_of(self.plain, *[lambda: self.derived(places)] * 3, lambda: self.grouped(places), lambda: self.keyed(places), lambda: self.among(places))
 
     def plain(self):
         return f"SELECT id FROM o WHERE {self.condition(3)}"
@@ -148,6 +148,13 @@ class Queries:
         kept = self.draw.choice(["", f" FILTER (WHERE {self.condition(1)})"])
         call = f"{self.draw.choice(['SUM', 'MIN', 'MAX'])}({amount}){kept}"
         return f"SELECT qty AS id FROM o WHERE qty IS NOT NULL GROUP BY qty HAVING {call} {sign} {self.number(places)}"
+
+
+    def keyed(self, places):
+        return f"SELECT COUNT(*) AS id FROM o WHERE {self.condition(1)} GROUP BY {self.amount(places, 2)} HAVING MIN({self.amount(places, 1)}) > {self.number(places)}"
+
+    def among(self, places):
+        return f"SELECT id FROM o WHERE {self.condition(0)} AND {self.draw.choice(self.names[places])} IN (SELECT {self.amount(places, 1)} FROM o WHERE {self.condition(0)})"
 
 
 def tables(draw):

@@ -112,15 +112,15 @@ abbrev pub call_unit : (List Token → Option Counts) → List Token → Option 
 call_unit unit tokens = as_value (unit (take (primary_length tokens) tokens))
 
 -- A name right after the operand of an item counts what the operand does, and the name of a call what the call does, since it is the name
--- of an output without another; of another alias it isn't known.
-unfoldable pub use_first : (List Token → Option Counts) → Bool → Option Awaited → List Token → List Use
-use_first unit is_alias found [] = []
-use_first unit is_alias found (token ∷ tokens) =
+-- of an output without another. An alias of a table counts nothing, and what no operand is, as a condition, stands beside no number.
+unfoldable pub use_first : (List Token → Option Counts) → Option Awaited → List Token → List Use
+use_first unit found [] = []
+use_first unit found (token ∷ tokens) =
     if is_awaited found then uses_of (unit_awaited found) (text_if true token.kind)
-    else (if begins_bracket tokens then uses_of (call_unit unit (token ∷ tokens)) (text_if true token.kind) else uses_of None (text_if is_alias token.kind))
+    else (if begins_bracket tokens then uses_of (call_unit unit (token ∷ tokens)) (text_if true token.kind) else [])
 
-abbrev pub use_here : (List Token → Option Counts) → Bool → Bool → Option Awaited → List Token → List Use
-use_here unit is_here is_alias found tokens = if is_here then use_first unit is_alias found tokens else []
+abbrev pub use_here : (List Token → Option Counts) → Bool → Option Awaited → List Token → List Use
+use_here unit is_here found tokens = if is_here then use_first unit found tokens else []
 
 -- what is in more than 64 brackets is taken as in 64
 abbrev pub level_of : ℕ → ℕ
@@ -133,17 +133,17 @@ abbrev pub found_at : (List Token → Option Counts) → ℕ → Scan → List T
 found_at unit level here tokens = awaited_at unit (is_at level here) here tokens
 
 abbrev pub scan_after : TokenKind → ℕ → Option Awaited → Scan
-scan_after kind depth found = record { depth = depth_after depth kind; is_alias = ends_operand kind; begins = begins_item kind; awaited = awaited_after kind found }
+scan_after kind depth found = record { depth = depth_after depth kind; begins = begins_item kind; awaited = awaited_after kind found }
 
 -- the names that are given in so many brackets, where operands count so much, from here on
 unfoldable pub given_from : (List Token → Option Counts) → ℕ → Scan → List Token → List Use
 given_from unit level here [] = []
 given_from unit level here (token ∷ tokens) =
-    use_here unit (is_at level here) here.is_alias (found_at unit level here (token ∷ tokens)) (token ∷ tokens)
+    use_here unit (is_at level here) (found_at unit level here (token ∷ tokens)) (token ∷ tokens)
     ++ given_from unit level (scan_after token.kind here.depth (found_at unit level here (token ∷ tokens))) tokens
 
 abbrev pub at_start : Scan
-at_start = record { depth = 0; is_alias = false; begins = false; awaited = None }
+at_start = record { depth = 0; begins = false; awaited = None }
 
 abbrev pub given_at : (List Token → Option Counts) → ℕ → List Token → List Use
 given_at unit level tokens = given_from unit level at_start tokens

@@ -66,6 +66,7 @@ is_branch _ = false
 -- an item of a list begins after these
 abbrev pub begins_item : TokenKind → Bool
 begins_item (t.Terminal m.Select) = true
+begins_item (t.Terminal m.All) = true
 begins_item (t.Terminal m.Distinct) = true
 begins_item (t.Terminal m.Comma) = true
 begins_item (t.Terminal m.By) = true

@@ -65,7 +65,7 @@ pub(crate) fn columns(
 }
 
 /// Whether a name right after a token is an alias.
-pub(crate) fn ends_operand(kind: &TokenKind) -> bool
+fn ends_operand(kind: &TokenKind) -> bool
     ensures { result ≡ spec.ends_operand kind.now }
 {
     match kind {

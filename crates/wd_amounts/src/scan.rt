@@ -1,15 +1,15 @@
 //! The names that a query gives in so many brackets, each with what it counts: an item's name counts what the item's operand does, the name
-//! of a call what the call does, and of other names, as those of tables, it isn't known. The operand of an item is measured where it
-//! begins; its tokens are counted off, and a name right after them is the item's.
+//! of a call what the call does; names of tables count nothing. The operand of an item is measured where it begins; its tokens are
+//! counted off, and a name right after them is the item's.
 
-ghost use Rattle.std.specs.Prelude.{◌≡◌, ◌++◌, ◌+◌, ◌≤◌, map, IfOk};
+ghost use Rattle.std.specs.Prelude.{◌≡◌, ◌++◌, ◌+◌, ◌≤◌, map, true, IfOk};
 ghost use Rattle.wd_amounts.specs.Names as spec;
 ghost use Rattle.wd_amounts.specs.Names.{found_at, given_at, is_at, is_awaited, text_if, unit_awaited, use_first, use_here, uses_of};
 ghost use Rattle.wd_amounts.specs.Seen.{known_seen, use_seen};
 ghost use Rattle.wd_amounts.specs.Terms.{unit_of};
 
 use crate::known::KnownNames;
-use crate::names::{ends_operand, name_text};
+use crate::names::name_text;
 use crate::operand::unit_of;
 use crate::token::{begins_bracket, begins_item, depth_after, is_as};
 use crate::unit::{Unit, as_value};
@@ -37,8 +37,6 @@ pub struct Awaited {
 pub struct Scan {
     /// How many brackets are open.
     pub depth: usize,
-    /// Whether a name here is an alias.
-    pub is_alias: bool,
     /// Whether an item begins here.
     pub begins: bool,
     /// The operand of the last item that has begun, until the tokens after it are no name.
@@ -121,16 +119,13 @@ fn unit_awaited(found: Option<Awaited>) -> Option<Unit>
 /// Adds a name that counts this.
 fn push_use<'t>(
     uses: &mut Vec<NameUse<'t>>,
-    is_given: bool,
     kind: &'t TokenKind,
     unit: Option<Unit>,
 ) -> Result<(), OutOfMemory>
-    ensures { IfOk result (λ _. map use_seen uses.new.items ≡ map use_seen uses.old.items ++ uses_of unit (text_if is_given kind.now)) }
+    ensures { IfOk result (λ _. map use_seen uses.new.items ≡ map use_seen uses.old.items ++ uses_of unit (text_if true kind.now)) }
 {
-    if is_given {
-        if let Some(name) = name_text(kind) {
-            uses.push(NameUse { name, unit })?;
-        }
+    if let Some(name) = name_text(kind) {
+        uses.push(NameUse { name, unit })?;
     }
     Ok(())
 }
@@ -148,21 +143,20 @@ fn call_unit(known: &KnownNames, tokens: &[Token]) -> Option<Unit>
 fn push_first<'t>(
     uses: &mut Vec<NameUse<'t>>,
     known: &KnownNames,
-    is_alias: bool,
     found: Option<Awaited>,
     tokens: &'t [Token],
 ) -> Result<(), OutOfMemory>
-    ensures { IfOk result (λ _. map use_seen uses.new.items ≡ map use_seen uses.old.items ++ use_first (unit_of (known_seen known.now)) is_alias found tokens.now) }
+    ensures { IfOk result (λ _. map use_seen uses.new.items ≡ map use_seen uses.old.items ++ use_first (unit_of (known_seen known.now)) found tokens.now) }
 {
     let [first, after @ ..] = tokens else {
         return Ok(());
     };
     if is_awaited(found) {
-        push_use(uses, true, &first.kind, unit_awaited(found))
+        push_use(uses, &first.kind, unit_awaited(found))
     } else if begins_bracket(after) {
-        push_use(uses, true, &first.kind, call_unit(known, tokens))
+        push_use(uses, &first.kind, call_unit(known, tokens))
     } else {
-        push_use(uses, is_alias, &first.kind, None)
+        Ok(())
     }
 }
 
@@ -171,14 +165,13 @@ fn push_here<'t>(
     uses: &mut Vec<NameUse<'t>>,
     known: &KnownNames,
     is_here: bool,
-    is_alias: bool,
     found: Option<Awaited>,
     tokens: &'t [Token],
 ) -> Result<(), OutOfMemory>
-    ensures { IfOk result (λ _. map use_seen uses.new.items ≡ map use_seen uses.old.items ++ use_here (unit_of (known_seen known.now)) is_here is_alias found tokens.now) }
+    ensures { IfOk result (λ _. map use_seen uses.new.items ≡ map use_seen uses.old.items ++ use_here (unit_of (known_seen known.now)) is_here found tokens.now) }
 {
     if is_here {
-        push_first(uses, known, is_alias, found, tokens)
+        push_first(uses, known, found, tokens)
     } else {
         Ok(())
     }
@@ -192,7 +185,6 @@ fn scan_after(kind: &TokenKind, depth: usize, found: Option<Awaited>) -> Scan
 {
     Scan {
         depth: depth_after(depth, kind),
-        is_alias: ends_operand(kind),
         begins: begins_item(kind),
         awaited: awaited_after(kind, found),
     }
@@ -211,21 +203,13 @@ pub(crate) fn given_at<'t>(
     let mut uses = Vec::new(alloc);
     let mut here = Scan {
         depth: 0,
-        is_alias: false,
         begins: false,
         awaited: None,
     };
     let mut rest = tokens;
     while let [first, after @ ..] = rest {
         let found = found_at(known, level, here, rest);
-        push_here(
-            &mut uses,
-            known,
-            is_at(level, here),
-            here.is_alias,
-            found,
-            rest,
-        )?;
+        push_here(&mut uses, known, is_at(level, here), found, rest)?;
         here = scan_after(&first.kind, here.depth, found);
         rest = after;
     }

@@ -105,7 +105,9 @@ pub fn begins_item(kind: &TokenKind) -> bool
 {
     matches!(
         kind,
-        TokenKind::Terminal(Terminal::Select | Terminal::Distinct | Terminal::Comma | Terminal::By)
+        TokenKind::Terminal(
+            Terminal::Select | Terminal::All | Terminal::Distinct | Terminal::Comma | Terminal::By,
+        )
     )
 }
 
