@@ -15,7 +15,7 @@ use Rattle.wd_amounts.specs.declared.scan.Scan.{Scan}
 use Rattle.wd_amounts.specs.declared.unit.Unit.{Unit as Counts}
 use Rattle.wd_amounts.specs.Terms.{Known, unit_of}
 use Rattle.wd_amounts.specs.Units.{as_value, either, unit_of_kind}
-use Rattle.wd_amounts.specs.Tokens.{begins_bracket, begins_item, depth_after, is_as, is_right_bracket}
+use Rattle.wd_amounts.specs.Tokens.{begins_bracket, begins_item, begins_query, depth_after, is_as, is_right_bracket}
 
 -- a use of a name, and what it counts there, where that is known
 abbrev pub Use : Type 0
@@ -82,9 +82,9 @@ has_lists is_alias (token ∷ tokens) = lists_names is_alias token.kind tokens |
 
 -- ---- what the names count that are given in so many brackets
 
--- the operand at the start of an item: how many tokens of it are to come, and what its values count
+-- the operand at the start of an item: how many tokens of it are to come, and what its values count; a derived table after a comma is none
 abbrev pub begun : (List Token → Option Counts) → List Token → Option Awaited
-begun unit tokens = if operand_length tokens == 0 then None else Some (record { tokens = operand_length tokens; unit = as_value (unit (take (operand_length tokens) tokens)) })
+begun unit tokens = if operand_length tokens == 0 || begins_query tokens then None else Some (record { tokens = operand_length tokens; unit = as_value (unit (take (operand_length tokens) tokens)) })
 
 -- an operand that begins here is awaited now
 abbrev pub awaited_at : (List Token → Option Counts) → Bool → Scan → List Token → Option Awaited

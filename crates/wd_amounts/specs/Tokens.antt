@@ -81,6 +81,15 @@ unfoldable pub begins_bracket : List Token → Bool
 begins_bracket [] = false
 begins_bracket (token ∷ tokens) = is_left_bracket token.kind
 
+abbrev pub is_select : TokenKind → Bool
+is_select (t.Terminal m.Select) = true
+is_select _ = false
+
+-- a query in brackets: a derived table
+unfoldable pub begins_query : List Token → Bool
+begins_query (first ∷ second ∷ tokens) = is_left_bracket first.kind && is_select second.kind
+begins_query _ = false
+
 -- ---- lengths
 
 -- a star, a slash and a percent sign stand between factors

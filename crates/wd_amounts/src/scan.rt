@@ -11,7 +11,7 @@ ghost use Rattle.wd_amounts.specs.Terms.{unit_of};
 use crate::known::KnownNames;
 use crate::names::name_text;
 use crate::operand::unit_of;
-use crate::token::{begins_bracket, begins_item, depth_after, is_as};
+use crate::token::{begins_bracket, begins_item, begins_query, depth_after, is_as};
 use crate::unit::{Unit, as_value};
 use std::alloc::Global;
 use wd_lex::{Token, TokenKind};
@@ -43,12 +43,12 @@ pub struct Scan {
     pub awaited: Option<Awaited>,
 }
 
-/// The operand at the start of an item.
+/// The operand at the start of an item, where that is no derived table.
 fn begun(known: &KnownNames, tokens: &[Token]) -> Option<Awaited>
     ensures { result ≡ spec.begun (unit_of (known_seen known.now)) tokens.now }
 {
     let length = operand_length(tokens);
-    if length == 0 {
+    if length == 0 || begins_query(tokens) {
         return None;
     }
     let (operand, _) = tokens.split_at(length);

@@ -176,6 +176,23 @@ pub fn begins_bracket(tokens: &[Token]) -> bool
     }
 }
 
+fn is_select(kind: &TokenKind) -> bool
+    ensures { result ≡ spec.is_select kind.now }
+{
+    matches!(kind, TokenKind::Terminal(Terminal::Select))
+}
+
+/// Whether a query in brackets begins here, which is a derived table.
+#[tactic(auto, unfolding(crate::specs::Tokens::begins_query))]
+pub fn begins_query(tokens: &[Token]) -> bool
+    ensures { result ≡ spec.begins_query tokens.now }
+{
+    match tokens {
+        [first, second, ..] => is_left_bracket(&first.kind) && is_select(&second.kind),
+        _ => false,
+    }
+}
+
 /// Whether it stands between factors.
 pub fn is_between_factors(kind: &TokenKind) -> bool
     ensures { result ≡ spec.is_between_factors kind.now }
