@@ -1,7 +1,7 @@
 -- Rows along columns: where they stand, those with some of the columns, and one more.
 use Rattle.std.proofs.Common.{◌≡◌, ◌∙◌, ℕ, zero, suc, ◌+◌, ◌<◌, ◌≤◌, List, [], ◌∷◌, ◌++◌, map, length, get_or, set, refl, sym, ap, arith, zero-add}
 use Rattle.std.specs.List.{range_with_len}
-use Rattle.std.proofs.lemmas.List.{get_or_append_left, get_or_past, get_or_push, length-map, length_push, map_push, map-set}
+use Rattle.std.proofs.lemmas.List.{get_or-map as get_or_mapped, get_or_append_left, get_or_past, get_or_push, length-map, length_push, map_push, map-set, same_lists}
 use Rattle.std.proofs.lemmas.List.FromFn.{get_or-map-range_with_len, length-range_with_len, map-range_with_len_more}
 use Rattle.std.proofs.Math.ListN.{get_or-map}
 use Rattle.std.proofs.Math.Seq.{map-set_same}
@@ -11,7 +11,8 @@ use Rattle.wd_value.specs.declared.value.Value.{Value}
 use Rattle.wd_value.specs.declared.value.Value.TheVariants.{Null}
 use Rattle.wd_value.specs.Bags.{positions}
 use Rattle.wd_value.specs.Rows.{Row, column_of, columns_of, row_at, rows_at, rows_of}
-use Rattle.wd_columns.specs.Along.{AreLong, row_along, rows_along, with_row, with_values}
+use Rattle.wd_columns.specs.Along.{AreLong, row_along, rows_along, values_at, with_row, with_values}
+use Rattle.wd_columns.specs.Moves.{AreWithin}
 use Rattle.wd_columns.proofs.Places.{items}
 
 -- the value of a column at a position
@@ -46,6 +47,23 @@ selected columns places n = selected_along columns places (positions n)
 same_along : (f g : ℕ → Row) (a n : ℕ) → ((k : ℕ) → k < a + n → f k ≡ g k) → map f (range_with_len a n) ≡ map g (range_with_len a n)
 same_along f g a zero h = refl
 same_along f g a (suc n) h = λ i. h a (omega arith) i ∷ same_along f g (a + 1) n (λ k low. h k (omega arith)) i
+
+-- ---- the rows at some positions
+
+row_picked : (columns : List Row) (ps : List ℕ) (k : ℕ) → k < length ps → row_along (map (λ column. values_at column ps) columns) k ≡ row_along columns (get_or ps k 0)
+row_picked [] ps k within = refl
+row_picked (c ∷ columns) ps k within = λ i. get_or_mapped (λ p. at p c) ps k 0 Null within i ∷ row_picked columns ps k within i
+
+pub picked_rows : (columns : List Row) (n : ℕ) (ps : List ℕ) → AreWithin n ps → rows_along (map (λ column. values_at column ps) columns) (length ps) ≡ rows_at (rows_along columns n) ps
+picked_rows columns n ps all =
+    let there = map (λ column. values_at column ps) columns in
+    let rows = rows_along columns n in
+    same_lists (rows_along there (length ps)) (rows_at rows ps) (count there (length ps) ∙ sym (length-map ps (row_at rows))) (λ k d low. (
+    let within : k < length ps = rw (count there (length ps)) at low in
+    get_or-map-range_with_len (row_along there) 0 (length ps) k k d within (zero-add k)
+    ∙ row_picked columns ps k within
+    ∙ sym (row_is columns n (get_or ps k 0) (all k 0 within))
+    ∙ sym (get_or_mapped (row_at rows) ps k 0 d within)))
 
 -- ---- one more column
 

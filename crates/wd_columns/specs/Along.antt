@@ -13,6 +13,10 @@ row_along columns p = map (λ column. slice_index_or column p Null) columns
 abbrev pub rows_along : List Row → ℕ → List Row
 rows_along columns n = map (row_along columns) (positions n)
 
+-- the values of a column at these positions
+abbrev pub values_at : Row → List ℕ → Row
+values_at column ps = map (λ p. slice_index_or column p Null) ps
+
 -- each row with the value beside it after its own, and NULL where there is none
 abbrev pub with_values : List Row → List Value → List Row
 with_values rows values = map (λ p. row_at rows p ++ slice_index_or values p Null ∷ []) (positions (length rows))

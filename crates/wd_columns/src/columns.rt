@@ -3,11 +3,12 @@
 ghost use Rattle.std.specs.Prelude.{◌≡◌, List, [], ◌∷◌, ◌++◌, IfOk, length, map, slice_index_or};
 ghost use Rattle.wd_columns.specs.Along as along;
 ghost use Rattle.wd_columns.specs.Along.{rows_along, with_values};
-ghost use Rattle.wd_columns.specs.Moves.{AreDifferent};
-ghost use Rattle.wd_value.specs.Rows.{Row, column_of, columns_of, row_at, rows_of};
+ghost use Rattle.wd_columns.specs.Moves.{AreDifferent, AreWithin};
+ghost use Rattle.wd_value.specs.Rows.{Row, column_of, columns_of, row_at, rows_at, rows_of};
 ghost use Rattle.wd_value.specs.declared.value.Value.TheVariants as value;
 
 use crate::moved::moved_rows;
+use crate::picking::picked_columns;
 use crate::taking::taken_rows;
 use std::alloc::Global;
 use std::marker::Model;
@@ -108,6 +109,20 @@ impl Columns {
         Ok(Columns {
             columns: picked,
             count,
+        })
+    }
+
+    /// The rows at these positions, in their order. Values are moved: no position is there twice, and each is one of a row.
+    pub fn picked(self, alloc: Global, positions: &[u64]) -> Result<Columns, OutOfMemory>
+        requires different { AreDifferent positions.now }
+        requires within { AreWithin (length self) positions.now }
+        ensures { IfOk result (λ c. c ≡ rows_at self positions.now) }
+    {
+        let Columns { columns, .. } = self;
+        let picked = picked_columns(alloc, columns, positions)?;
+        Ok(Columns {
+            columns: picked,
+            count: positions.len(),
         })
     }
 

@@ -4,6 +4,7 @@
 mod columns;
 mod growing;
 mod moved;
+mod picking;
 mod source;
 mod taking;
 

@@ -59,7 +59,8 @@ fn taken_at(columns: &mut Vec<Vec<Value>>, place: usize, position: usize) -> Val
     taken(&mut columns[place], position)
 }
 
-fn taken(column: &mut Vec<Value>, position: usize) -> Value
+/// Takes the value at a position out; past the last there is NULL.
+pub fn taken(column: &mut Vec<Value>, position: usize) -> Value
     ensures taken { result ≡ slice_index_or column.old.items position value.Null }
     ensures others { (p : ℕ) → (p ≡ position → ⊥) → slice_index_or column.new.items p value.Null ≡ slice_index_or column.old.items p value.Null }
 {

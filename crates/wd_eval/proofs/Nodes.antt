@@ -190,7 +190,7 @@ module _ (most : ℕ) (tables instance : Instance) (choice : List (List ℕ)) (f
     lawful_here : IsLawfulLimit limit (produced_of tables below.outcome) (ordering_at choice below.next) → IsLawfulLimit limit (outcome input instance rest) (ordering_at rest (ordering_count input))
     lawful_here h = subst (λ (r : RowsOrFault). IsLawfulLimit limit r (ordering_at rest (ordering_count input))) b.is (subst (IsLawfulLimit limit (produced_of tables below.outcome)) own_at h)
 
-    pub limit_done : (o : Outcome) (next : ℕ) → IsCut limit (produced_of tables below.outcome) choice below.next o → next ≡ below.next + 1 → IsEvaluated most (Limit limit input) tables instance choice first (record { outcome = Made o; next = next })
+    pub limit_done : (o : Produced) (next : ℕ) → IsCut limit (produced_of tables below.outcome) choice below.next (produced_of tables o) → next ≡ below.next + 1 → IsEvaluated most (Limit limit input) tables instance choice first (record { outcome = o; next = next })
     limit_done o next x e =
         let long = long_rest within in
         let there = x.served.present in

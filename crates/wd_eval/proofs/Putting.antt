@@ -3,11 +3,10 @@ use Rattle.std.proofs.Common.{◌≡◌, ℕ, ◌+◌, ◌<◌, List, [], ◌∷
 use Rattle.std.specs.List.{AllByRecursion}
 use Rattle.std.proofs.Math.Seq.{drop-append_seam, get_or-append_seam}
 use Rattle.std.proofs.lemmas.List.{append-nil, get_or_append_left, take_all}
-use Rattle.wd_plan.specs.declared.plan.Outcome.{Outcome}
 use Rattle.wd_value.specs.declared.value.Fault.{Fault}
 use Rattle.wd_value.specs.Rows.{Row}
 use Rattle.wd_plan.specs.Choices.{AtRows, AreOrderings}
-use Rattle.wd_plan.specs.Outcomes.{RowsOrFault, class_at, ordering_at, outcome_of}
+use Rattle.wd_plan.specs.Outcomes.{RowsOrFault, class_at, ordering_at}
 use Rattle.wd_plan.specs.Plans.{ClassRule, LimitRule, WindowRule}
 use Rattle.wd_plan.specs.Sorting.{IsOrdering, limit_class}
 use Rattle.wd_partition.proofs.Grouping.{IsOrdering-from_given}
@@ -39,12 +38,12 @@ module _ (limit : LimitRule) (input : RowsOrFault) (turned : Option Turned) (old
         lawful = subst (λ (o : List ℕ). AtRows input (λ rows. IsOrdering (limit_class limit) rows o) (o ≡ [])) (sym own_is) (lawful_over (limit_class limit) turn input own sorted);
       }
 
-  pub limit_tied_from : (o : Outcome) → turn ≡ turn_of turned number → outcome_of o ≡ cut_over limit own input → IsTiedLimit limit input turned old new o
-  limit_tied_from o e is = record {
+  pub limit_tied_from : (found : RowsOrFault) → turn ≡ turn_of turned number → found ≡ cut_over limit own input → IsTiedLimit limit input turned old new found
+  limit_tied_from found e is = record {
     own = own;
     grown = grown;
     sorted = subst (λ (t : Turn). IsSortedOver (limit_class limit) t input own) (e ∙ ap (turn_of turned) at) sorted;
-    is = subst (λ (n : ℕ). IsCut limit input new n o) at (record { served = limit_put; is = is ∙ ap (λ ordering. cut_over limit ordering input) (sym own_is) });
+    is = subst (λ (n : ℕ). IsCut limit input new n found) at (record { served = limit_put; is = is ∙ ap (λ ordering. cut_over limit ordering input) (sym own_is) });
   }
 
 -- ---- a Window

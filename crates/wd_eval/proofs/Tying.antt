@@ -290,7 +290,7 @@ module _ (tables instance : Instance) (turned : Option Turned) (old : List (List
         );
       }
 
-  pub limit_tied : (limit : LimitRule) (input : PlanTree) (mid new : List (List ℕ)) (below : Produced) (o : Outcome) → IsTied input tables instance turned old mid below → IsTiedLimit limit (produced_of tables below) turned mid new o → IsTied (Limit limit input) tables instance turned old new (Made o)
+  pub limit_tied : (limit : LimitRule) (input : PlanTree) (mid new : List (List ℕ)) (below o : Produced) → IsTied input tables instance turned old mid below → IsTiedLimit limit (produced_of tables below) turned mid new (produced_of tables o) → IsTied (Limit limit input) tables instance turned old new o
   limit_tied limit input mid new below o b x =
       let own = x.own ∷ [] in
       let e = x.grown in

@@ -162,9 +162,9 @@ module _ (tables instance : Instance) (first : ℕ) (old : List (Vec ℕ Global)
     window_halted (Chosen choice most) w e b x = from_stopped (Window w input) instance first choice most e (window_stopped most tables instance (orderings_of choice.now) first w input below b e x.refused)
     window_halted (Sorted turned) w e b x = from_untied (Window w input) instance first turned e (memory_untied (Window w input) instance turned first e x.refused)
 
-    pub limit_walked : (orderings : Orderings) (limit : LimitRule) (o : Outcome) (next : ℕ) → IsAt orderings first old → IsWalked input tables instance orderings first old mid below
-        → IsLimitStep limit (produced_of tables below.outcome) orderings below.next mid new (Ok o) → next ≡ below.next + 1
-        → IsWalked (Limit limit input) tables instance orderings first old new (record { outcome = Made o; next = next })
+    pub limit_walked : (orderings : Orderings) (limit : LimitRule) (o : Produced) (next : ℕ) → IsAt orderings first old → IsWalked input tables instance orderings first old mid below
+        → IsLimitStep (produced_of tables) limit (produced_of tables below.outcome) orderings below.next mid new (Ok o) → next ≡ below.next + 1
+        → IsWalked (Limit limit input) tables instance orderings first old new (record { outcome = o; next = next })
     limit_walked (Chosen choice most) limit o next at b x e = limit_done most tables instance (orderings_of choice.now) first limit input below (within_choice choice.now first at) b o next x.ok e
     limit_walked (Sorted turned) limit o next at b x e =
         let here = behind_made mid below.next b.0 in
@@ -173,7 +173,7 @@ module _ (tables instance : Instance) (first : ℕ) (old : List (Vec ℕ Global)
         (omega arith, limit_tied tables instance turned (orderings_of old) limit input (orderings_of mid) (orderings_of new) below.outcome o b.1 x.ok)
 
     pub limit_halted : (orderings : Orderings) (limit : LimitRule) (e : EvalError) → IsWalked input tables instance orderings first old mid below
-        → IsLimitStep limit (produced_of tables below.outcome) orderings below.next mid new (Err e) → IsHalted (Limit limit input) instance orderings first e
+        → IsLimitStep (produced_of tables) limit (produced_of tables below.outcome) orderings below.next mid new (Err e) → IsHalted (Limit limit input) instance orderings first e
     limit_halted (Chosen choice most) limit e b x = from_stopped (Limit limit input) instance first choice most e (limit_stopped most tables instance (orderings_of choice.now) first limit input below b e x.refused)
     limit_halted (Sorted turned) limit e b x = from_untied (Limit limit input) instance first turned e (memory_untied (Limit limit input) instance turned first e x.refused)
 
@@ -206,6 +206,6 @@ module _ (tables instance : Instance) (first : ℕ) (old : List (Vec ℕ Global)
 
 -- ---- out of memory
 
-pub limit_memory : (orderings : Orderings) (limit : LimitRule) (input : RowsOrFault) (first : ℕ) (old new : List (Vec ℕ Global)) → IsLimitStep limit input orderings first old new (Err OutOfMemory)
-limit_memory (Chosen choice most) limit input first old new = record { ok = tt; refused = tt }
-limit_memory (Sorted turned) limit input first old new = record { ok = tt; refused = tt }
+pub limit_memory : {X : Type 0} (view : X → RowsOrFault) (orderings : Orderings) (limit : LimitRule) (input : RowsOrFault) (first : ℕ) (old new : List (Vec ℕ Global)) → IsLimitStep view limit input orderings first old new (Err OutOfMemory)
+limit_memory view (Chosen choice most) limit input first old new = record { ok = tt; refused = tt }
+limit_memory view (Sorted turned) limit input first old new = record { ok = tt; refused = tt }

@@ -1,10 +1,9 @@
 -- A node of a plan under the orderings from a number on.
 use Rattle.std.specs.Prelude.{◌≡◌, ℕ, ◌+◌, ◌≤◌, true, false, List, drop, length, ⊤, Result, Ok, IfErr, IfOk}
 use Rattle.wd_value.specs.Rows.{Instance, rows_at}
-use Rattle.wd_plan.specs.declared.plan.Outcome.{Outcome}
 use Rattle.wd_plan.specs.Choices.{AreLawful}
 use Rattle.wd_plan.specs.Faults.{and_then}
-use Rattle.wd_plan.specs.Outcomes.{RowsOrFault, cut, ordering_at, outcome, outcome_of}
+use Rattle.wd_plan.specs.Outcomes.{RowsOrFault, cut, ordering_at, outcome}
 use Rattle.wd_plan.specs.Plans.{PlanTree, LimitRule, ordering_count}
 use Rattle.wd_plan.specs.Sorting.{limit_class}
 use Rattle.wd_join.specs.Joins.{has_more_rows}
@@ -42,12 +41,12 @@ IsStopped most plan instance choice first OutOfMemory = ⊤
 abbrev pub cut_over : LimitRule → List ℕ → RowsOrFault → RowsOrFault
 cut_over limit ordering input = and_then input (λ rows. Ok (cut limit (rows_at rows ordering)))
 
--- the limit's ordering with this number serves, and the outcome is what the Limit gives under it
-pub record IsCut (limit : LimitRule) (input : RowsOrFault) (choice : List (List ℕ)) (number : ℕ) (o : Outcome) : Type 0 where
+-- the limit's ordering with this number is lawful, and what is found is what the Limit gives under it
+pub record IsCut (limit : LimitRule) (input : RowsOrFault) (choice : List (List ℕ)) (number : ℕ) (found : RowsOrFault) : Type 0 where
   pub served : HasOrdering (limit_class limit) input choice number
-  pub is : outcome_of o ≡ cut_over limit (ordering_at choice number) input
+  pub is : found ≡ cut_over limit (ordering_at choice number) input
 
--- the outcome of a Limit over its input under the ordering with this number, or why that does not serve
-pub record IsCutOrUnserved (limit : LimitRule) (input : RowsOrFault) (choice : List (List ℕ)) (number : ℕ) (r : Result Outcome EvalError) : Type 0 where
-  pub ok : IfOk r (λ o. IsCut limit input choice number o)
+-- what a Limit gives over its input under the ordering with this number, as the view of a value has it, or why that is not lawful
+pub record IsCutOrUnserved {X : Type 0} (view : X → RowsOrFault) (limit : LimitRule) (input : RowsOrFault) (choice : List (List ℕ)) (number : ℕ) (r : Result X EvalError) : Type 0 where
+  pub ok : IfOk r (λ x. IsCut limit input choice number (view x))
   pub refused : IfErr r (λ e. IsUnserved (IsWrong (limit_class limit) input choice number) e)

@@ -3,7 +3,6 @@ use Rattle.std.specs.Prelude.{◌≡◌, ℕ, ◌+◌, ◌<◌, ◌≤◌, true,
 use Rattle.std.specs.declared.alloc.Global.{Global}
 use Rattle.std.specs.declared.vec.Vec.{Vec}
 use Rattle.wd_value.specs.Rows.{Instance}
-use Rattle.wd_plan.specs.declared.plan.Outcome.{Outcome}
 use Rattle.wd_plan.specs.Outcomes.{RowsOrFault, class_at, ordering_at}
 use Rattle.wd_plan.specs.Plans.{LimitRule, PlanTree, WindowRule, ordering_count}
 use Rattle.wd_plan.specs.Sorting.{limit_class}
@@ -37,12 +36,12 @@ pub record IsTiedWindow (w : WindowRule) (input : RowsOrFault) (turned : Option 
   pub put : AreAllPut w input turned old new
   pub extended : IsExtended w input new (length old) found
 
--- the sorted ordering of a Limit was put there, and the outcome is that under it
-pub record IsTiedLimit (limit : LimitRule) (input : RowsOrFault) (turned : Option Turned) (old new : List (List ℕ)) (o : Outcome) : Type 0 where
+-- the sorted ordering of a Limit was put there, and what is found is what the Limit gives under it
+pub record IsTiedLimit (limit : LimitRule) (input : RowsOrFault) (turned : Option Turned) (old new : List (List ℕ)) (found : RowsOrFault) : Type 0 where
   pub own : List ℕ
   pub grown : new ≡ old ++ own ∷ []
   pub sorted : IsSortedOver (limit_class limit) (turn_of turned (length old)) input own
-  pub is : IsCut limit input new (length old) o
+  pub is : IsCut limit input new (length old) found
 
 -- the plan's sorted orderings were put after those that were there, and the outcome is that under them
 pub record IsTied (plan : PlanTree) (tables instance : Instance) (turned : Option Turned) (old new : List (List ℕ)) (o : Produced) : Type 0 where
@@ -79,7 +78,7 @@ pub record IsTiedWindowOrNoMemory {X : Type 0} (view : X → RowsOrFault) (w : W
   pub ok : IfOk r (λ x. IsTiedWindow w input turned (orderings_of old) (orderings_of new) (view x))
   pub refused : IfErr r (λ e. IsOutOfMemory e)
 
--- a Limit's outcome under its sorted ordering, or out of memory
-pub record IsTiedLimitOrNoMemory (limit : LimitRule) (input : RowsOrFault) (turned : Option Turned) (old new : List (Vec ℕ Global)) (r : Result Outcome EvalError) : Type 0 where
-  pub ok : IfOk r (λ o. IsTiedLimit limit input turned (orderings_of old) (orderings_of new) o)
+-- what a Limit gives under its sorted ordering, as the view of a value has it, or out of memory
+pub record IsTiedLimitOrNoMemory {X : Type 0} (view : X → RowsOrFault) (limit : LimitRule) (input : RowsOrFault) (turned : Option Turned) (old new : List (Vec ℕ Global)) (r : Result X EvalError) : Type 0 where
+  pub ok : IfOk r (λ x. IsTiedLimit limit input turned (orderings_of old) (orderings_of new) (view x))
   pub refused : IfErr r (λ e. IsOutOfMemory e)

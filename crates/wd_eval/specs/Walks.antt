@@ -3,7 +3,6 @@ use Rattle.std.specs.Prelude.{◌≡◌, ℕ, ◌≤◌, true, List, drop, lengt
 use Rattle.std.specs.declared.alloc.Global.{Global}
 use Rattle.std.specs.declared.vec.Vec.{Vec}
 use Rattle.wd_value.specs.Rows.{Instance}
-use Rattle.wd_plan.specs.declared.plan.Outcome.{Outcome}
 use Rattle.wd_plan.specs.Outcomes.{RowsOrFault}
 use Rattle.wd_plan.specs.Plans.{LimitRule, PlanTree, WindowRule}
 use Rattle.wd_eval.specs.Windows.{IsLeast, orderings_of, IsExtendedOrUnserved}
@@ -61,6 +60,6 @@ abbrev pub IsWindowStep : {X : Type 0} → (X → RowsOrFault) → WindowRule �
 IsWindowStep view w input (Chosen choice most) first old new r = IsExtendedOrUnserved view w input (orderings_of choice.now) first r
 IsWindowStep view w input (Sorted turned) first old new r = IsTiedWindowOrNoMemory view w input turned old new r
 
-abbrev pub IsLimitStep : LimitRule → RowsOrFault → Orderings → ℕ → List (Vec ℕ Global) → List (Vec ℕ Global) → Result Outcome EvalError → Type 0
-IsLimitStep limit input (Chosen choice most) first old new r = IsCutOrUnserved limit input (orderings_of choice.now) first r
-IsLimitStep limit input (Sorted turned) first old new r = IsTiedLimitOrNoMemory limit input turned old new r
+abbrev pub IsLimitStep : {X : Type 0} → (X → RowsOrFault) → LimitRule → RowsOrFault → Orderings → ℕ → List (Vec ℕ Global) → List (Vec ℕ Global) → Result X EvalError → Type 0
+IsLimitStep view limit input (Chosen choice most) first old new r = IsCutOrUnserved view limit input (orderings_of choice.now) first r
+IsLimitStep view limit input (Sorted turned) first old new r = IsTiedLimitOrNoMemory view limit input turned old new r

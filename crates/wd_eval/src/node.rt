@@ -105,7 +105,7 @@ pub(crate) fn evaluate(
             let below = evaluate(alloc, input, tables, handed, orderings, first, made, 0)?;
             let outcome = distinct(alloc, tables, below.outcome)?;
             Ok(Evaluated {
-                outcome: Produced::Made(outcome),
+                outcome,
                 next: below.next,
             })
         }
@@ -114,7 +114,7 @@ pub(crate) fn evaluate(
             let Evaluated { outcome, next } = below;
             let outcome = limited(alloc, tables, limit, outcome, orderings, next, made)?;
             Ok(Evaluated {
-                outcome: Produced::Made(outcome),
+                outcome,
                 next: next + 1,
             })
         }

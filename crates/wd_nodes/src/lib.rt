@@ -9,5 +9,5 @@ mod step;
 
 pub use handed::handed_over;
 pub use produced::{Given, Produced, gathered, outcome_from, owned, shown, table_in};
-pub use side::{Listed, Side};
+pub use side::{Listed, Side, picked, side_from, source};
 pub use step::{distinct, filtered, grouped, joined, mapped, scanned};

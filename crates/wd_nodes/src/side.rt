@@ -1,18 +1,20 @@
 //! The sides of a join, however their rows are kept.
 
-ghost use Rattle.std.specs.Prelude.{◌≡◌, IfOk};
+ghost use Rattle.std.specs.Prelude.{◌≡◌, IfOk, Ok, length};
+ghost use Rattle.wd_columns.specs.Moves.{AreDifferent, AreWithin};
 ghost use Rattle.wd_nodes.specs.Enough.{IsEnough};
 ghost use Rattle.wd_nodes.specs.Produced.{given_of, listed_of, produced_of, side_of, sided_of};
 ghost use Rattle.wd_plan.specs.Expressions.{expression_of};
 ghost use Rattle.wd_join.specs.Paired.{rows_paired};
-ghost use Rattle.wd_value.specs.Rows.{Instance, instance_of, rows_of};
+ghost use Rattle.wd_value.specs.Rows.{Instance, instance_of, rows_at, rows_of};
 
 use crate::pairs::narrowed;
 use crate::produced::{Given, Produced, gathered, table_in};
 use std::alloc::Global;
-use wd_columns::{Columns, RowSource};
+use wd_columns::{Columns, RowSource, moved_rows};
 use wd_join::{Pair, paired_rows};
 use wd_plan::{Expr, Outcome};
+use wd_steps::copied_rows;
 use wd_value::{Fault, OutOfMemory, Row};
 
 /// A list of rows: a table of the instance by its number, whose rows stay where they are, or rows
@@ -31,7 +33,7 @@ pub enum Side {
 }
 
 /// What is produced as a side of a join, or the fault.
-pub(crate) fn side_from(
+pub fn side_from(
     alloc: Global,
     instance: &[Vec<Row>],
     produced: Produced,
@@ -77,7 +79,7 @@ fn given_side(given: Given) -> Result<Side, Fault>
 }
 
 /// The rows of a side to be read where they are.
-pub(crate) fn source<'a>(side: &'a Side, instance: &'a [Vec<Row>]) -> RowSource<'a>
+pub fn source<'a>(side: &'a Side, instance: &'a [Vec<Row>]) -> RowSource<'a>
     ensures { result ≡ side_of (instance_of instance.now) side.now }
 {
     match side {
@@ -106,6 +108,34 @@ pub(crate) fn rows_in<'a>(listed: &'a Listed, instance: &'a [Vec<Row>]) -> &'a [
     match listed {
         Listed::Table(table) => table_in(instance, *table),
         Listed::Rows(rows) => rows,
+    }
+}
+
+/// The rows of a side at these positions, in their order; those of columns stay in columns, and only those of a table are copied. No
+/// position is there twice, and each is one of a row.
+pub fn picked(
+    alloc: Global,
+    instance: &[Vec<Row>],
+    side: Side,
+    positions: &[u64],
+) -> Result<Produced, OutOfMemory>
+    requires different { AreDifferent positions.now }
+    requires within { AreWithin (length (side_of (instance_of instance.now) side)) positions.now }
+    ensures { IfOk result (λ o. produced_of (instance_of instance.now) o ≡ Ok (rows_at (side_of (instance_of instance.now) side) positions.now)) }
+{
+    match side {
+        Side::Listed(Listed::Table(table)) => {
+            let rows = copied_rows(alloc, table_in(instance, table), positions)?;
+            Ok(Produced::Made(Outcome::Rows(rows)))
+        }
+        Side::Listed(Listed::Rows(rows)) => {
+            let rows = moved_rows(alloc, rows, positions)?;
+            Ok(Produced::Made(Outcome::Rows(rows)))
+        }
+        Side::ByColumn(columns) => {
+            let columns = columns.picked(alloc, positions)?;
+            Ok(Produced::ByColumn(columns))
+        }
     }
 }
 

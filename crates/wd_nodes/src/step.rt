@@ -14,15 +14,17 @@ ghost use Rattle.wd_join.specs.Paired.{rows_paired};
 ghost use Rattle.wd_value.specs.Rows.{Instance, instance_of};
 
 use crate::pairs::{has_more, narrowed};
-use crate::produced::{Given, Produced, gathered, outcome_from, shown, table_in};
-use crate::side::{Side, joined_rows, list_from, narrowed_side, rows_in, side_from, source};
+use crate::produced::{Given, Produced, gathered, shown, table_in};
+use crate::side::{
+    Side, joined_rows, list_from, narrowed_side, picked, rows_in, side_from, source,
+};
 use std::alloc::Global;
 use wd_columns::{Columns, RowSource};
 use wd_group::group_rows;
 use wd_join::{Pair, StepError, equal_pairs, filter_pairs, join_rows, paired_columns};
 use wd_plan::{Expr, Group, Outcome};
 use wd_steps::{
-    copy_filtered, distinct_rows, filter_rows, map_own_rows, map_rows_with_room, shown_columns,
+    copy_filtered, distinct_positions, filter_rows, map_own_rows, map_rows_with_room, shown_columns,
 };
 use wd_value::{OutOfMemory, Row};
 
@@ -391,11 +393,20 @@ pub fn distinct(
     alloc: Global,
     instance: &[Vec<Row>],
     input: Produced,
-) -> Result<Outcome, OutOfMemory>
-    ensures { IfOk result (λ o. outcome_of o ≡ and_then (produced_of (instance_of instance.now) input) (λ rows. Ok (spec.distinct rows))) }
+) -> Result<Produced, OutOfMemory>
+    ensures { IfOk result (λ o. produced_of (instance_of instance.now) o ≡ and_then (produced_of (instance_of instance.now) input) (λ rows. Ok (spec.distinct rows))) }
 {
-    match outcome_from(alloc, instance, input, 0)? {
-        Outcome::Rows(rows) => Ok(Outcome::Rows(distinct_rows(alloc, rows)?)),
-        Outcome::Fault(fault) => Ok(Outcome::Fault(fault)),
+    match side_from(alloc, instance, input)? {
+        Ok(side) => first_of(alloc, instance, side),
+        Err(fault) => Ok(Produced::Made(Outcome::Fault(fault))),
     }
+}
+
+/// The first of rows that are not distinct.
+fn first_of(alloc: Global, instance: &[Vec<Row>], side: Side) -> Result<Produced, OutOfMemory>
+    ensures { IfOk result (λ o. produced_of (instance_of instance.now) o ≡ Ok (spec.distinct (side_of (instance_of instance.now) side))) }
+{
+    let kept = distinct_positions(alloc, &source(&side, instance))?;
+    let first = picked(alloc, instance, side, &kept)?;
+    Ok(first)
 }

@@ -2,3 +2,4 @@ pub mod Numbers
 pub mod Arithmetic
 pub mod Operands
 pub mod Waiting
+pub mod Views

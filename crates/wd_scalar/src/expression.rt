@@ -6,12 +6,14 @@ ghost use Rattle.wd_plan.specs.Expressions.{expression_of};
 ghost use Rattle.wd_plan.specs.Faults.{and_then};
 ghost use Rattle.wd_scalar.specs.Operands as operands;
 ghost use Rattle.wd_scalar.specs.Arithmetic as faults;
+ghost use Rattle.wd_value.specs.Rows.{row_at};
 
 use crate::arithmetic::{arithmetic_result, negated};
 use crate::deep::{column_value, deep_value, literal_value};
 use crate::truth::{and_result, comparison_result, is_null, is_true, not_value, or_result};
 use crate::view::RowView;
 use std::alloc::Global;
+use wd_columns::RowSource;
 use wd_plan::Expr;
 use wd_value::{Fault, OutOfMemory, Value};
 
@@ -40,6 +42,18 @@ pub fn value_of_pair(
     ensures { IfOk result (λ r. r ≡ spec.value_of (expression_of expression.now) (first.now ++ second.now)) }
 {
     value_over(alloc, expression, &RowView::of_pair(first, second))
+}
+
+/// The value of an expression over the row at a position, or its fault, however the rows are kept.
+pub fn value_at(
+    alloc: Global,
+    expression: &Expr,
+    rows: &RowSource,
+    position: u64,
+) -> Result<Result<Value, Fault>, OutOfMemory>
+    ensures { IfOk result (λ r. r ≡ spec.value_of (expression_of expression.now) (row_at rows.now position)) }
+{
+    value_over(alloc, expression, &RowView::at(rows, position))
 }
 
 /// The value of an expression over a view of a row, or its fault.

@@ -7,5 +7,5 @@ mod expression;
 mod truth;
 mod view;
 
-pub use expression::{has_arithmetic, value_of, value_of_pair};
+pub use expression::{has_arithmetic, value_at, value_of, value_of_pair};
 pub use truth::is_true;

@@ -1,12 +1,12 @@
 -- Rows that are the same stand side by side in the order of their values; first occurrences, one row on.
-use Rattle.std.proofs.Common.{◌≡◌, ◌≢◌, ◌∙◌, ℕ, zero, suc, ◌+◌, ◌-◌, ◌<◌, ◌≤◌, Bool, true, false, cond, not, ◌||◌, List, [], ◌∷◌, ◌++◌, filter, take, drop, set, get_or, length, refl, sym, ap, arith, add-one, inl, inr, Ordering, Less, Equal, Greater, min, Decides}
+use Rattle.std.proofs.Common.{◌≡◌, ◌≢◌, ◌∙◌, ℕ, zero, suc, ◌+◌, ◌-◌, ◌<◌, ◌≤◌, Bool, true, false, cond, not, ◌||◌, List, [], ◌∷◌, ◌++◌, filter, take, drop, get_or, length, refl, sym, ap, arith, add-one, inl, inr, Ordering, Less, Equal, Greater, min, Decides}
 use Rattle.std.specs.Prelude.{Contains, nat_eq, nat_lt}
-use Rattle.std.specs.List.{list_any, SwappedAt}
+use Rattle.std.specs.List.{list_any}
 use Rattle.std.specs.Cmp.{IsStrictWeakOrder, IsTotalOrder, nat_cmp_is}
 use Rattle.std.specs.Ordering.{is_lt, is_eq, nat_cmp, ordering_reverse, ordering_then}
 use Rattle.std.proofs.lemmas.Bool.{cases_lt, eq-eqb, false≢true, ltb-false}
 use Rattle.std.proofs.lemmas.Cmp.{tied_itself, lists_total, nat_cmp_total, on_total, then_total}
-use Rattle.std.proofs.lemmas.List.{append-nil, drop-drop, drop-set-lt, get_or-map, get_or_default, length-set, map_push, take-map, take-set-le, take_all, take_more_set}
+use Rattle.std.proofs.lemmas.List.{append-nil, get_or_default, map_push, take_all, take_more}
 use Rattle.std.proofs.lemmas.List.FromFn.{get_or-range_with_len, length-range_with_len}
 use Rattle.std.proofs.lemmas.List.Elements.{filter-append}
 use Rattle.std.proofs.lemmas.List.Sorted.{Contains-permutation, sorted_far, sum_by-IsPermutation, ranks_by}
@@ -15,15 +15,11 @@ use Rattle.wd_value.proofs.Perms.{count_by-cons, count_by-yes}
 use Rattle.wd_value.proofs.SameLaws.{same_row-Decides}
 use Rattle.wd_value.specs.Bags.{positions, times}
 use Rattle.wd_value.specs.Order.{compare}
-use Rattle.wd_value.specs.declared.value.Value.{Value}
-use Rattle.std.specs.declared.alloc.Global.{Global}
-use Rattle.std.specs.declared.vec.Vec.{Vec}
-use Rattle.wd_value.specs.Rows.{Row, row_at, rows_of, same_row}
-use Rattle.wd_steps.proofs.Filtering.{items, same_at}
+use Rattle.wd_value.specs.Rows.{Row, row_at, rows_at, same_row}
 use Rattle.wd_plan.proofs.Places.{times-range-le}
 use Rattle.wd_plan.specs.Outcomes.{distinct}
 use Rattle.wd_steps.specs.Repeats.{AreMarked, IsRowSort, SameBefore, are_same, ascending, compare_positions, compare_rows, repeats}
-use Rattle.wd_steps.proofs.Results.{map_more}
+use Rattle.wd_steps.proofs.Rising.{AreRisingTo, rising_dropped, rising_kept}
 
 -- ---- the order of rows by their values
 
@@ -222,83 +218,27 @@ distinct_push (x ∷ rows) r =
     let other : Row → Bool = λ q. not (same_row x q) in
     ap (λ l. x ∷ l) (ap (filter other) (distinct_push rows r) ∙ filter-append other (distinct rows) (unless_there (list_any (λ q. same_row q r) rows) r) ∙ ap (λ l. filter other (distinct rows) ++ l) (kept_last (same_row x r) (list_any (λ q. same_row q r) rows) x r refl))
 
--- ---- the rows in place, with first occurrences moved to the front
+-- ---- the positions of first occurrences, one row on
 
-pub record IsDistinctTo (rows now : List (Vec Value Global)) (kept i : ℕ) : Type 0 where
-  pub front : rows_of (take kept now) ≡ distinct (rows_of (take i rows))
-  pub rest : drop i now ≡ drop i rows
-  pub behind : kept ≤ i
-  pub within : i ≤ length rows
-  pub long : length now ≡ length rows
+pub record AreFirstTo (rows : List Row) (kept : List ℕ) (i : ℕ) : Type 0 where
+  pub front : rows_at rows kept ≡ distinct (take i rows)
+  pub order : AreRisingTo kept i
 
-module _ {X : Type 0} (xs ys : List X) (k i : ℕ) (x : X) (h : k ≤ i) (w : i < length xs) (is : x ≡ get_or xs i x) (swapped : SwappedAt xs ys k i) where
-  swapped_is : ys ≡ set (set xs k x) i (get_or xs k x)
-  swapped_is = swapped.3 x ∙ ap (λ y. set (set xs k y) i (get_or xs k x)) (sym is)
+module _ {rows : List Row} {kept : List ℕ} {i : ℕ} (so_far : AreFirstTo rows kept i) (within : i < length rows) where
+  shown : distinct (take (i + 1) rows) ≡ distinct (take i rows) ++ unless_there (repeats rows i) (row_at rows i)
+  shown = ap distinct (take_more rows i [] within) ∙ distinct_push (take i rows) (row_at rows i)
 
-  pub front_swapped : take (k + 1) ys ≡ take k xs ++ x ∷ []
-  front_swapped = elim (cases_lt k i) [
-    | inl less ↦ ap (take (k + 1)) swapped_is ∙ take-set-le (k + 1) (set xs k x) i (get_or xs k x) (omega arith) ∙ take_more_set xs k x (omega arith)
-    | inr same ↦ (
-        let at : k ≡ i = omega arith in
-        let here : get_or xs k x ≡ x = ap (λ n. get_or xs n x) at ∙ sym is in
-        let long : i < length (set xs k x) = omega (arith, length-set xs k x) in
-        ap (take (k + 1)) swapped_is ∙ ap (λ n. take (n + 1) (set (set xs k x) i (get_or xs k x))) at ∙ take_more_set (set xs k x) i (get_or xs k x) long
-        ∙ ap (λ y. take i (set xs k x) ++ y ∷ []) here ∙ ap (λ n. take n (set xs k x) ++ x ∷ []) (sym at) ∙ ap (λ l. l ++ x ∷ []) (take-set-le k xs k x (omega arith)))
-  ]
+  pub first_kept : repeats rows i ≡ false → AreFirstTo rows (kept ++ i ∷ []) (i + 1)
+  first_kept new = record {
+    front = map_push (row_at rows) kept i ∙ ap (λ l. l ++ row_at rows i ∷ []) so_far.front ∙ sym (shown ∙ ap (λ c. distinct (take i rows) ++ unless_there c (row_at rows i)) new);
+    order = rising_kept so_far.order;
+  }
 
-  pub rest_swapped : drop (i + 1) ys ≡ drop (i + 1) xs
-  rest_swapped = ap (drop (i + 1)) swapped_is ∙ drop-set-lt (i + 1) (set xs k x) i (get_or xs k x) (omega arith) ∙ drop-set-lt (i + 1) xs k x (omega arith)
+  pub first_dropped : repeats rows i ≡ true → AreFirstTo rows kept (i + 1)
+  first_dropped again = record {
+    front = so_far.front ∙ sym (shown ∙ ap (λ c. distinct (take i rows) ++ unless_there c (row_at rows i)) again ∙ append-nil (distinct (take i rows)));
+    order = rising_dropped so_far.order;
+  }
 
-  pub length_swapped : length ys ≡ length xs
-  length_swapped = ap length swapped_is ∙ length-set (set xs k x) i (get_or xs k x) ∙ length-set xs k x
-
-rest_more : {X : Type 0} (xs ys : List X) (i : ℕ) → drop i xs ≡ drop i ys → drop (i + 1) xs ≡ drop (i + 1) ys
-rest_more xs ys i e = sym (drop-drop 1 i xs) ∙ ap (drop 1) e ∙ drop-drop 1 i ys
-
-module _ {rows now : List (Vec Value Global)} {kept i : ℕ} (row : Vec Value Global) (so_far : IsDistinctTo rows now kept i) (within : i < length now) (is : row ≡ get_or now i row) where
-  there : row ≡ get_or rows i row
-  there = is ∙ same_at rows now i row so_far.rest
-
-  shown : distinct (rows_of (take (i + 1) rows)) ≡ distinct (rows_of (take i rows)) ++ unless_there (list_any (λ q. same_row q row.items) (rows_of (take i rows))) row.items
-  shown = ap distinct (map_more items rows i row (let e = so_far.long in omega arith) there) ∙ distinct_push (rows_of (take i rows)) row.items
-
-  repeats_here : repeats (rows_of rows) i ≡ list_any (λ q. same_row q row.items) (rows_of (take i rows))
-  repeats_here =
-      let e = so_far.long in
-      let at : row_at (rows_of rows) i ≡ row.items = get_or-map items rows i row [] (omega arith) ∙ ap items (sym there) in
-      ap (λ r. list_any (λ q. same_row q r) (take i (rows_of rows))) at ∙ ap (list_any (λ q. same_row q row.items)) (take-map items i rows)
-
-  pub IsDistinctTo-kept : {next : List (Vec Value Global)} → repeats (rows_of rows) i ≡ false → SwappedAt now next kept i → IsDistinctTo rows next (kept + 1) (i + 1)
-  IsDistinctTo-kept {next = next} new swapped =
-      let e = so_far.long in
-      let b = so_far.behind in
-      let none : list_any (λ q. same_row q row.items) (rows_of (take i rows)) ≡ false = sym repeats_here ∙ new in
-      record {
-        front = ap rows_of (front_swapped now next kept i row b within is swapped) ∙ map_push items (take kept now) row ∙ ap (λ l. l ++ row.items ∷ []) so_far.front ∙ sym (shown ∙ ap (λ c. distinct (rows_of (take i rows)) ++ unless_there c row.items) none);
-        rest = rest_swapped now next kept i row b within is swapped ∙ rest_more now rows i so_far.rest;
-        behind = omega arith;
-        within = omega arith;
-        long = length_swapped now next kept i row b within is swapped ∙ e;
-      }
-
-  pub IsDistinctTo-dropped : repeats (rows_of rows) i ≡ true → IsDistinctTo rows now kept (i + 1)
-  IsDistinctTo-dropped again =
-      let e = so_far.long in
-      let b = so_far.behind in
-      let some : list_any (λ q. same_row q row.items) (rows_of (take i rows)) ≡ true = sym repeats_here ∙ again in
-      record {
-        front = so_far.front ∙ sym (shown ∙ ap (λ c. distinct (rows_of (take i rows)) ++ unless_there c row.items) some ∙ append-nil (distinct (rows_of (take i rows))));
-        rest = rest_more now rows i so_far.rest;
-        behind = omega arith;
-        within = omega arith;
-        long = e;
-      }
-
--- an index below the length has an element
-pub element_at : {X : Type 0} (xs : List X) (i : ℕ) → i < length xs → (x : X) × (x ≡ get_or xs i x)
-element_at [] i h = absurd (omega arith)
-element_at (x ∷ xs) zero h = (x, refl)
-element_at (x ∷ xs) (suc i) h = element_at xs i (omega arith)
-
-pub IsDistinctTo-all : (rows now : List (Vec Value Global)) (kept i : ℕ) → IsDistinctTo rows now kept i → length rows ≤ i → rows_of (take kept now) ≡ distinct (rows_of rows)
-IsDistinctTo-all rows now kept i so_far all = so_far.front ∙ ap (λ rs. distinct (rows_of rs)) (take_all i rows all)
+pub first_all : (rows : List Row) (kept : List ℕ) (i : ℕ) → AreFirstTo rows kept i → length rows ≤ i → rows_at rows kept ≡ distinct rows
+first_all rows kept i so_far all = so_far.front ∙ ap distinct (take_all i rows all)

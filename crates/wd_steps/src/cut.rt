@@ -4,14 +4,14 @@ ghost use Rattle.std.specs.Prelude.{◌≡◌, IfOk, length, take_while};
 ghost use Rattle.wd_plan.specs.Outcomes.{cut, first_rows, peers};
 ghost use Rattle.wd_plan.specs.Plans.{limit_of};
 ghost use Rattle.wd_steps.specs.Cuts.{IsStretchOf};
-ghost use Rattle.wd_value.specs.Rows.{rows_of, rows_at};
+ghost use Rattle.wd_value.specs.Rows.{row_at, rows_of, rows_at};
 
-use crate::peers::are_peers;
-use crate::rows::rows_in;
+use crate::rows::copied_rows;
 use std::alloc::Global;
+use wd_columns::RowSource;
 use wd_plan::Limit;
-use wd_sort::row_in;
-use wd_value::{OutOfMemory, Row, SortColumn, Value};
+use wd_sort::compare_source_at;
+use wd_value::{OutOfMemory, Row, SortColumn};
 
 /// What a Limit keeps of the rows as an ordering of their positions has them: those after the
 /// offset, and where there is a count the first of them, with ties also those that follow and tie
@@ -24,14 +24,14 @@ pub fn cut_rows(
 ) -> Result<Vec<Row>, OutOfMemory>
     ensures { IfOk result (λ v. rows_of v.items ≡ cut (limit_of limit.now) (rows_at (rows_of rows.now) ordering.now)) }
 {
-    let kept = kept_positions(limit, rows, ordering);
-    let picked = rows_in(alloc, rows, kept)?;
+    let kept = kept_positions(limit, &RowSource::of_rows(rows), ordering);
+    let picked = copied_rows(alloc, rows, kept)?;
     Ok(picked)
 }
 
 /// The part of the ordering that stands for the rows which `cut_rows` keeps.
-pub fn kept_positions<'a>(limit: &Limit, rows: &[Row], ordering: &'a [u64]) -> &'a [u64]
-    ensures kept { rows_at (rows_of rows.now) result.now ≡ cut (limit_of limit.now) (rows_at (rows_of rows.now) ordering.now) }
+pub fn kept_positions<'a>(limit: &Limit, rows: &RowSource, ordering: &'a [u64]) -> &'a [u64]
+    ensures kept { rows_at rows.now result.now ≡ cut (limit_of limit.now) (rows_at rows.now ordering.now) }
     ensures part { IsStretchOf ordering.now result.now }
 {
     let start = (limit.offset as usize).min(ordering.len());
@@ -48,27 +48,26 @@ fn first_positions<'a>(
     keys: &[SortColumn],
     ties: bool,
     count: u64,
-    rows: &[Row],
+    rows: &RowSource,
     ordering: &'a [u64],
 ) -> &'a [u64]
-    ensures first { rows_at (rows_of rows.now) result.now ≡ first_rows keys.now ties count (rows_at (rows_of rows.now) ordering.now) }
+    ensures first { rows_at rows.now result.now ≡ first_rows keys.now ties count (rows_at rows.now ordering.now) }
     ensures part { IsStretchOf ordering.now result.now }
 {
     let end = (count as usize).min(ordering.len());
     if !ties || end == 0 {
         return &ordering[..end];
     }
-    let last = row_in(rows, ordering[end - 1]);
-    let more = count_peers(keys, last, rows, &ordering[end..]);
+    let more = count_peers(keys, ordering[end - 1], rows, &ordering[end..]);
     &ordering[..end + more]
 }
 
-/// How many rows at the front tie with this one.
-fn count_peers(keys: &[SortColumn], row: &[Value], rows: &[Row], ordering: &[u64]) -> usize
-    ensures { result ≡ length (take_while (peers keys.now row.now) (rows_at (rows_of rows.now) ordering.now)) }
+/// How many rows at the front of an ordering tie with the row at this position.
+fn count_peers(keys: &[SortColumn], last: u64, rows: &RowSource, ordering: &[u64]) -> usize
+    ensures { result ≡ length (take_while (peers keys.now (row_at rows.now last)) (rows_at rows.now ordering.now)) }
 {
     for (count, position) in ordering.iter().enumerate() {
-        if !are_peers(keys, row, row_in(rows, *position)) {
+        if !compare_source_at(rows, keys, last, *position).is_eq() {
             return count;
         }
     }

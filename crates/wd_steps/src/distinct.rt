@@ -5,34 +5,44 @@ ghost use Rattle.wd_plan.specs.Outcomes.{distinct};
 ghost use Rattle.wd_steps.specs.Repeats as spec;
 ghost use Rattle.wd_steps.specs.Repeats.{AreMarked, AreRepeats, IsRowSort};
 ghost use Rattle.wd_value.specs.Order as order;
-ghost use Rattle.wd_value.specs.Rows as table;
-ghost use Rattle.wd_value.specs.Rows.{rows_of, row_at};
+ghost use Rattle.wd_columns.specs.Moves.{AreDifferent, AreWithin};
+ghost use Rattle.wd_value.specs.Rows.{column_of, row_at, rows_at, rows_of};
 
 use std::alloc::Global;
 use std::cmp::Ordering;
-use wd_sort::{all_positions, row_in};
+use wd_columns::{RowSource, moved_rows};
+use wd_sort::all_positions;
 use wd_value::{OutOfMemory, Row, SortKey, Value, compare};
 
 /// The first of rows that are not distinct, in the order of the rows.
-pub fn distinct_rows(alloc: Global, mut rows: Vec<Row>) -> Result<Vec<Row>, OutOfMemory>
+pub fn distinct_rows(alloc: Global, rows: Vec<Row>) -> Result<Vec<Row>, OutOfMemory>
     ensures { IfOk result (λ v. rows_of v.items ≡ distinct (rows_of rows.items)) }
 {
-    let repeats = repeats_in(alloc, &rows)?;
-    let mut kept = 0;
+    let kept = distinct_positions(alloc, &RowSource::of_rows(&rows))?;
+    let first = moved_rows(alloc, rows, &kept)?;
+    Ok(first)
+}
+
+/// The positions of the first of rows that are not distinct, in the order of the rows.
+pub fn distinct_positions(alloc: Global, rows: &RowSource) -> Result<Vec<u64>, OutOfMemory>
+    ensures first { IfOk result (λ v. rows_at rows.now v.items ≡ distinct rows.now) }
+    ensures different { IfOk result (λ v. AreDifferent v.items) }
+    ensures within { IfOk result (λ v. AreWithin (length rows.now) v.items) }
+{
+    let repeats = repeats_in(alloc, rows)?;
+    let mut kept = Vec::new(alloc);
     for i in 0..rows.len() {
         if !repeats[i] {
-            rows.swap(kept, i);
-            kept += 1;
+            kept.push(i as u64)?;
         }
     }
-    rows.truncate(kept);
-    Ok(rows)
+    Ok(kept)
 }
 
 /// For each row whether it is the same as an earlier one. In the order of all values such rows
 /// stand side by side, the first one first.
-fn repeats_in(alloc: Global, rows: &[Row]) -> Result<Vec<bool>, OutOfMemory>
-    ensures { IfOk result (λ v. AreRepeats (rows_of rows.now) v.items) }
+fn repeats_in(alloc: Global, rows: &RowSource) -> Result<Vec<bool>, OutOfMemory>
+    ensures { IfOk result (λ v. AreRepeats rows.now v.items) }
 {
     let order = sorted_rows(alloc, rows)?;
     let marks = marked_neighbours(alloc, rows, &order)?;
@@ -40,13 +50,17 @@ fn repeats_in(alloc: Global, rows: &[Row]) -> Result<Vec<bool>, OutOfMemory>
 }
 
 /// Marks each position whose row is the same as the one right before it in the order.
-fn marked_neighbours(alloc: Global, rows: &[Row], order: &[u64]) -> Result<Vec<bool>, OutOfMemory>
-    ensures { IfOk result (λ v. AreMarked (rows_of rows.now) order.now (length order.now) v.items) }
+fn marked_neighbours(
+    alloc: Global,
+    rows: &RowSource,
+    order: &[u64],
+) -> Result<Vec<bool>, OutOfMemory>
+    ensures { IfOk result (λ v. AreMarked rows.now order.now (length order.now) v.items) }
 {
     let mut marks = vec![in alloc; false; rows.len()]?;
     for i in 1..order.len() {
         let position = order[i] as usize;
-        if position < marks.len() && are_same(row_in(rows, order[i - 1]), row_in(rows, order[i])) {
+        if position < marks.len() && are_same(rows, order[i - 1], order[i]) {
             marks[position] = true;
         }
     }
@@ -54,31 +68,44 @@ fn marked_neighbours(alloc: Global, rows: &[Row], order: &[u64]) -> Result<Vec<b
 }
 
 /// The positions in the order of the rows' values; of rows that are the same the first one first.
-fn sorted_rows(alloc: Global, rows: &[Row]) -> Result<Vec<u64>, OutOfMemory>
-    ensures { IfOk result (λ v. IsRowSort (rows_of rows.now) v.items) }
+fn sorted_rows(alloc: Global, rows: &RowSource) -> Result<Vec<u64>, OutOfMemory>
+    ensures { IfOk result (λ v. IsRowSort rows.now v.items) }
 {
     let mut order = all_positions(alloc, rows.len())?;
     order.sort_unstable_by(|p, q| compare_positions(rows, *p, *q));
     Ok(order)
 }
 
-fn compare_positions(rows: &[Row], p: u64, q: u64) -> Ordering
-    ensures { result ≡ spec.compare_positions (rows_of rows.now) p q }
+fn compare_positions(rows: &RowSource, p: u64, q: u64) -> Ordering
+    ensures { result ≡ spec.compare_positions rows.now p q }
 {
-    compare_rows(row_in(rows, p), row_in(rows, q)).then(p.cmp(&q))
+    compare_rows(rows, p, q).then(p.cmp(&q))
 }
 
 /// Rows compare at the first value on which they differ, and then by their length.
-fn compare_rows(a: &[Value], b: &[Value]) -> Ordering
-    ensures { result ≡ spec.compare_rows a.now b.now }
+fn compare_rows(rows: &RowSource, p: u64, q: u64) -> Ordering
+    ensures { result ≡ spec.compare_rows (row_at rows.now p) (row_at rows.now q) }
 {
-    for i in 0..a.len().min(b.len()) {
-        match compare_values(&a[i], &b[i]) {
+    let (wide, other) = (rows.width(p), rows.width(q));
+    for i in 0..wide.min(other) {
+        match compare_column(rows, i, p, q) {
             Ordering::Equal => {}
             found => return found,
         }
     }
-    a.len().cmp(&b.len())
+    wide.cmp(&other)
+}
+
+/// Two rows compared by their values in a column.
+fn compare_column(rows: &RowSource, column: usize, p: u64, q: u64) -> Ordering
+    ensures { result ≡ order.compare spec.ascending (column_of (row_at rows.now p) column) (column_of (row_at rows.now q) column) }
+{
+    let null = Value::Null;
+    let (a, b) = (
+        (&*rows).value_at(p, column, &null),
+        (&*rows).value_at(q, column, &null),
+    );
+    compare_values(a, b)
 }
 
 fn compare_values(a: &Value, b: &Value) -> Ordering
@@ -91,8 +118,8 @@ fn compare_values(a: &Value, b: &Value) -> Ordering
     compare(a, b, key)
 }
 
-fn are_same(a: &[Value], b: &[Value]) -> bool
-    ensures { result ≡ spec.are_same a.now b.now }
+fn are_same(rows: &RowSource, p: u64, q: u64) -> bool
+    ensures { result ≡ spec.are_same (row_at rows.now p) (row_at rows.now q) }
 {
-    compare_rows(a, b).is_eq()
+    compare_rows(rows, p, q).is_eq()
 }

@@ -1,37 +1,33 @@
 //! The rows for which a condition is true.
 
-ghost use Rattle.std.specs.Prelude.{◌≡◌, IfOk};
+ghost use Rattle.std.specs.Prelude.{◌≡◌, IfOk, List, length};
+ghost use Rattle.wd_columns.specs.Moves.{AreDifferent, AreWithin};
 ghost use Rattle.wd_plan.specs.Expressions.{expression_of};
 ghost use Rattle.wd_plan.specs.Outcomes as spec;
 ghost use Rattle.wd_plan.specs.Outcomes.{outcome_of};
-ghost use Rattle.wd_value.specs.Rows.{rows_of};
+ghost use Rattle.wd_plan.specs.Faults.{unless};
+ghost use Rattle.wd_steps.specs.Passing.{found_in};
+ghost use Rattle.wd_value.specs.Rows.{Row, rows_at, rows_of};
 
-use crate::fault::{rows_or_fault, with_value};
+use crate::fault::with_value;
+use crate::rows::copied_rows;
 use std::alloc::Global;
+use wd_columns::{RowSource, moved_rows};
 use wd_plan::{Expr, Outcome};
-use wd_scalar::{is_true, value_of};
-use wd_value::{Fault, OutOfMemory, Row, Value, copy_row};
+use wd_scalar::{is_true, value_at};
+use wd_value::{Fault, OutOfMemory, Row, Value};
 
 /// The rows for which the condition is true, in their order, or the least fault among all rows.
-pub fn filter_rows(
-    alloc: Global,
-    condition: &Expr,
-    mut rows: Vec<Row>,
-) -> Result<Outcome, OutOfMemory>
+pub fn filter_rows(alloc: Global, condition: &Expr, rows: Vec<Row>) -> Result<Outcome, OutOfMemory>
     ensures { IfOk result (λ o. outcome_of o ≡ spec.filter_outcome (expression_of condition.now) (rows_of rows.items)) }
 {
-    let mut kept = 0;
-    let mut fault = None;
-    for i in 0..rows.len() {
-        let value = value_of(alloc, condition, &rows[i])?;
-        fault = with_value(fault, &value);
-        if passes(&value) {
-            rows.swap(kept, i);
-            kept += 1;
+    match passing_positions(alloc, condition, &RowSource::of_rows(&rows))? {
+        Ok(kept) => {
+            let passing = moved_rows(alloc, rows, &kept)?;
+            Ok(Outcome::Rows(passing))
         }
+        Err(fault) => Ok(Outcome::Fault(fault)),
     }
-    rows.truncate(kept);
-    Ok(rows_or_fault(rows, fault))
 }
 
 /// Copies of the rows for which the condition is true, in their order, or the least fault among all rows. The rows stay where they
@@ -39,16 +35,46 @@ pub fn filter_rows(
 pub fn copy_filtered(alloc: Global, condition: &Expr, rows: &[Row]) -> Result<Outcome, OutOfMemory>
     ensures { IfOk result (λ o. outcome_of o ≡ spec.filter_outcome (expression_of condition.now) (rows_of rows.now)) }
 {
+    match passing_positions(alloc, condition, &RowSource::of_rows(rows))? {
+        Ok(kept) => {
+            let passing = copied_rows(alloc, rows, &kept)?;
+            Ok(Outcome::Rows(passing))
+        }
+        Err(fault) => Ok(Outcome::Fault(fault)),
+    }
+}
+
+/// The positions of the rows for which the condition is true, in their order, or the least fault among all rows.
+pub fn passing_positions(
+    alloc: Global,
+    condition: &Expr,
+    rows: &RowSource,
+) -> Result<Result<Vec<u64>, Fault>, OutOfMemory>
+    ensures passing { IfOk result (λ r. found_in rows.now r ≡ spec.filter_outcome (expression_of condition.now) rows.now) }
+    ensures different { IfOk result (λ r. IfOk r (λ v. AreDifferent v.items)) }
+    ensures within { IfOk result (λ r. IfOk r (λ v. AreWithin (length rows.now) v.items)) }
+{
     let mut kept = Vec::new(alloc);
     let mut fault = None;
-    for row in rows {
-        let value = value_of(alloc, condition, row)?;
+    for i in 0..rows.len() {
+        let value = value_at(alloc, condition, rows, i as u64)?;
         fault = with_value(fault, &value);
         if passes(&value) {
-            kept.push(copy_row(alloc, row)?)?;
+            kept.push(i as u64)?;
         }
     }
-    Ok(rows_or_fault(kept, fault))
+    Ok(positions_or_fault(kept, fault))
+}
+
+/// The positions, or the fault where there is one.
+fn positions_or_fault(positions: Vec<u64>, fault: Option<Fault>) -> Result<Vec<u64>, Fault>
+    ensures found { (rows : List Row) → found_in rows result ≡ unless fault (rows_at rows positions.items) }
+    ensures same { IfOk result (λ v. v ≡ positions) }
+{
+    match fault {
+        None => Ok(positions),
+        Some(fault) => Err(fault),
+    }
 }
 
 /// Whether a condition is true: not where it is false, NULL or a fault.

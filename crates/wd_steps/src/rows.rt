@@ -8,11 +8,7 @@ use wd_sort::row_in;
 use wd_value::{OutOfMemory, Row, copy_row};
 
 /// Copies of the rows at these positions, in their order.
-pub(crate) fn rows_in(
-    alloc: Global,
-    rows: &[Row],
-    positions: &[u64],
-) -> Result<Vec<Row>, OutOfMemory>
+pub fn copied_rows(alloc: Global, rows: &[Row], positions: &[u64]) -> Result<Vec<Row>, OutOfMemory>
     ensures { IfOk result (λ v. rows_of v.items ≡ rows_at (rows_of rows.now) positions.now) }
 {
     let mut picked = Vec::with_capacity(alloc, positions.len())?;

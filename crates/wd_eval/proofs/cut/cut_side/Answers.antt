@@ -1,7 +1,11 @@
 use Rattle.std.proofs.Common.{length}
-use Rattle.wd_value.specs.Rows.{rows_of}
-use Rattle.wd_eval.proofs.Taking.{different}
-use Rattle.wd_eval.proofs.cut.cut_made.Goals as goal
+use Rattle.wd_value.specs.Rows.{instance_of}
+use Rattle.wd_nodes.specs.Produced.{side_of}
+use Rattle.wd_eval.proofs.Taking.{different, within}
+use Rattle.wd_eval.proofs.cut.cut_side.Goals as goal
 
-pub moved_rows-requires : goal.moved_rows-requires
-moved_rows-requires c = different (length (rows_of c.args.rows.items)) c.args.ordering.now c.kept_positions-kept.result.now c.requires c.kept_positions-kept.ensures.part
+pub picked-requires-different : goal.picked-requires-different
+picked-requires-different c = different (length (side_of (instance_of c.args.instance.now) c.args.side)) c.args.ordering.now c.kept_positions-kept.result.now c.requires c.kept_positions-kept.ensures.part
+
+pub picked-requires-within : goal.picked-requires-within
+picked-requires-within c = within (length (side_of (instance_of c.args.instance.now) c.args.side)) c.args.ordering.now c.kept_positions-kept.result.now c.requires c.kept_positions-kept.ensures.part

@@ -112,9 +112,9 @@ returns-in_ok-outcome-in-Distinct t c = λ instance held. (
     let below = c.in_ok-below-in-Distinct.below in
     let o = c.in_ok-outcome-in-Distinct.outcome in
     let b = subst (λ p. IsWalked (plan_of p) tables instance orderings first old new below) c.deref-in-Distinct.ensures (c.in_ok-below-in-Distinct.ensures instance below_held).ok in
-    let is : outcome_of o ≡ and_then (produced_of tables below.outcome) (λ rows. Ok (distinct rows)) = search rules in
+    let is : produced_of tables o ≡ and_then (produced_of tables below.outcome) (λ rows. Ok (distinct rows)) = search rules in
     record {
-      ok = subst (λ p. IsWalked p tables instance orderings first old new (record { outcome = Made o; next = below.next })) (sym (ap plan_of c.in-Distinct.is)) (distinct_walked tables instance first old (plan_of c.in-Distinct.input.value) new below (Made o) orderings b is);
+      ok = subst (λ p. IsWalked p tables instance orderings first old new (record { outcome = o; next = below.next })) (sym (ap plan_of c.in-Distinct.is)) (distinct_walked tables instance first old (plan_of c.in-Distinct.input.value) new below o orderings b is);
       refused = tt;
     })
 
@@ -220,7 +220,7 @@ returns-in_ok-outcome-in-Limit t c = λ instance held. (
     let behind : next ≡ below.next + 1 = (λ i. next) in
     let b = subst (λ p. IsWalked (plan_of p) tables instance orderings first old mid below) c.deref-in-Limit.ensures (c.in_ok-below-in-Limit.ensures instance below_held).ok in
     record {
-      ok = subst (λ p. IsWalked p tables instance orderings first old new (record { outcome = Made o; next = next })) (sym (ap plan_of c.in-Limit.is))
+      ok = subst (λ p. IsWalked p tables instance orderings first old new (record { outcome = o; next = next })) (sym (ap plan_of c.in-Limit.is))
           (limit_walked tables instance first old input mid below new orderings limit o next c.requires.at b c.in_ok-outcome-in-Limit.ensures behind);
       refused = tt;
     })

@@ -1,6 +1,6 @@
 use Rattle.std.proofs.Common.{◌≡◌, ◌≤◌, ◌∙◌, ap, sym, subst, drop, length, rules, arith}
 use Rattle.std.proofs.lemmas.List.{take_rest}
-use Rattle.wd_value.specs.Rows.{rows_of, rows_at}
+use Rattle.wd_value.specs.Rows.{rows_at}
 use Rattle.wd_plan.specs.Outcomes.{first_rows}
 use Rattle.wd_steps.specs.Cuts.{IsStretchOf}
 use Rattle.wd_steps.proofs.Cutting.{rest_stretch, rows_after, whole_stretch}
@@ -8,7 +8,7 @@ use Rattle.wd_steps.proofs.cut.kept_positions.Goals as goal
 
 pub returns-in-None : goal.returns-in-None
 returns-in-None c =
-    let rows = rows_of c.args.rows.now in
+    let rows = c.args.rows.now in
     let ordering = c.args.ordering.now in
     let start = c.min-start.result in
     let low : start ≤ length ordering = (let is = c.min-start.ensures in omega arith) in
@@ -19,7 +19,7 @@ returns-in-None c =
 
 pub returns-in-Some : goal.returns-in-Some
 returns-in-Some c =
-    let rows = rows_of c.args.rows.now in
+    let rows = c.args.rows.now in
     let ordering = c.args.ordering.now in
     let start = c.min-start.result in
     let keys : c.deref.result.now ≡ c.args.limit.now.keys.items = search rules in
