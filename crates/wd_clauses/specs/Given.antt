@@ -14,7 +14,7 @@ Makes view tokens (Ok x) made = made ≡ view x
 Makes view tokens (Err e.TooLong) made = most_tokens < length (tokens made)
 Makes view tokens (Err e.OutOfMemory) made = Unit {0}
 
--- Tokens were written behind others, unless all are too long or memory ran out.
+-- Tokens were written after others, unless all are too long or memory ran out.
 abbrev pub Writes : {X : Type 0} → List Token → List Token → Result X RespellError → List Token → Type 0
 Writes old new (Ok x) piece = new ≡ old ++ piece
 Writes old new (Err e.TooLong) piece = most_tokens < length (old ++ piece)

@@ -15,12 +15,12 @@ abbrev pub with_front : List Token → Parts → Parts
 with_front part None = None
 with_front part (Some parts) = Some (part ∷ parts)
 
--- the tokens behind the first, where there is one
+-- the tokens after the first, where there is one
 abbrev pub past_first : List Token → Option (List Token)
 past_first [] = None
 past_first (first ∷ tokens) = Some tokens
 
--- a part alone, or, where a comma stands behind it, with those behind that
+-- a part alone, or, where a comma follows it, with those after that
 abbrev pub with_further : (List Token → Parts) → List Token → Option (List Token) → Parts
 with_further further part None = Some (part ∷ [])
 with_further further part (Some tokens) = with_front part (further tokens)

@@ -1,4 +1,4 @@
-//! Tokens that are written behind others, at most 65,536 in all.
+//! Tokens that are written after others, at most 65,536 in all.
 
 ghost use Rattle.std.specs.Prelude.{◌≡◌, ◌∷◌, [], IfOk};
 ghost use Rattle.wd_clauses.specs.Added as spec;

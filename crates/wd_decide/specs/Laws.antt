@@ -24,7 +24,7 @@ pub record IsSound (schema query : List ℕ) (certificate : Certificate) : Type 
   pub valid : ForReading schema query (λ tables plan. IsValidCertificate tables plan (certificate_of certificate))
   pub accepted : (text : List ℕ) → certificates.Spells (certificate_of certificate) text → IsAccepted schema query text
 
--- each certificate that is reported is so
+-- each certificate that is reported is sound
 abbrev pub ReportedAreSound : Type 0
 ReportedAreSound = (schema query : List ℕ) (certificate : Certificate) → IsVerdict schema query (Deterministic certificate) → IsSound schema query certificate
 
@@ -35,7 +35,7 @@ pub record IsTrueOf (schema query : List ℕ) (witness : Witness) : Type 0 where
   pub refuted : (text : List ℕ) → witnesses.Spells (witness_of witness) text → IsRefuted schema query text
   pub unrefused : (text : List ℕ) → witnesses.Spells (witness_of witness) text → (refusal : Refusal) → IsSome (refusal_number refusal) → ForReading schema query (RefusesText refusal text) → ⊥
 
--- each witness that is reported is so
+-- each witness that is reported is true
 abbrev pub ReportedAreTrue : Type 0
 ReportedAreTrue = (schema query : List ℕ) (witness : Witness) → IsVerdict schema query (Depends witness) → IsTrueOf schema query witness
 

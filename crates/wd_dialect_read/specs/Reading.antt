@@ -25,7 +25,7 @@ use Rattle.wd_dialect_read.specs.Kept.{alter_words, change_words, column_words, 
 
 -- ---- single words
 
--- the tokens after a word of that spelling, where it stands first
+-- the tokens after a word of that spelling, where it comes first
 unfoldable pub eat_text : List ℕ → Kinds → Option Kinds
 eat_text word [] = None
 eat_text word (y ∷ kinds) = if is_text word y then Some kinds else None
@@ -37,12 +37,12 @@ expect_text word kinds = some_or_unexpected (length kinds) (eat_text word kinds)
 unfoldable pub identifier_at : Parser (List ℕ)
 identifier_at kinds = name_at kinds >>= λ name. if length name.0.text == 0 then Err (Unexpected (length kinds)) else Ok (name.0.text, name.1)
 
--- the tokens after the words of a list that stand first
+-- the tokens after the words of a list that come first
 unfoldable pub past_words : List (List ℕ) → Kinds → Kinds
 past_words words [] = []
 past_words words (y ∷ kinds) = if is_among words y then past_words words kinds else y ∷ kinds
 
--- a word of a list stands first
+-- a word of a list comes first
 unfoldable pub begins_among : List (List ℕ) → Kinds → Bool
 begins_among words [] = false
 begins_among words (y ∷ kinds) = is_among words y
@@ -86,7 +86,7 @@ type_at kinds =
     qualified_at kinds >>= λ name. modifier_at (past_words type_words name.1) >>= λ modifier. array_at (past_zone modifier.1)
     >>= λ array. Ok (with_array array.0 (with_modifier (kind_named name.0) modifier.0), array.1)
 
--- ---- what stands after it
+-- ---- what comes after it
 
 abbrev pub with_marks : List Mark → List Mark × Kinds → List Mark × Kinds
 with_marks marks read = (marks ++ read.0, read.1)
@@ -95,7 +95,7 @@ with_marks marks read = (marks ++ read.0, read.1)
 abbrev pub marks_at : ℕ → TokenKind → List Mark
 marks_at depth y = if depth == 0 then mark_of y ∷ [] else []
 
--- what the tokens outside brackets say, up to a comma, a closing bracket or a semicolon; so many brackets are open
+-- what the tokens outside brackets say, up to a comma, a closing bracket or a semicolon; the given number of brackets are open
 unfoldable pub tail_from : ℕ → Kinds → List Mark × Kinds
 tail_from depth [] = ([], [])
 tail_from depth (y ∷ kinds) = if depth == 0 && ends_item y then ([], y ∷ kinds) else with_marks (marks_at depth y) (tail_from (depth_after depth y) kinds)
@@ -139,7 +139,7 @@ key_at kinds =
 unfoldable pub begins_key : Kinds → Bool
 begins_key kinds = is_some (eat m.Primary kinds) || is_some (eat m.Unique kinds)
 
--- ---- what stands between two commas
+-- ---- what is between two commas
 
 -- EXCLUDE [USING ..] ( .. ), before which no column of that name stands
 unfoldable pub exclude_note : Kinds → Option Note

@@ -78,7 +78,7 @@ abbrev pub with_two : ℕ → ColumnKind → ColumnKind
 with_two scale (kind.Decimal other) = kind.Decimal (Some scale)
 with_two scale _ = kind.Opaque
 
--- the kind of a type, by what stands in brackets after its name
+-- the kind of a type, by what is in brackets after its name
 abbrev pub with_modifier : ColumnKind → Modifier → ColumnKind
 with_modifier found Nothing = found
 with_modifier found (One number) = with_one found
@@ -112,7 +112,7 @@ abbrev pub is_among : List (List ℕ) → TokenKind → Bool
 is_among words (t.Word text) = has_word words text
 is_among words _ = false
 
--- a comma, a closing bracket or a semicolon ends what stands between two commas
+-- a comma, a closing bracket or a semicolon ends what is between two commas
 abbrev pub ends_item : TokenKind → Bool
 ends_item (t.Terminal m.Comma) = true
 ends_item (t.Terminal m.RightBracket) = true

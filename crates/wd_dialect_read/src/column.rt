@@ -54,7 +54,7 @@ fn read_numbers(tokens: &[Token]) -> Result<(Modifier, &[Token]), Refusal>
     }
 }
 
-/// What stands in brackets after the name of a type.
+/// What is in brackets after the name of a type.
 #[tactic(auto, unfolding(crate::specs::Reading::modifier_at))]
 fn read_modifier(tokens: &[Token]) -> Result<(Modifier, &[Token]), Refusal>
     ensures { Gives (λ x. (x.0, kinds_of x.1.now)) result (modifier_at (kinds_of tokens.now)) }
@@ -71,7 +71,7 @@ fn read_modifier(tokens: &[Token]) -> Result<(Modifier, &[Token]), Refusal>
     }
 }
 
-/// Whether the empty brackets of an array stand first.
+/// Whether the empty brackets of an array come first.
 #[tactic(auto, unfolding(crate::specs::Reading::array_at))]
 fn read_array(tokens: &[Token]) -> Result<(bool, &[Token]), Refusal>
     ensures { Gives (λ x. (x.0, kinds_of x.1.now)) result (array_at (kinds_of tokens.now)) }
@@ -82,7 +82,7 @@ fn read_array(tokens: &[Token]) -> Result<(bool, &[Token]), Refusal>
     }
 }
 
-/// The tokens after the words that may stand after a type's brackets, as WITH TIME ZONE.
+/// The tokens after the words that may follow a type's brackets, as WITH TIME ZONE.
 #[tactic(auto, unfolding(crate::specs::Reading::past_zone))]
 fn past_zone(tokens: &[Token]) -> &[Token]
     ensures { kinds_of result.now ≡ past_zone (kinds_of tokens.now) }

@@ -30,7 +30,7 @@ const STATEMENT_WORDS: [&[u8]; 18] = [
     b"show",
 ];
 
-/// Whether a statement stands first after which all that is read holds.
+/// Whether a statement comes first after which all that is read holds.
 pub fn begins_statement(tokens: &[Token]) -> bool
     ensures { result ≡ begins_among statement_words (kinds_of tokens.now) }
 {
@@ -72,7 +72,7 @@ const CREATE_WORDS: [&[u8]; 31] = [
     b"access",
 ];
 
-/// Whether what CREATE makes beside tables stands first.
+/// Whether what CREATE makes beside tables comes first.
 pub fn begins_created(tokens: &[Token]) -> bool
     ensures { result ≡ begins_among create_words (kinds_of tokens.now) }
 {
@@ -113,7 +113,7 @@ const ALTER_WORDS: [&[u8]; 30] = [
     b"system",
 ];
 
-/// Whether what ALTER changes beside tables stands first.
+/// Whether what ALTER changes beside tables comes first.
 pub fn begins_altered(tokens: &[Token]) -> bool
     ensures { result ≡ begins_among alter_words (kinds_of tokens.now) }
 {
@@ -132,7 +132,7 @@ const CHANGE_WORDS: [&[u8]; 8] = [
     b"validate",
 ];
 
-/// Whether such a change of a table stands first.
+/// Whether such a change of a table comes first.
 pub fn begins_change(tokens: &[Token]) -> bool
     ensures { result ≡ begins_among change_words (kinds_of tokens.now) }
 {
@@ -142,7 +142,7 @@ pub fn begins_change(tokens: &[Token]) -> bool
 // Such changes of a column.
 const COLUMN_WORDS: [&[u8]; 3] = [b"add", b"reset", b"restart"];
 
-/// Whether such a change of a column stands first.
+/// Whether such a change of a column comes first.
 pub fn begins_column_change(tokens: &[Token]) -> bool
     ensures { result ≡ begins_among column_words (kinds_of tokens.now) }
 {
@@ -152,7 +152,7 @@ pub fn begins_column_change(tokens: &[Token]) -> bool
 // What a column loses and keeps all that is read of it.
 const DROP_WORDS: [&[u8]; 3] = [b"default", b"identity", b"expression"];
 
-/// Whether that stands first which a column may lose.
+/// Whether that comes first which a column may lose.
 pub fn begins_dropped(tokens: &[Token]) -> bool
     ensures { result ≡ begins_among drop_words (kinds_of tokens.now) }
 {
@@ -162,7 +162,7 @@ pub fn begins_dropped(tokens: &[Token]) -> bool
 // What is set after which something that is read does not hold.
 const SET_WORDS: [&[u8]; 2] = [b"schema", b"data"];
 
-/// Whether the schema of a table or the type of a column stands first.
+/// Whether the schema of a table or the type of a column comes first.
 pub fn begins_unsaid(tokens: &[Token]) -> bool
     ensures { result ≡ begins_among set_words (kinds_of tokens.now) }
 {

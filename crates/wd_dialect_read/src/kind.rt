@@ -18,7 +18,7 @@ pub enum ColumnKind {
     Date,
     /// Microseconds.
     Timestamp,
-    /// Decimals. With so many places after the point they are whole numbers of their last place; else equal ones may look
+    /// Decimals. With the given number of places after the point they are whole numbers of their last place; else equal ones may look
     /// different.
     Decimal(Option<u64>),
     /// Floating numbers, whose sum depends on the order in which they are added.
@@ -70,7 +70,7 @@ const KINDS: [(&[u8], ColumnKind); 37] = [
     (b"macaddr", ColumnKind::Opaque),
 ];
 
-/// What stands in brackets after the name of a type.
+/// What is in brackets after the name of a type.
 #[derive(Clone, Copy, PartialEq, Eq)]
 pub enum Modifier {
     Nothing,
@@ -101,7 +101,7 @@ pub fn kind_named(name: &[u8]) -> ColumnKind
     kind_in(&KINDS, name)
 }
 
-/// The kind of a type with what stands in brackets after its name. In square brackets an array has its length.
+/// The kind of a type with what is in brackets after its name. In square brackets an array has its length.
 pub fn with_modifier(kind: ColumnKind, modifier: Modifier) -> ColumnKind
     ensures { result ≡ with_modifier kind modifier }
 {

@@ -48,7 +48,7 @@ pub enum Mark {
     Other,
 }
 
-/// A column: what its type is, and what stands after it.
+/// A column: what its type is, and what comes after it.
 #[derive(Drop)]
 pub struct SaidColumn {
     pub name: Identifier,
@@ -56,7 +56,7 @@ pub struct SaidColumn {
     pub marks: Vec<Mark>,
 }
 
-/// A key: its words, its columns, of which there is at least one, and what stands after them.
+/// A key: its words, its columns, of which there is at least one, and what comes after them.
 #[derive(Drop)]
 pub struct SaidKey {
     pub words: KeyWords,
@@ -65,7 +65,7 @@ pub struct SaidKey {
     ghost some: { 0 < length columns.items },
 }
 
-/// What stands between two commas of a table's declaration.
+/// What is between two commas of a table's declaration.
 #[derive(Drop)]
 pub enum Item {
     Column(SaidColumn),

@@ -1,4 +1,4 @@
-//! What stands after a column's type.
+//! What comes after a column's type.
 
 ghost use Rattle.std.specs.Prelude.{◌≡◌, ◌+◌, ◌^◌, ◌<◌, ◌++◌, map};
 ghost use Rattle.wd_lex.specs.Lexed.{kinds_of};
@@ -66,7 +66,7 @@ fn mark_of(kind: &TokenKind) -> Mark
     }
 }
 
-/// Whether a token ends what stands between two commas.
+/// Whether a token ends what is between two commas.
 fn ends_item(kind: &TokenKind) -> bool
     ensures { result ≡ ends_item kind.now }
 {

@@ -19,8 +19,8 @@ use Rattle.wd_dialect_read.specs.declared.said.Note.TheVariants as note
 use Rattle.wd_dialect_read.specs.Said.{ColumnSaid, KeySaid, ItemSaid, StatementSaid}
 use Rattle.wd_dialect_read.specs.Said as said
 
--- The profile's type of a column: dates as days, timestamps as microseconds, decimals of a scale as whole numbers of their
--- last place. What may only be compared and sorted stands as a text.
+-- The profile's type of a column: dates as days, timestamps as microseconds, decimals of a scale as whole numbers of their last place.
+-- What may only be compared and sorted appears as a text.
 abbrev pub type_of : ColumnKind → ColumnType
 type_of kind.Small = profile.SmallInt
 type_of kind.Whole = profile.Integer
@@ -43,7 +43,7 @@ abbrev pub begins_null : List Mark → Bool
 begins_null (mark.Null ∷ marks) = true
 begins_null _ = false
 
--- NOT NULL stands among what is said outside brackets
+-- NOT NULL is among what is said outside brackets
 abbrev pub says_not_null : List Mark → Bool
 says_not_null [] = false
 says_not_null (m ∷ marks) = (is_not m && begins_null marks) || says_not_null marks
@@ -52,7 +52,7 @@ abbrev pub is_deferrable : Mark → Bool
 is_deferrable (mark.Passed note.Deferrable) = true
 is_deferrable _ = false
 
--- DEFERRABLE stands among what is said outside brackets, without NOT before it; or NOT stands before all of that
+-- DEFERRABLE is among what is said outside brackets, without NOT before it; or NOT comes before all of that
 abbrev pub says_deferrable : Bool → List Mark → Bool
 says_deferrable after_not [] = false
 says_deferrable after_not (m ∷ marks) = (is_deferrable m && not after_not) || says_deferrable (is_not m) marks
@@ -92,7 +92,7 @@ lasting marks keys = if says_deferrable false marks then [] else keys
 abbrev pub column_of : ColumnSaid → ElementTree
 column_of c = Column (record { name = name_of c.name; kind = record { text = type_word (type_of c.kind); quoted = false }; rules = rules_of (says_not_null c.marks) })
 
--- what stands between two commas: a column and its keys, a key, or nothing
+-- what is between two commas: a column and its keys, a key, or nothing
 abbrev pub elements_of : ItemSaid → List ElementTree
 elements_of (said.Column c) = column_of c ∷ lasting c.marks (keys_of c.name c.marks)
 elements_of (said.Key k) = lasting k.marks (key_of k.words k.columns ∷ [])

@@ -55,7 +55,7 @@ pub record IsLong (text : List ℕ) : Type 0 where
   pub says : Says text statements
   pub long : most_bytes < length (printed (spell_schema (schema_of (tables_of statements))))
 
--- a refusal's cause stands in the text; where memory runs out none does
+-- a refusal's cause is in the text; where memory runs out none does
 abbrev pub HasCause : List ℕ → DialectError → Type 0
 HasCause text (e.Tokens error) = tokens.HasCause error (masked text)
 HasCause text (e.Unexpected place) = Stops text place

@@ -119,7 +119,7 @@ fn add_keys(
     Ok(())
 }
 
-/// Adds what stands between two commas.
+/// Adds what is between two commas.
 fn add_item(
     alloc: Global,
     elements: &mut Vec<DeclaredElement>,

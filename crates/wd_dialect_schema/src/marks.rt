@@ -35,7 +35,7 @@ fn is_not(mark: Mark) -> bool
     }
 }
 
-/// Whether NULL stands first.
+/// Whether NULL comes first.
 fn begins_null(marks: &[Mark]) -> bool
     ensures { result ≡ begins_null marks.now }
 {
@@ -45,7 +45,7 @@ fn begins_null(marks: &[Mark]) -> bool
     }
 }
 
-/// Whether NOT NULL stands among the marks.
+/// Whether NOT NULL is among the marks.
 pub fn says_not_null(marks: &[Mark]) -> bool
     ensures { result ≡ says_not_null marks.now }
 {
@@ -69,7 +69,7 @@ fn is_deferrable(mark: Mark) -> bool
     }
 }
 
-/// Whether DEFERRABLE stands among the marks, without NOT before it.
+/// Whether DEFERRABLE is among the marks, without NOT before it.
 pub fn says_deferrable(marks: &[Mark]) -> bool
     ensures { result ≡ says_deferrable false marks.now }
 {

@@ -31,7 +31,7 @@ pub struct DialectSchema {
 
 /// The schema of a text of PostgreSQL.
 ///
-/// A table's name stands without its schema. Each name stands in quotes in the profile's text.
+/// A table's name appears without its schema. Each name is in quotes in the profile's text.
 pub fn read_dialect(alloc: Global, text: &[u8]) -> Result<DialectSchema, DialectError>
     // The statements are those of the text.
     ensures says { IfOk result (λ schema. Says text.now (map statement_said schema.statements.items)) }
@@ -39,10 +39,10 @@ pub fn read_dialect(alloc: Global, text: &[u8]) -> Result<DialectSchema, Dialect
     // The profile's text spells the tables that they declare.
     ensures spells { IfOk result (λ schema. Spells (string_bytes schema.text) (tables_of (map statement_said schema.statements.items))) }
 
-    // A refusal comes only where its cause stands in the text.
+    // A refusal occurs only where its cause is in the text.
     ensures cause { IfErr result (λ refusal. refusal ≢ DialectError.OutOfMemory → HasCause text.now refusal) }
 
-    // Where a cause stands in its tokens, the text is refused.
+    // Where a cause is in its tokens, the text is refused.
     ensures refused { OnOk result ((refusal : Refused) → refusal ≢ DialectError.TooLong → HasCause text.now refusal → ⊥) }
 {
     let statements = statements_of(alloc, text)?;

@@ -1,7 +1,7 @@
--- A text of PostgreSQL in the characters of the profile. What stands in comments and quotes stays as it is; outside of them
--- a square bracket stands as a round one, the point in a number as a blank, what PostgreSQL has as a character of an operator
--- and the profile has not as a percent sign, and a command of psql, from its backslash to the end of the line, as blanks. In
--- a text E'..' a quote behind a backslash stands as an underscore. Each byte stays at its place.
+-- A text of PostgreSQL in the characters of the profile. What is in comments and quotes stays as it is; outside of them a square
+-- bracket appears as a round one, the point in a number as a blank, what PostgreSQL has as a character of an operator and the profile
+-- has not as a percent sign, and a command of psql, from its backslash to the end of the line, as blanks. In a text E'..' a quote after
+-- a backslash appears as an underscore. Each byte stays at its place.
 use Rattle.std.specs.Prelude.{ℕ, ◌+◌, ◌-◌, ◌^◌, ◌==◌, ◌||◌, ◌&&◌, min, Bool, List, [], ◌∷◌, slice_index, if◌then◌else◌}
 use Rattle.wd_lex.specs.Characters.{begins_word, goes_on_word, is_digit, is_line_end, single_quote, double_quote}
 use Rattle.wd_dialect_text.specs.declared.mask.State.{State}
@@ -35,7 +35,7 @@ between b next =
     else (if is_foreign b then (37, s.Between)
     else (b, s.Between)))))))))))
 
--- so many comments deep, and one more
+-- the given number of comments deep, and one more
 abbrev pub deeper : ℕ → ℕ
 deeper depth = min (depth + 1) (2 ^ 64 - 1)
 
@@ -59,7 +59,7 @@ step (s.Opening depth) b next = (b, s.Block depth)
 step (s.Block depth) b next = if b == 42 && next == 47 then (b, s.Closing depth) else (if b == 47 && next == 42 then (b, s.Opening (deeper depth)) else (b, s.Block depth))
 step (s.Closing depth) b next = (b, closed depth)
 
--- bytes, of which the first stands in a state
+-- bytes, of which the first is in a state
 abbrev pub masked_from : State → List ℕ → List ℕ
 masked_from state [] = []
 masked_from state (b ∷ bytes) = let taken = step state b (slice_index bytes 0) in taken.0 ∷ masked_from taken.1 bytes

@@ -15,25 +15,25 @@ pub enum State {
     Word,
     /// It may go on with a number.
     Number,
-    /// It stands in a text.
+    /// It is in a text.
     Text,
-    /// It stands in a quoted name.
+    /// It is in a quoted name.
     Name,
     /// It opens a text E'..'.
     Prefix,
-    /// It stands in such a text.
+    /// It is in such a text.
     Escaped,
-    /// It stands after a backslash in such a text.
+    /// It comes after a backslash in such a text.
     Skipped,
-    /// It stands after a quote in such a text.
+    /// It comes after a quote in such a text.
     Paused,
-    /// It stands in a comment up to the end of its line.
+    /// It is in a comment up to the end of its line.
     Line,
-    /// It stands in a command of psql.
+    /// It is in a command of psql.
     Command,
-    /// It is the second byte of `/*`, which opens a comment within so many others.
+    /// It is the second byte of `/*`, which opens a comment within the given number of others.
     Opening(u64),
-    /// It stands in such a comment.
+    /// It is in such a comment.
     Block(u64),
     /// It is the second byte of `*/`, which closes such a comment.
     Closing(u64),
@@ -95,7 +95,7 @@ fn escaped(byte: u8, next: u8) -> Step
     }
 }
 
-/// A byte in a comment within so many others.
+/// A byte in a comment within the given number of others.
 #[tactic(auto, unfolding(crate::specs::Masked::step))]
 fn in_block(depth: u64, byte: u8, next: u8) -> Step
     ensures { result ≡ spec.step (State.Block depth) byte next }

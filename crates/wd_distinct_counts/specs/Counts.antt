@@ -1,4 +1,4 @@
--- The calls COUNT( DISTINCT c ) among tokens, where no other aggregate stands among them.
+-- The calls COUNT( DISTINCT c ) among tokens, where no other aggregate is among them.
 use Rattle.std.specs.Prelude.{ℕ, codes, ◌&&◌, ◌||◌, not, if◌then◌else◌, Bool, true, false, List, [], ◌∷◌, take, drop, Option, Some, None}
 use Rattle.std.specs.Str.{bytes_eq}
 use Rattle.wd_lex.specs.declared.token.TokenKind.{TokenKind}
@@ -19,7 +19,7 @@ is_count _ = false
 abbrev pub names_aggregate : List ℕ → Bool
 names_aggregate text = bytes_eq text (codes "count") || bytes_eq text (codes "sum") || bytes_eq text (codes "min") || bytes_eq text (codes "max")
 
--- a name, quoted or not, behind which a bracket holds what is put together of each group: the profile reads no other such call
+-- a name, quoted or not, after which a bracket holds what is put together of each group: the profile reads no other such call
 abbrev pub is_aggregate : TokenKind → Bool
 is_aggregate (t.Word text) = names_aggregate text
 is_aggregate (t.Quoted text) = names_aggregate text
@@ -30,7 +30,7 @@ abbrev pub goes_on : TokenKind → Bool
 goes_on (t.Word text) = bytes_eq text (codes "filter")
 goes_on kind = is_over kind
 
--- the bracket that closes a call, and no OVER or FILTER behind it
+-- the bracket that closes a call, and no OVER or FILTER after it
 abbrev pub closes_call : List Token → Bool
 closes_call [] = false
 closes_call (bracket ∷ tokens) = closes bracket.kind && not (begins goes_on tokens)
@@ -38,7 +38,7 @@ closes_call (bracket ∷ tokens) = closes bracket.kind && not (begins goes_on to
 abbrev pub if_closed : List Token → List Token → Option (List Token)
 if_closed column behind = if is_column column && closes_call behind then Some column else None
 
--- so many tokens, if they are a column and the call closes behind them
+-- the given number of tokens, if they are a column and the call closes after them
 abbrev pub closed_after : ℕ → List Token → Option (List Token)
 closed_after count tokens = if_closed (take count tokens) (drop count tokens)
 
@@ -46,12 +46,12 @@ closed_after count tokens = if_closed (take count tokens) (drop count tokens)
 abbrev pub column_at : List Token → Option (List Token)
 column_at tokens = or_else (closed_after 3 tokens) (closed_after 1 tokens)
 
--- the column of COUNT( DISTINCT c ), behind its bracket, before which this stands
+-- the column of COUNT( DISTINCT c ), after its bracket, before which this stands
 abbrev pub counted_at : TokenKind → List Token → Option (List Token)
 counted_at before [] = None
 counted_at before (distinct ∷ tokens) = if is_count before && is_distinct distinct.kind then column_at tokens else None
 
--- the bracket of an aggregate, or DISTINCT stands behind it
+-- the bracket of an aggregate, or DISTINCT follows it
 abbrev pub begins_call : TokenKind → Token → List Token → Bool
 begins_call before bracket tokens = opens bracket.kind && (is_aggregate before || begins is_distinct tokens)
 
@@ -69,7 +69,7 @@ joined so_far None = None
 joined None (Some column) = Some column
 joined (Some first) (Some column) = if is_same_column first column then Some first else None
 
--- the one column, if any, of each COUNT( DISTINCT c ) behind such a token and before it, where there is no other aggregate
+-- the one column, if any, of each COUNT( DISTINCT c ) after such a token and before it, where there is no other aggregate
 abbrev pub column_in : Option (List Token) → TokenKind → List Token → Option (Option (List Token))
 column_in so_far before [] = Some so_far
 column_in so_far before (token ∷ tokens) =

@@ -32,14 +32,14 @@ abbrev pub over_table : List Token → Pieces → Grouping → List Token → Li
 over_table front select grouping column keys None = over_tables front select grouping column keys select.tables
 over_table front select grouping column keys (Some one) = Some (front ++ written select grouping one column)
 
--- what stands for a select behind these tokens, if its keys are columns
+-- what stands for a select after these tokens, if its keys are columns
 abbrev pub if_columns : List Token → Pieces → Grouping → List Token → List (List Token) → Option (List Token)
 if_columns front select grouping column keys = if are_columns keys then over_table front select grouping column keys (one_table select.tables) else None
 
 abbrev pub with_column : List Token → Pieces → Grouping → List Token → Option (List Token)
 with_column front select grouping column = parts_in grouping.keys >>= if_columns front select grouping column
 
--- the one column that is counted in the items and in the clauses behind GROUP BY, if any
+-- the one column that is counted in the items and in the clauses after GROUP BY, if any
 abbrev pub column_of : Pieces → Grouping → Option (Option (List Token))
 column_of select grouping = column_in None select.select.kind select.items >>= λ so_far. column_in so_far select.select.kind grouping.later
 
@@ -49,7 +49,7 @@ if_counted front select grouping found = found >>= with_column front select grou
 abbrev pub with_grouping : List Token → Pieces → Grouping → Option (List Token)
 with_grouping front select grouping = column_of select grouping >>= if_counted front select grouping
 
--- what stands for a select behind these tokens
+-- what stands for a select after these tokens
 abbrev pub respelled_select : List Token → Pieces → Option (List Token)
 respelled_select front select = with_grouping front select (grouping_of select.clauses)
 

@@ -12,7 +12,7 @@ use Rattle.wd_grouping.specs.Written.{closing}
 use Rattle.wd_distinct_counts.specs.Counts.{counted}
 use Rattle.wd_distinct_counts.specs.Pieces.{Grouping, condition_of}
 
--- a comma behind keys
+-- a comma after keys
 abbrev pub comma_behind : List Token → Token → List Token
 comma_behind [] word = []
 comma_behind (key ∷ keys) word = added m.Comma word ∷ []
@@ -37,7 +37,7 @@ by_columns one keys column = all_added (m.Group ∷ m.By ∷ []) one.from ++ col
 abbrev pub head : Pieces → Option Token → List Token
 head select table = select.select ∷ (select.distinct ++ counted table select.select.kind select.items)
 
--- [GROUP BY keys] and the clauses behind them
+-- [GROUP BY keys] and the clauses after them
 abbrev pub tail : Pieces → Grouping → Option Token → List Token
 tail select grouping table = grouping.words ++ qualified table grouping.keys ++ counted table select.select.kind grouping.later ++ select.after
 

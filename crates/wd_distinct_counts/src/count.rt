@@ -12,7 +12,7 @@ use wd_grouping::{add_its_table, begins_dot, is_column, is_over};
 use wd_lex::{Terminal, Token, TokenKind};
 use wd_using::{begins_distinct, opens};
 
-/// Whether COUNT stands there.
+/// Whether COUNT is there.
 fn is_count(kind: &TokenKind) -> bool
     ensures { result ≡ spec.is_count kind.now }
 {
@@ -22,7 +22,7 @@ fn is_count(kind: &TokenKind) -> bool
     }
 }
 
-/// Whether COUNT, SUM, MIN or MAX stands there, quoted or not.
+/// Whether COUNT, SUM, MIN or MAX is there, quoted or not.
 fn is_aggregate(kind: &TokenKind) -> bool
     ensures { result ≡ spec.is_aggregate kind.now }
 {
@@ -37,7 +37,7 @@ fn is_aggregate(kind: &TokenKind) -> bool
     }
 }
 
-/// Whether OVER or FILTER stands there.
+/// Whether OVER or FILTER is there.
 fn goes_on(kind: &TokenKind) -> bool
     ensures { result ≡ spec.goes_on kind.now }
 {
@@ -47,7 +47,7 @@ fn goes_on(kind: &TokenKind) -> bool
     }
 }
 
-/// Whether OVER or FILTER stands first.
+/// Whether OVER or FILTER comes first.
 fn begins_more(tokens: &[Token]) -> bool
     ensures { result ≡ kinds.begins spec.goes_on tokens.now }
 {
@@ -69,7 +69,7 @@ fn is_distinct(kind: &TokenKind) -> bool
     matches!(kind, TokenKind::Terminal(Terminal::Distinct))
 }
 
-/// Whether a bracket closes the call, and no OVER or FILTER stands behind it.
+/// Whether a bracket closes the call, and no OVER or FILTER follows it.
 fn closes_call(tokens: &[Token]) -> bool
     ensures { result ≡ spec.closes_call tokens.now }
 {
@@ -79,7 +79,7 @@ fn closes_call(tokens: &[Token]) -> bool
     }
 }
 
-/// So many tokens, if they are a column and the call closes behind them.
+/// So many tokens, if they are a column and the call closes after them.
 fn if_closed(count: usize, tokens: &[Token]) -> Option<&[Token]>
     ensures { Finds (λ column. column.now) result (spec.closed_after count tokens.now) }
 {
@@ -90,7 +90,7 @@ fn if_closed(count: usize, tokens: &[Token]) -> Option<&[Token]>
     None
 }
 
-/// `x.c` or `c`, with the bracket that closes the call behind it.
+/// `x.c` or `c`, with the bracket that closes the call after it.
 fn column_at(tokens: &[Token]) -> Option<&[Token]>
     ensures { Finds (λ column. column.now) result (spec.column_at tokens.now) }
 {
@@ -100,7 +100,7 @@ fn column_at(tokens: &[Token]) -> Option<&[Token]>
     }
 }
 
-/// The column of `COUNT( DISTINCT c )`, behind its bracket, before which this stands.
+/// The column of `COUNT( DISTINCT c )`, after its bracket, before which this stands.
 fn counted_at<'t>(before: &TokenKind, tokens: &'t [Token]) -> Option<&'t [Token]>
     ensures { Finds (λ column. column.now) result (spec.counted_at before.now tokens.now) }
 {
@@ -110,7 +110,7 @@ fn counted_at<'t>(before: &TokenKind, tokens: &'t [Token]) -> Option<&'t [Token]
     }
 }
 
-/// Whether it is the bracket of an aggregate, or DISTINCT stands behind it.
+/// Whether it is the bracket of an aggregate, or DISTINCT follows it.
 fn begins_call(before: &TokenKind, bracket: &Token, tokens: &[Token]) -> bool
     ensures { result ≡ spec.begins_call before.now bracket.now tokens.now }
 {
@@ -139,7 +139,7 @@ fn joined<'t>(so_far: Option<&'t [Token]>, found: Option<&'t [Token]>) -> Option
     }
 }
 
-/// The one column, if any, of each `COUNT( DISTINCT c )` behind such a token and before it, where there is no other aggregate.
+/// The one column, if any, of each `COUNT( DISTINCT c )` after such a token and before it, where there is no other aggregate.
 pub fn column_in<'t>(
     so_far: Option<&'t [Token]>,
     before: &TokenKind,

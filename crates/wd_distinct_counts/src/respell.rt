@@ -116,7 +116,7 @@ fn with_column(
     }
 }
 
-/// The one column that is counted in the items and in the clauses behind GROUP BY, if any.
+/// The one column that is counted in the items and in the clauses after GROUP BY, if any.
 fn column_of<'t>(select: &Select<'t>, grouping: &Grouping<'t>) -> Option<Option<&'t [Token]>>
     ensures { Finds (λ found. option_map (λ column. column.now) found) result (spec.column_of (pieces select.now) (grouping_pieces grouping.now)) }
 {
@@ -126,7 +126,7 @@ fn column_of<'t>(select: &Select<'t>, grouping: &Grouping<'t>) -> Option<Option<
     }
 }
 
-/// What stands for a select behind these tokens.
+/// What stands for a select after these tokens.
 fn respelled_select(
     alloc: Global,
     front: &[Token],

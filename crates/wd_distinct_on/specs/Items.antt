@@ -19,7 +19,7 @@ column_of (c ∷ []) = if is_name c.kind then Some (record { name = c; value = c
 column_of (x ∷ dot ∷ c ∷ []) = if is_name x.kind && is_dot dot.kind && is_name c.kind then Some (record { name = c; value = x ∷ dot ∷ c ∷ [] }) else None
 column_of _ = None
 
--- the name behind AS
+-- the name after AS
 abbrev pub behind_as : List Token → Option Token
 behind_as (word ∷ name ∷ []) = if is_as word.kind && is_name name.kind then Some name else None
 behind_as _ = None

@@ -6,7 +6,7 @@ use Rattle.wd_distinct_on.specs.Kinds.{is_direction, is_number, is_same}
 use Rattle.wd_distinct_on.specs.Items.{NamedItem}
 use Rattle.wd_distinct_on.specs.Lists.{with_front}
 
--- what a key sorts by, and ASC, DESC and NULLS behind it, where a name stood for an item; else the whole key, and nothing
+-- what a key sorts by, and ASC, DESC and NULLS after it, where a name stood for an item; else the whole key, and nothing
 pub record SortKey : Type 0 where
   pub value : List Token
   pub rest : List Token
@@ -36,7 +36,7 @@ abbrev pub keys_of : List NamedItem → List (List Token) → Option (List SortK
 keys_of items [] = Some []
 keys_of items (part ∷ parts) = if is_place part then None else with_front (key_of items part) (keys_of items parts)
 
--- what stands behind tokens that say the same as these
+-- what follows tokens that say the same as these
 abbrev pub strip : List Token → List Token → Option (List Token)
 strip [] tokens = Some tokens
 strip (x ∷ xs) [] = None

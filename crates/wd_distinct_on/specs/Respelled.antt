@@ -29,7 +29,7 @@ items_in tokens = parts tokens >>= items_of
 abbrev pub keys_in : List NamedItem → List Token → Option (List SortKey)
 keys_in items tokens = parts_in tokens >>= keys_of items
 
--- what stands for a select behind these tokens, if its names are distinct and its keys fit
+-- what stands for a select after these tokens, if its names are distinct and its keys fit
 abbrev pub if_fit : List Token → Pieces → List NamedItem → List SortKey → List SortKey → Option (List Token)
 if_fit front select items keys orders = if are_distinct items && fits keys orders then Some (front ++ written select items keys orders) else None
 
@@ -39,7 +39,7 @@ with_orders front select items keys = keys_in items select.order.keys >>= λ ord
 abbrev pub with_keys : List Token → Pieces → List NamedItem → Option (List Token)
 with_keys front select items = keys_in items select.keys >>= λ keys. with_orders front select items keys
 
--- what stands for a select behind these tokens
+-- what stands for a select after these tokens
 unfoldable pub respelled_select : List Token → Pieces → Option (List Token)
 respelled_select front select = items_in select.items >>= λ items. with_keys front select items
 

@@ -37,7 +37,7 @@ pub fn column_of(tokens: &[Token]) -> Option<Item<'_>>
     }
 }
 
-/// The name behind AS.
+/// The name after AS.
 fn behind_as(tokens: &[Token]) -> Option<&Token>
     ensures { Finds (λ name. name.now) result (spec.behind_as tokens.now) }
 {

@@ -11,7 +11,7 @@ use std::alloc::{AllocError, Global};
 use wd_clauses::{is_name, is_same_name};
 use wd_lex::Token;
 
-/// What a key sorts by, and ASC, DESC and NULLS behind it, where a name stood for an item; else the whole key, and nothing.
+/// What a key sorts by, and ASC, DESC and NULLS after it, where a name stood for an item; else the whole key, and nothing.
 #[derive(Drop)]
 pub struct Key<'t> {
     pub value: &'t [Token],
@@ -42,7 +42,7 @@ fn value_or<'t>(own: &'t [Token], name: &Token, items: &[Item<'t>]) -> &'t [Toke
     own
 }
 
-/// A key, where a name may stand for an item.
+/// A key, where a name may appear for an item.
 fn key_of<'t>(items: &[Item<'t>], tokens: &'t [Token]) -> Key<'t>
     ensures { sort_key result ≡ spec.key_of (map named_item items.now) tokens.now }
 {
@@ -90,7 +90,7 @@ pub fn keys_of<'t>(
     Ok(Some(keys))
 }
 
-/// What stands behind tokens that say the same as a value.
+/// What follows tokens that say the same as a value.
 pub fn strip<'t>(value: &[Token], tokens: &'t [Token]) -> Option<&'t [Token]>
     ensures { Finds (λ r. r.now) result (spec.strip value.now tokens.now) }
 {
@@ -171,7 +171,7 @@ fn all_among(mut orders: &[Key], keys: &[Key]) -> bool
     true
 }
 
-/// The first so many keys.
+/// The first the given number of keys.
 fn first_of<'k, 't>(count: usize, orders: &'k [Key<'t>]) -> &'k [Key<'t>]
     ensures { map sort_key result.now ≡ take count (map sort_key orders.now) }
 {

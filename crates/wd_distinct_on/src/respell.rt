@@ -50,7 +50,7 @@ fn keys_in<'t>(
     }
 }
 
-/// What stands for a select behind these tokens, if its names are distinct and its keys fit.
+/// What stands for a select after these tokens, if its names are distinct and its keys fit.
 fn if_fit(
     alloc: Global,
     front: &[Token],
@@ -105,7 +105,7 @@ fn with_keys<'t>(
     }
 }
 
-/// What stands for a select behind these tokens.
+/// What stands for a select after these tokens.
 #[tactic(auto, unfolding(crate::specs::Respelled::respelled_select))]
 fn respelled_select(
     alloc: Global,

@@ -54,7 +54,7 @@ fn fewer<S: Selects>(selects: &S, left: usize, place: usize, tokens: &[Token]) -
     left
 }
 
-/// The query in which at most so many selects are looked at, and each of these is respelled.
+/// The query in which at most the given number of selects are looked at, and each of these is respelled.
 #[tactic(auto, unfolding(crate::specs::Selects::respelled_below))]
 pub fn respelled_backwards<S: Selects>(
     alloc: Global,

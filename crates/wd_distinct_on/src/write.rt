@@ -222,7 +222,7 @@ fn add_tail(alloc: Global, written: &mut Vec<Token>, select: &Select) -> Result<
     Ok(())
 }
 
-/// The select that stands for one with DISTINCT ON, and what follows it, behind these tokens.
+/// The select that stands for one with DISTINCT ON, and what follows it, after these tokens.
 #[tactic(auto, unfolding(crate::specs::Written::written))]
 pub fn written(
     alloc: Global,

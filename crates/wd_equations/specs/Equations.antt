@@ -68,7 +68,7 @@ coalesce count = (Mark m.Case ∷ []) ++ each Known 0 (count - 1) ++ Mark m.Else
 abbrev pub simple_case : ℕ → List Piece
 simple_case count = (Mark m.Case ∷ []) ++ each Equal 0 (count / 2) ++ Mark m.End ∷ []
 
--- what is written in place of a form of so many parts
+-- what is written in place of a form of the given number of parts
 abbrev pub equation : Form → ℕ → List Piece
 equation form.Between count = between
 equation form.Among count = among count

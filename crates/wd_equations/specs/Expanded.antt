@@ -1,5 +1,5 @@
 -- Tokens with the standard's equations applied: wherever a test, a call or a CASE is written by an equation, what the standard says
--- that it is stands in its place, with each part expanded.
+-- that it is is in its place, with each part expanded.
 use Rattle.std.specs.Prelude.{ℕ, zero, suc, ◌++◌, nat_lt, if◌then◌else◌, List, [], ◌∷◌, length, slice_index_or, Option, Some, None}
 use Rattle.wd_lex.specs.declared.token.Terminal.{Terminal}
 use Rattle.wd_lex.specs.declared.token.Terminal.TheVariants as m

@@ -1,4 +1,4 @@
--- Parts of a list of tokens, up to separators that stand outside brackets.
+-- Parts of a list of tokens, up to separators that are outside brackets.
 use Rattle.std.specs.Prelude.{ℕ, zero, suc, ◌+◌, ◌-◌, ◌==◌, ◌&&◌, if◌then◌else◌, List, [], ◌∷◌, length, take, drop}
 use Rattle.wd_lex.specs.declared.token.Terminal.{Terminal}
 use Rattle.wd_lex.specs.declared.token.Terminal.TheVariants as m
@@ -15,7 +15,7 @@ depth_after depth (t.Terminal m.RightBracket) = depth - 1
 depth_after depth (t.Terminal m.End) = depth - 1
 depth_after depth _ = depth
 
--- how many tokens stand before the first separator outside brackets; so many stand before these, and so many brackets are open
+-- how many tokens come before the first separator outside brackets; so many come before these, and the given number of brackets are open
 unfoldable pub part_from : Terminal → ℕ → ℕ → List Token → ℕ
 part_from separator count depth [] = count
 part_from separator count depth (token ∷ tokens) =

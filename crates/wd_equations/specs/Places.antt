@@ -1,4 +1,4 @@
--- What is known of a place in a list of tokens by what stands before it, and what holds there.
+-- What is known of a place in a list of tokens by what comes before it, and what holds there.
 use Rattle.std.specs.Prelude.{Bool, List, map}
 use Rattle.wd_lex.specs.declared.token.Terminal.TheVariants as m
 use Rattle.wd_lex.specs.declared.token.Span.{Span}

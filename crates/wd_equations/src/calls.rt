@@ -90,7 +90,7 @@ fn is_all(tokens: &[Token]) -> bool
     }
 }
 
-/// Whether a value stands first, as far as its first token says: neither DISTINCT nor ALL, nor nothing.
+/// Whether a value comes first, as far as its first token says: neither DISTINCT nor ALL, nor nothing.
 #[tactic(auto, unfolding(crate::specs::Calls::begins_value))]
 fn begins_value(tokens: &[Token]) -> bool
     ensures { result ≡ begins_value tokens.now }
@@ -187,7 +187,7 @@ fn filter_after<'t>(
     }
 }
 
-/// Whether arms of a CASE stand first, and no operand.
+/// Whether arms of a CASE come first, and no operand.
 #[tactic(auto, unfolding(crate::specs::Calls::begins_arms))]
 fn begins_arms(tokens: &[Token]) -> bool
     ensures { result ≡ begins_arms tokens.now }

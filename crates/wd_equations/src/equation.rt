@@ -202,7 +202,7 @@ fn arm_of(alloc: Global, arm: Arm, index: usize) -> Result<Vec<Piece>, AllocErro
     }
 }
 
-/// Adds what an equation writes for so many values.
+/// Adds what an equation writes for the given number of values.
 fn push_each(pieces: &mut Vec<Piece>, repeated: Arm, count: usize) -> Result<(), AllocError>
     requires { count < 2 ^ 63 }
     ensures { OnOk result (pieces.new.items ≡ pieces.old.items ++ each repeated 0 count) }
@@ -214,7 +214,7 @@ fn push_each(pieces: &mut Vec<Piece>, repeated: Arm, count: usize) -> Result<(),
     Ok(())
 }
 
-/// `(x = a OR x = b OR ..)`, of so many parts.
+/// `(x = a OR x = b OR ..)`, of the given number of parts.
 fn among(alloc: Global, count: usize) -> Result<Vec<Piece>, AllocError>
     requires { count < 2 ^ 63 }
     ensures { IfOk result (λ pieces. pieces.items ≡ spec.among count) }
@@ -233,7 +233,7 @@ fn among(alloc: Global, count: usize) -> Result<Vec<Piece>, AllocError>
     Ok(pieces)
 }
 
-/// `CASE WHEN x IS NOT NULL THEN x .. ELSE last END`, of so many parts.
+/// `CASE WHEN x IS NOT NULL THEN x .. ELSE last END`, of the given number of parts.
 fn coalesce(alloc: Global, count: usize) -> Result<Vec<Piece>, AllocError>
     requires { count < 2 ^ 63 }
     ensures { IfOk result (λ pieces. pieces.items ≡ spec.coalesce count) }
@@ -245,7 +245,7 @@ fn coalesce(alloc: Global, count: usize) -> Result<Vec<Piece>, AllocError>
     Ok(pieces)
 }
 
-/// `CASE WHEN x = a THEN r .. END`, of so many parts.
+/// `CASE WHEN x = a THEN r .. END`, of the given number of parts.
 fn simple_case(alloc: Global, count: usize) -> Result<Vec<Piece>, AllocError>
     requires { count < 2 ^ 63 }
     ensures { IfOk result (λ pieces. pieces.items ≡ spec.simple_case count) }
@@ -256,7 +256,7 @@ fn simple_case(alloc: Global, count: usize) -> Result<Vec<Piece>, AllocError>
     Ok(pieces)
 }
 
-/// What is written in place of a form of so many parts.
+/// What is written in place of a form of the given number of parts.
 pub fn pieces_of(alloc: Global, form: Form, count: usize) -> Result<Vec<Piece>, AllocError>
     requires { count < 2 ^ 63 }
     ensures { IfOk result (λ pieces. pieces.items ≡ equation form count) }

@@ -1,7 +1,7 @@
 //! Goes over tokens from left to right, and writes what each equation says in place of its left side.
 //!
-//! `walk` takes step by step, and each part of an equation is walked in turn. A part stands within fewer brackets than the whole,
-//! or is a smaller operand, and brackets are followed to 64 levels, so that `walk` is called within itself at most 130 times.
+//! `walk` takes step by step, and each part of an equation is walked in turn. A part is within fewer brackets than the whole, or is a
+//! smaller operand, and brackets are followed to 64 levels, so that `walk` is called within itself at most 130 times.
 
 ghost use Rattle.std.specs.Prelude.{◌≡◌, ◌≤◌, ◌<◌, length, map, IfOk, IfErr};
 ghost use Rattle.wd_equations.specs.declared.found.Before.{Before};
@@ -136,7 +136,7 @@ fn push_found(out: &mut Vec<Token>, turns: usize, found: &Found) -> Result<(), E
     push_pieces(out, turns, found.at, &found.parts, &pieces)
 }
 
-/// Writes what stands in place of what begins here, and says what is known of the next place, and where it is.
+/// Writes what is in place of what begins here, and says what is known of the next place, and where it is.
 #[tactic(auto, unfolding(crate::specs::Expanded::step))]
 #[cycle(walk)]
 fn step<'t>(

@@ -6,12 +6,12 @@ ghost use Rattle.wd_equations.specs.Places.{after, after_not};
 use crate::equation::Form;
 use wd_lex::{Span, Terminal, Token, TokenKind};
 
-/// What is known of a place by what stands before it.
+/// What is known of a place by what comes before it.
 #[derive(Clone, Copy)]
 pub enum Before {
-    /// An operand that begins here is the whole of what stands on the left of a test.
+    /// An operand that begins here is the whole of what is on the left of a test.
     Open,
-    /// A comparison stands before it, which binds less tightly than BETWEEN and IN, and more tightly than IS.
+    /// A comparison comes before it, which binds less tightly than BETWEEN and IN, and more tightly than IS.
     Compared,
     /// It is within an operand, or after what is no operator.
     Inside,
@@ -62,7 +62,7 @@ pub fn after(before: Before, kind: &TokenKind) -> Before
     }
 }
 
-/// After a NOT, which stands before what it denies, or within a test.
+/// After a NOT, which comes before what it denies, or within a test.
 fn after_not(before: Before) -> Before
     ensures { result ≡ after_not before }
 {

@@ -1,4 +1,4 @@
-//! Single tokens, and what stands at the start of tokens.
+//! Single tokens, and what is at the start of tokens.
 
 ghost use Rattle.std.specs.Prelude.{◌≡◌};
 ghost use Rattle.wd_equations.specs.Given.{Finds, pair};
@@ -27,7 +27,7 @@ pub fn is_word(kind: &TokenKind, word: &str) -> bool
     }
 }
 
-/// The tokens after a terminal, where it stands first.
+/// The tokens after a terminal, where it comes first.
 #[tactic(auto, unfolding(crate::specs::Tokens::past))]
 pub fn past(tokens: &[Token], terminal: Terminal) -> Option<&[Token]>
     ensures { Finds (λ r. r.now) result (past terminal tokens.now) }
@@ -56,7 +56,7 @@ pub fn operand_at(tokens: &[Token]) -> Option<(&[Token], &[Token])>
     Some(tokens.split_at(length))
 }
 
-/// What stands between the brackets at the start, or between CASE and END, and the tokens after them.
+/// What is between the brackets at the start, or between CASE and END, and the tokens after them.
 #[tactic(auto, unfolding(crate::specs::Tokens::nest_at))]
 pub fn nest_at(tokens: &[Token]) -> Option<(&[Token], &[Token])>
     ensures { Finds pair result (nest_at tokens.now) }
@@ -71,7 +71,7 @@ pub fn nest_at(tokens: &[Token]) -> Option<(&[Token], &[Token])>
     Some((inside, rest))
 }
 
-/// What stands between the round brackets at the start, and the tokens after them.
+/// What is between the round brackets at the start, and the tokens after them.
 #[tactic(auto, unfolding(crate::specs::Tokens::brackets_at))]
 pub fn brackets_at(tokens: &[Token]) -> Option<(&[Token], &[Token])>
     ensures { Finds pair result (brackets_at tokens.now) }
@@ -88,7 +88,7 @@ pub fn brackets_at(tokens: &[Token]) -> Option<(&[Token], &[Token])>
     }
 }
 
-/// Whether a word begins what stands between an operand and the next.
+/// Whether a word begins what is between an operand and the next.
 fn is_test_word(text: &str) -> bool
     ensures { result ≡ is_test_word text.now }
 {

@@ -1,4 +1,4 @@
--- What a line comment says to wdreport. White space may stand before each word, and letters may be upper or lower case.
+-- What a line comment says to wdreport. White space may come before each word, and letters may be upper or lower case.
 use Rattle.std.specs.Prelude.{ℕ, Bool, List, [], ◌∷◌, length, map, take, drop, codes, Option, Some, None, option_and_then, if◌then◌else◌}
 use Rattle.std.specs.Char.{to_ascii_lowercase}
 use Rattle.std.specs.List.{list_all}
@@ -10,11 +10,11 @@ use Rattle.wd_lex.specs.Reading.{drop_while}
 abbrev pub is_alike : List ℕ → List ℕ → Bool
 is_alike a b = bytes_eq (map to_ascii_lowercase a) (map to_ascii_lowercase b)
 
--- what follows a word that stands first
+-- what follows a word that comes first
 abbrev pub behind_first : List ℕ → List ℕ → Option (List ℕ)
 behind_first word bytes = if is_alike (take (length word) bytes) word then Some (drop (length word) bytes) else None
 
--- what follows a word, which white space may stand before
+-- what follows a word, which white space may come before
 abbrev pub behind : List ℕ → List ℕ → Option (List ℕ)
 behind word bytes = behind_first word (drop_while is_blank bytes)
 
@@ -23,11 +23,11 @@ abbrev pub spaced : List ℕ → Option (List ℕ)
 spaced [] = None
 spaced (b ∷ bytes) = if is_blank b then Some (b ∷ bytes) else None
 
--- what a line says behind `wdreport:`
+-- what a line says after `wdreport:`
 abbrev pub words_to_program : List ℕ → Option (List ℕ)
 words_to_program line = option_and_then (behind (codes ":")) (behind (codes "wdreport") line)
 
--- what words say behind `may depend,`
+-- what words say after `may depend,`
 abbrev pub behind_may_depend : List ℕ → Option (List ℕ)
 behind_may_depend words = option_and_then (behind (codes ",")) (option_and_then (behind (codes "depend")) (option_and_then spaced (behind (codes "may") words)))
 

@@ -31,7 +31,7 @@ reason_says true span (Some reason) = Reason reason span
 reason_says true span None = Unread span
 reason_says false span reason = Unread span
 
--- words to wdreport in a comment that stands there
+-- words to wdreport in a comment that is there
 abbrev pub words_say : Bool → Span → List ℕ → Said
 words_say is_above span words = reason_says is_above span (reason_in words)
 
@@ -53,7 +53,7 @@ abbrev pub or_else : Option Said → Option Said → Option Said
 or_else None other = other
 or_else (Some said) other = Some said
 
--- What pieces from a place say first. They stand above the statement as soon as a line has ended, or where no other statement is before it.
+-- What pieces from a place say first. They are above the statement as soon as a line has ended, or where no other statement is before it.
 abbrev pub first_said : (is_above : Bool) → (place : ℕ) → List Piece → Option Said
 first_said is_above place [] = None
 first_said is_above place (piece ∷ pieces) =

@@ -22,7 +22,7 @@ pub(crate) fn is_line_end(b: u8) -> bool
     b == b'\n' || b == b'\r'
 }
 
-/// How many bytes of white space stand first.
+/// How many bytes of white space come first.
 pub(crate) fn blanks(bytes: &[u8]) -> usize
     ensures value { result ≡ prefix_len characters.is_blank bytes.now }
     ensures within { result ≤ length bytes.now }
@@ -30,7 +30,7 @@ pub(crate) fn blanks(bytes: &[u8]) -> usize
     bytes.iter().take_while(|b| is_blank(**b)).count()
 }
 
-/// How many bytes stand before the end of the first line.
+/// How many bytes come before the end of the first line.
 fn line_len(bytes: &[u8]) -> usize
     ensures value { result ≡ prefix_len (is_in class.Line) bytes.now }
     ensures within { result ≤ length bytes.now }
@@ -65,7 +65,7 @@ fn comment_len(bytes: &[u8]) -> Option<usize>
     None
 }
 
-/// How many bytes the white space or the comment at the front has, where one stands there.
+/// How many bytes the white space or the comment at the front has, where one is there.
 pub(crate) fn gap_len(bytes: &[u8]) -> Option<usize>
     ensures gap { MatchOption result (HasNoGap bytes.now) (HasGap bytes.now) }
     ensures within { IfSome result (λ len. (0 < len) × (len ≤ length bytes.now)) }

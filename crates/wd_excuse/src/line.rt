@@ -7,7 +7,7 @@ ghost use Rattle.wd_excuse.specs.Lines as spec;
 
 use crate::gap::{blanks, is_blank};
 
-/// What stands behind the white space at the front.
+/// What follows the white space at the front.
 fn unblanked(bytes: &[u8]) -> &[u8]
     ensures { result.now ≡ drop_while characters.is_blank bytes.now }
 {
@@ -21,7 +21,7 @@ fn trimmed(bytes: &[u8]) -> &[u8]
     unblanked(bytes).trim_ascii_end()
 }
 
-/// What stands behind a word, which white space may stand before, in upper or lower case.
+/// What follows a word, which white space may come before, in upper or lower case.
 fn behind<'t>(bytes: &'t [u8], word: &[u8]) -> Option<&'t [u8]>
     ensures { option_map (λ x. x.now) result ≡ spec.behind word.now bytes.now }
 {
@@ -37,7 +37,7 @@ fn behind<'t>(bytes: &'t [u8], word: &[u8]) -> Option<&'t [u8]>
     }
 }
 
-/// The bytes, where white space stands first.
+/// The bytes, where white space comes first.
 fn spaced(bytes: &[u8]) -> Option<&[u8]>
     ensures { option_map (λ x. x.now) result ≡ spec.spaced bytes.now }
 {

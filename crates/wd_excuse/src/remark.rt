@@ -34,9 +34,9 @@ impl Remark<'_> {
 /// The remark above a statement, for its text, which begins with the white space and the comments before its first token.
 ///
 /// It is what the first line comment there says that begins `wdreport:`, in upper or lower case. `-- wdreport: may depend, REASON`
-/// excuses the query, where a reason is given and the comment stands on a line of its own or behind another comment: behind the
-/// semicolon of the statement before it excuses nothing, since it may be about that one. So the call asks whether the statement is
-/// the first of its file. Block comments say nothing, nor does what stands behind the first token.
+/// excuses the query, where a reason is given and the comment is on a line of its own or after another comment: after the semicolon of
+/// the statement before it excuses nothing, since it may be about that one. So the call asks whether the statement is the first of its
+/// file. Block comments say nothing, nor does what follows the first token.
 pub fn remark_above(text: &[u8], is_first: bool) -> Option<Remark<'_>>
     ensures { IsRemark text.now is_first (option_map spec.seen result) }
 {
@@ -83,7 +83,7 @@ fn remark_in(gap: &[u8], place: u64, is_above: bool) -> Option<Remark<'_>>
     Some(remark_of(words, Span { start: place, end }, is_above))
 }
 
-/// What words to the program say, in a comment that stands there.
+/// What words to the program say, in a comment that is there.
 fn remark_of(words: &[u8], span: Span, is_above: bool) -> Remark<'_>
     ensures { spec.seen result ≡ spec.words_say is_above span words.now }
 {

@@ -37,7 +37,7 @@ pub struct Task<'f> {
     pub alloc: Global,
     pub schema: File<'f>,
     pub query: File<'f>,
-    /// Its lock, where one stands beside it.
+    /// Its lock, where one is beside it.
     pub locked: Option<Locked<'f>>,
 }
 
@@ -97,7 +97,7 @@ fn mended_text(alloc: Global, text: &[u8], fixes: &[Fix]) -> Result<Option<Vec<u
     Ok(Some(fixed_text(alloc, text, fixes)?))
 }
 
-/// Tells what is found of statements that stand in a file one after the other, counts them, and gives those that are mended.
+/// Tells what is found of statements that are in a file one after the other, counts them, and gives those that are mended.
 fn add_statements<W: Watch>(
     task: Task<'_>,
     findings: &mut Findings<'_, W>,
@@ -138,7 +138,7 @@ fn add_statement<W: Watch>(
 }
 
 impl<'f> Task<'f> {
-    /// What is judged of the statement with a number, which stands there, and what becomes of its certificate.
+    /// What is judged of the statement with a number, which is there, and what becomes of its certificate.
     fn settle(self, number: usize, span: Span) -> Result<Settled<'f>, OutOfMemory>
         requires ordered { span.start ≤ span.end }
         requires within { span.end ≤ length self.query.text.now }
@@ -181,7 +181,7 @@ impl<W: Watch> Findings<'_, W> {
         )
     }
 
-    /// The lock of a file, where it has a line for each of so many statements. One that has not is told.
+    /// The lock of a file, where it has a line for each of the given number of statements. One that has not is told.
     fn fitting_lock<'f>(
         &mut self,
         task: Task<'f>,
@@ -290,7 +290,7 @@ impl<W: Watch> Findings<'_, W> {
         }
     }
 
-    /// Tells a comment behind the last statement of a file that begins as an excuse: there it excuses nothing.
+    /// Tells a comment after the last statement of a file that begins as an excuse: there it excuses nothing.
     fn tell_behind(&mut self, task: Task<'_>) -> Result<(), OutOfMemory> {
         let text = task.query.text;
         let end = (tokens_in(task.alloc, text)?.end as usize).min(text.len());
@@ -300,7 +300,7 @@ impl<W: Watch> Findings<'_, W> {
         }
     }
 
-    /// Tells that a comment, by its bytes behind a place of the file, excuses nothing.
+    /// Tells that a comment, by its bytes after a place of the file, excuses nothing.
     fn tell_comment(
         &mut self,
         task: Task<'_>,
@@ -328,7 +328,7 @@ fn first_to_last(task: Task<'_>, span: Span) -> Result<Span, OutOfMemory> {
     })
 }
 
-/// The stretch of a text from its first token to its last; all of it, where its tokens are refused.
+/// The range of a text from its first token to its last; all of it, where its tokens are refused.
 fn tokens_in(alloc: Global, text: &[u8]) -> Result<Span, OutOfMemory> {
     match lex(alloc, text) {
         Ok(tokens) => match (tokens.as_slice().first(), tokens.as_slice().last()) {

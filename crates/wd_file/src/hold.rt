@@ -61,8 +61,8 @@ impl Settled<'_> {
     }
 }
 
-/// What is judged of the statement of a file that stands there, over the schema of another file, and what becomes of the
-/// certificate that a lock has of it. What counts as deterministic has one answer.
+/// What is judged of the statement of a file that is there, over the schema of another file, and what becomes of the certificate that a
+/// lock has of it. What counts as deterministic has one answer.
 pub fn settle<'l>(
     alloc: Global,
     schema: File<'_>,

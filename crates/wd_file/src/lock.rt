@@ -30,7 +30,7 @@ pub fn lock_statements<W: Watch>(
     Ok(Lock { entries })
 }
 
-/// What a lock has of statements that stand in a text one after the other.
+/// What a lock has of statements that are in a text one after the other.
 fn entries_for<W: Watch>(
     alloc: Global,
     schema: &[u8],

@@ -18,7 +18,7 @@ use wd_value::OutOfMemory;
 #[derive(Clone, Copy)]
 struct Trimmed<'a> {
     text: &'a [u8],
-    /// How many bytes of white space stand before it in the statement.
+    /// How many bytes of white space come before it in the statement.
     lead: u64,
     /// The line of its file on which it begins.
     line: u64,
@@ -74,7 +74,7 @@ fn show_kept<'s>(
     page.add_judged(query, shown, &[], None)
 }
 
-/// The text of the statement that stands there in its file, without the white space around it.
+/// The text of the statement that is there in its file, without the white space around it.
 fn without_blanks(text: &[u8], span: Span) -> Trimmed<'_> {
     let end = (span.end as usize).min(text.len());
     let start = (span.start as usize).min(end);
@@ -134,7 +134,7 @@ fn show_finding(
     page.add_judged(query, shown, &places, help)
 }
 
-/// A place that is open, of a statement behind so many bytes of white space.
+/// A place that is open, of a statement after the given number of bytes of white space.
 fn shown_place(kind: Kind, place: OpenPlace, line: u64, lead: u64) -> Place {
     let OpenPlace { reason, site } = place;
     let span = match site {

@@ -60,9 +60,9 @@ abbrev pub open_in : Option Certain → Analysis → List Reason
 open_in None analysis = reasons_of analysis
 open_in (Some certain) analysis = []
 
--- The plan reads the two texts, the verdict is one of `decide` on them; where that is UNKNOWN, there may be a certificate of a simpler plan,
--- and then the query has one answer; what is open is what the analysis of the plan leaves open; what a further search found is true, and
--- the answers and the marked columns are those of the witness.
+-- The plan reads the two texts, the verdict is one of `decide` on them; where that is UNKNOWN, there may be a certificate of a simpler
+-- plan, and then the query has one answer; what is open is what the analysis of the plan leaves open; what a further search found is
+-- true, and the answers and the marked columns are those of the witness.
 pub record IsFinding (schema query : List ℕ) (finding : Finding) : Type 0 where
   pub read : IsRead schema query finding.planned
   pub verdict : IsVerdict schema query finding.verdict

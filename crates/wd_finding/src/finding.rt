@@ -65,7 +65,7 @@ fn witness_of_all<'a>(verdict: &'a Verdict, further: &'a Option<Found>) -> Optio
 /// analysed, and where that leaves something open too, a further search is made for a witness. Where there is one, the query's
 /// answers over its tables under its two choices.
 ///
-/// Each refusal comes only where its cause stands, as `decide` says.
+/// Each refusal occurs only where its cause holds, as `decide` says.
 pub fn judge(alloc: Global, schema: &[u8], query: &[u8]) -> Result<Finding, DecideError>
     ensures found { IfOk result (IsFinding schema.now query.now) }
     ensures refused { IfErr result (HasCause schema.now query.now) }

@@ -19,7 +19,7 @@ pub struct RefusedPlace {
     pub text: RefusedText,
     pub number: u32,
     /// The bytes that it is about: of 101 to 105 a byte, of 201, 202 and 309 a token, or the end of the text where more of them are
-    /// wanted; of the others the tokens at which their cause is found to stand.
+    /// wanted; of the others the tokens at which their cause is found.
     pub span: Option<Span>,
 }
 
@@ -52,7 +52,7 @@ fn refused_text(error: &DecideError) -> Option<RefusedText> {
     }
 }
 
-/// Where the cause of a refusal of this number is found to stand. None where memory runs out.
+/// Where the cause of a refusal of this number is found. None where memory runs out.
 fn cause_at(
     alloc: Global,
     schema: &[u8],

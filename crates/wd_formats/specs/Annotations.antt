@@ -36,6 +36,6 @@ pub record StaysOnLine (b : ℕ) : Type 0 where
   pub no_feed : b ≢ 10
   pub no_return : b ≢ 13
 
--- what stands in a part ends no line, whatever the text
+-- what is in a part ends no line, whatever the text
 abbrev pub PartsStayOnTheirLine : Type 0
 PartsStayOnTheirLine = (part : Part) (text : List ℕ) → All StaysOnLine (flat_map (part_byte part) text)

@@ -28,8 +28,8 @@ IsSpelledBy text statements other = dialect.Says text statements × dialect.Spel
 abbrev pub IsLost : List ℕ → Type 0
 IsLost text = ((refusal : DialectError) × dialect.HasCause text refusal) ⊎ ((statements : List StatementSaid) × (other : List ℕ) × IsSpelledBy text statements other × IsUnread other)
 
--- A text that the profile reads stands as it is. Of another one the tables are spelled, where the profile reads that; but not of one
--- in which NULL stands on a column that takes none, which no reading makes good.
+-- A text that the profile reads appears as it is. Of another one the tables are spelled, where the profile reads that; but not of one
+-- in which NULL is on a column that takes none, which no reading makes good.
 abbrev pub IsFront : List ℕ → Front → Type 0
 IsFront text Own = IsRead text
 IsFront text (Respelled s) = IsUnread text × IsSpelledBy text (map statement_said s.statements.items) (string_bytes s.text) × IsRead (string_bytes s.text)

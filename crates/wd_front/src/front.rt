@@ -40,9 +40,9 @@ pub enum Refused {
 /// What the text of a schema file is read as.
 ///
 /// NULL on a column that takes none is refused by the profile, however the text is read. Else, where neither the profile nor
-/// PostgreSQL's way of writing reads it, the refusal is told that stands further on in the text, or PostgreSQL's where the profile
-/// lacks characters of it (it looks at all of these first); the profile's where both stand at one place, and where the tables are
-/// refused by the same number.
+/// PostgreSQL's way of writing reads it, the refusal is told that is further on in the text, or PostgreSQL's where the profile lacks
+/// characters of it (it looks at all of these first); the profile's where both are at one place, and where the tables are refused by
+/// the same number.
 pub fn front_of(alloc: Global, text: &[u8]) -> Result<Front, OutOfMemory>
     ensures { IfOk result (IsFront text.now) }
 {
@@ -106,8 +106,8 @@ fn told_of_tables(error: SchemaError, other: SchemaError) -> Refused {
     }
 }
 
-/// Which refusal is told where both refuse a text: PostgreSQL's where the profile does not read its characters, else the one that
-/// stands further on.
+/// Which refusal is told where both refuse a text: PostgreSQL's where the profile does not read its characters, else the one that is
+/// further on.
 fn told(
     alloc: Global,
     text: &[u8],

@@ -1,4 +1,4 @@
-//! Where a refusal stands in the text of a schema file.
+//! Where a refusal is in the text of a schema file.
 
 use std::alloc::Global;
 use wd_dialect_schema::DialectError;

@@ -44,7 +44,7 @@ abbrev pub item_at : ℕ → List (List Token) → Option (List Token)
 item_at ordinal [] = None
 item_at ordinal (item ∷ items) = if ordinal == 1 then Some item else item_at (ordinal - 1) items
 
--- a name stands behind a value
+-- a name follows a value
 abbrev pub is_named_value : List Token → Bool
 is_named_value (before ∷ name ∷ []) = ends_value before.kind && is_name name.kind
 is_named_value tokens = false
@@ -90,7 +90,7 @@ name_at number =
 abbrev pub most_in_expression : ℕ
 most_in_expression = 256
 
--- an expression that rows may be grouped by: no window call stands in it
+-- an expression that rows may be grouped by: no window call is in it
 abbrev pub may_group : List Token → Bool
 may_group value = not (nat_lt most_in_expression (length value)) && not (has is_over value)
 
@@ -102,11 +102,11 @@ abbrev pub grouped_by : ℕ → Option (List Token) → Option GroupKey
 grouped_by number None = None
 grouped_by number (Some value) = if is_column value then Some (record { value = value; name = None }) else named value (name_at number)
 
--- a key, where so many expressions stand before it
+-- a key, where the given number of expressions come before it
 abbrev pub key_of : ℕ → List (List Token) → List Token → Option GroupKey
 key_of number items part = if stays part then Some (record { value = part; name = None }) else grouped_by number (value_of items part)
 
--- how many expressions stand before the next key
+-- how many expressions come before the next key
 abbrev pub next : ℕ → Option (List ℕ) → ℕ
 next number None = number
 next number (Some name) = if nat_lt number most_names then number + 1 else number

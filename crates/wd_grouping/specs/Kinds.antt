@@ -29,8 +29,8 @@ abbrev pub begins_sets : TokenKind → Bool
 begins_sets (t.Word text) = bytes_eq text (codes "rollup") || bytes_eq text (codes "cube") || bytes_eq text (codes "grouping")
 begins_sets _ = false
 
--- an operand of its own begins behind it. AND, OR and NOT are none of these: in x AND a OR b, and in x BETWEEN y AND a = b, what
--- stands behind AND is no operand.
+-- an operand of its own begins after it. AND, OR and NOT are none of these: in x AND a OR b, and in x BETWEEN y AND a = b, what follows
+-- AND is no operand.
 abbrev pub begins_operand : TokenKind → Bool
 begins_operand (t.Terminal m.Select) = true
 begins_operand (t.Terminal m.LeftBracket) = true

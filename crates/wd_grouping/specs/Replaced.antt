@@ -1,6 +1,5 @@
--- Tokens in which each expression of a key that stands as an operand of its own is the column that stands for it. The tokens of an
--- expression that are found in another way, as a + b in a + b * 2, stay: their columns are not grouped by, so the profile refuses
--- them.
+-- Tokens in which each expression of a key that appears as an operand of its own is the column that stands for it. The tokens of an
+-- expression that are found in another way, as a + b in a + b * 2, stay: their columns are not grouped by, so the profile refuses them.
 use Rattle.std.specs.Prelude.{ℕ, ◌-◌, ◌==◌, ◌&&◌, ◌||◌, if◌then◌else◌, codes, Bool, true, false, List, [], ◌∷◌, ◌++◌, length, Option, Some, None}
 use Rattle.wd_lex.specs.declared.token.Terminal.TheVariants as m
 use Rattle.wd_lex.specs.declared.token.TokenKind.{TokenKind}
@@ -19,7 +18,7 @@ pub record Operand : Type 0 where
   pub name : List ℕ
   pub count : ℕ
 
--- an operand ends where this is what stands behind it, as a name alone, which is that of an item
+-- an operand ends where this is what follows it, as a name alone, which is that of an item
 abbrev pub ends : Option (List Token) → Bool
 ends None = false
 ends (Some []) = true
@@ -34,12 +33,12 @@ abbrev pub or_else : {A : Type 0} → Option A → Option A → Option A
 or_else None other = other
 or_else (Some found) other = Some found
 
--- the first key whose expression stands first and ends there
+-- the first key whose expression comes first and ends there
 abbrev pub operand_of : List GroupKey → List Token → Option Operand
 operand_of [] tokens = None
 operand_of (key ∷ keys) tokens = or_else (operand_by key.name key.value tokens) (operand_of keys tokens)
 
--- the operand of its own that stands behind such a token
+-- the operand of its own that follows such a token
 abbrev pub operand_at : List GroupKey → TokenKind → List Token → Option Operand
 operand_at keys before tokens = if begins_operand before then operand_of keys tokens else None
 
@@ -61,7 +60,7 @@ abbrev pub passed_by : Option Operand → ℕ
 passed_by None = 0
 passed_by (Some operand) = operand.count - 1
 
--- tokens behind such a one, of which so many are passed over
+-- tokens after such a one, of which so many are passed over
 unfoldable pub replaced : List GroupKey → Option Token → ℕ → TokenKind → List Token → List Token
 replaced keys table passed before [] = []
 replaced keys table passed before (token ∷ tokens) =

@@ -13,7 +13,7 @@ use Rattle.wd_grouping.specs.Pieces.{GroupedPieces, OneTable, grouped_of, groupe
 use Rattle.wd_grouping.specs.Replaced.{are_clear, have_star}
 use Rattle.wd_grouping.specs.Written.{written, written_over}
 
--- what stands for a select behind these tokens, if the name of each item is clear
+-- what stands for a select after these tokens, if the name of each item is clear
 abbrev pub if_clear : List Token → GroupedPieces → List (List Token) → List GroupKey → OneTable → Option (List Token)
 if_clear front select items keys one = if are_clear keys items then Some (front ++ written select one items keys) else None
 
@@ -36,7 +36,7 @@ with_parts front select items found = if all_stay found || have_star items then 
 abbrev pub with_items : List Token → GroupedPieces → List (List Token) → Option (List Token)
 with_items front select items = parts select.keys >>= with_parts front select items
 
--- what stands for a select behind these tokens
+-- what stands for a select after these tokens
 abbrev pub respelled_select : List Token → GroupedPieces → Option (List Token)
 respelled_select front select = parts select.select.items >>= with_items front select
 

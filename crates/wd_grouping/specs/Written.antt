@@ -59,7 +59,7 @@ written_over select keys = before_keys select ++ grouped select None keys ++ sel
 abbrev pub head : GroupedPieces → OneTable → List (List Token) → List GroupKey → List Token
 head select one items keys = select_words select ++ replaced_items keys one.qualifier select.select.select items ++ table select one keys
 
--- GROUP BY columns and the clauses behind them
+-- GROUP BY columns and the clauses after them
 abbrev pub tail : GroupedPieces → OneTable → List GroupKey → List Token
 tail select one keys = grouped select one.qualifier keys ++ replaced keys one.qualifier 0 select.select.select.kind select.later ++ select.select.after
 

@@ -87,7 +87,7 @@ fn item_at<'t>(ordinal: u64, items: &[&'t [Token]]) -> Option<&'t [Token]>
     None
 }
 
-/// Whether a name stands behind a value.
+/// Whether a name follows a value.
 fn is_named_value(tokens: &[Token]) -> bool
     ensures { result ≡ spec.is_named_value tokens.now }
 {
@@ -97,7 +97,7 @@ fn is_named_value(tokens: &[Token]) -> bool
     }
 }
 
-/// An item without a name that stands behind its value.
+/// An item without a name that follows its value.
 fn without_name(item: &[Token]) -> &[Token]
     ensures { result.now ≡ spec.without_name item.now }
 {
@@ -131,7 +131,7 @@ fn value_of<'t>(items: &[&'t [Token]], part: &'t [Token]) -> Option<&'t [Token]>
     }
 }
 
-/// The name of the column that stands for an expression, where so many stand before it.
+/// The name of the column that stands for an expression, where so many come before it.
 fn name_at(number: usize) -> Option<&'static str>
     ensures { Finds (λ name. name.now) result (spec.name_at number) }
 {
@@ -154,7 +154,7 @@ const MOST_NAMES: usize = 8;
 // The most tokens of an expression.
 const MOST_IN_EXPRESSION: usize = 256;
 
-/// Whether OVER stands among the tokens.
+/// Whether OVER is among the tokens.
 fn has_over(mut tokens: &[Token]) -> bool
     ensures { result ≡ has kinds.is_over tokens.entry.now }
 {
@@ -174,7 +174,7 @@ fn may_group(value: &[Token]) -> bool
     value.len() <= MOST_IN_EXPRESSION && !has_over(value)
 }
 
-/// An expression as a key, where so many stand before it.
+/// An expression as a key, where so many come before it.
 fn named(number: usize, value: &[Token]) -> Option<Key<'_>>
     ensures { Finds group_key result (spec.named value.now (spec.name_at number)) }
 {
@@ -187,7 +187,7 @@ fn named(number: usize, value: &[Token]) -> Option<Key<'_>>
     }
 }
 
-/// A key, where so many expressions stand before it.
+/// A key, where the given number of expressions come before it.
 fn key_of<'t>(number: usize, items: &[&'t [Token]], part: &'t [Token]) -> Option<Key<'t>>
     ensures { Finds group_key result (spec.key_of number (map (λ item. item.now) items.now) part.now) }
 {
@@ -204,7 +204,7 @@ fn key_of<'t>(number: usize, items: &[&'t [Token]], part: &'t [Token]) -> Option
     }
 }
 
-/// How many expressions stand before the next key.
+/// How many expressions come before the next key.
 fn next(number: usize, key: &Key) -> usize
     ensures { result ≡ spec.next number (group_key key.now).name }
 {

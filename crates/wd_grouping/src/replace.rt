@@ -1,4 +1,4 @@
-//! Tokens in which each expression of a key that stands as an operand of its own is the column that stands for it.
+//! Tokens in which each expression of a key that appears as an operand of its own is the column that stands for it.
 
 ghost use Rattle.std.specs.Prelude.{◌≡◌, ◌∷◌, [], map, option_map};
 ghost use Rattle.wd_clauses.specs.Given.{Finds, Writes};
@@ -33,7 +33,7 @@ fn ends(tokens: &[Token]) -> bool
     }
 }
 
-/// The expression of a key, if it stands first and ends there.
+/// The expression of a key, if it comes first and ends there.
 fn operand_by(key: &Key, tokens: &[Token]) -> Option<Operand>
     ensures { Finds named.operand result (spec.operand_by (named.group_key key.now).name (named.group_key key.now).value tokens.now) }
 {
@@ -47,7 +47,7 @@ fn operand_by(key: &Key, tokens: &[Token]) -> Option<Operand>
     }
 }
 
-/// The first key whose expression stands first and ends there.
+/// The first key whose expression comes first and ends there.
 fn operand_of(keys: &[Key], tokens: &[Token]) -> Option<Operand>
     ensures { Finds named.operand result (spec.operand_of (map named.group_key keys.now) tokens.now) }
 {
@@ -61,7 +61,7 @@ fn operand_of(keys: &[Key], tokens: &[Token]) -> Option<Operand>
     None
 }
 
-/// The operand of its own that stands behind such a token.
+/// The operand of its own that follows such a token.
 fn operand_at(keys: &[Key], before: &TokenKind, tokens: &[Token]) -> Option<Operand>
     ensures { Finds named.operand result (spec.operand_at (map named.group_key keys.now) before.now tokens.now) }
 {
@@ -84,7 +84,7 @@ pub fn add_name(
     Ok(())
 }
 
-/// Whether a dot stands first.
+/// Whether a dot comes first.
 pub fn begins_dot(tokens: &[Token]) -> bool
     ensures { result ≡ kinds.begins kinds.is_dot tokens.now }
 {
@@ -257,7 +257,7 @@ pub fn add_items(
     Ok(())
 }
 
-/// Whether a star stands last.
+/// Whether a star comes last.
 fn ends_with_star(item: &[Token]) -> bool
     ensures { result ≡ spec.ends_with_star item.now }
 {

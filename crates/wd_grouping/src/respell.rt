@@ -125,7 +125,7 @@ fn with_items<'t>(
     }
 }
 
-/// What stands for a select behind these tokens.
+/// What stands for a select after these tokens.
 fn respelled_select(
     alloc: Global,
     front: &[Token],

@@ -19,7 +19,7 @@ pub struct OneTable<'t> {
     pub qualifier: Option<&'t Token>,
 }
 
-/// A table of such a name, which stands for the several ones behind FROM.
+/// A table of such a name, which stands for the several ones after FROM.
 pub fn tables_called<'t>(from: &'t Token, alias: &'t Token) -> OneTable<'t>
     ensures { named.one_table result ≡ spec.tables_called from.now alias.now }
 {
@@ -44,7 +44,7 @@ fn if_all<'t>(from: &'t Token, count: usize, alias: Alias<'t>) -> Option<OneTabl
     None
 }
 
-/// `[AS] alias` behind a query in brackets
+/// `[AS] alias` after a query in brackets
 fn behind_query<'t>(
     from: &'t Token,
     bracket: &'t Token,

@@ -191,7 +191,7 @@ fn add_before_keys(written: &mut Vec<Token>, select: &Grouped) -> Result<(), Res
     Ok(())
 }
 
-/// The select whose keys are columns of its tables, and what follows it, behind these tokens.
+/// The select whose keys are columns of its tables, and what follows it, after these tokens.
 pub fn written_over(
     alloc: Global,
     front: &[Token],
@@ -255,7 +255,7 @@ fn add_tail(
     Ok(())
 }
 
-/// The select over the table that has its keys, and what follows it, behind these tokens.
+/// The select over the table that has its keys, and what follows it, after these tokens.
 pub fn written(
     alloc: Global,
     front: &[Token],

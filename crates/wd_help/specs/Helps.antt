@@ -16,7 +16,7 @@ pub record IsHelp (schema query : List ℕ) (help : Help) : Type 0 where
   pub certificate : Certificate
   pub decided : IsVerdict schema help.text.items (Deterministic certificate)
 
--- how many lists are tried on a query of so many bytes (this project's choice)
+-- how many lists are tried on a query of the given number of bytes (this project's choice)
 abbrev pub most_lists : ℕ → ℕ
 most_lists bytes = min 1000 (2000000 / max bytes 1)
 

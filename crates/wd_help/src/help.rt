@@ -25,9 +25,9 @@ pub struct Help {
 /// Sort keys for the window calls and the limits of a query that are open, so that the verdict on the changed text is DETERMINISTIC. Where
 /// the window calls and the limits of the query stand is told, and which lists of sort keys may be tried.
 ///
-/// Of so many lists as a query of this length is asked about, the first with which nothing is open is taken, put where the first call or
-/// limit that is open stands. Where none of them serves, for each ORDER BY the first list is taken with which less is open. None where
-/// no such lists are found, and where nothing is open or a text is refused.
+/// Of the given number of lists as a query of this length is asked about, the first with which nothing is open is taken, put where the
+/// first call or limit that is open stands. Where none of them serves, for each ORDER BY the first list is taken with which less is
+/// open. None where no such lists are found, and where nothing is open or a text is refused.
 pub fn help_for(
     alloc: Global,
     schema: &[u8],
@@ -70,7 +70,7 @@ fn further_help(
 }
 
 /// Changes with which rows that tie are treated alike at each place that is open in a query, so that the verdict on the changed text is
-/// DETERMINISTIC: RANK in the place of ROW_NUMBER, and WITH TIES for a limit without an OFFSET. None where one of the places has no such
+/// DETERMINISTIC: RANK in place of ROW_NUMBER, and WITH TIES for a limit without an OFFSET. None where one of the places has no such
 /// change, and where nothing is open or a text is refused.
 pub fn alike_for(alloc: Global, schema: &[u8], query: &[u8]) -> Result<Option<Help>, OutOfMemory>
     ensures { IfOk result (λ found. IfSome found (IsHelp schema.now query.now)) }

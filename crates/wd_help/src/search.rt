@@ -49,7 +49,7 @@ struct Search<'a> {
     candidates: &'a [String],
 }
 
-/// How many lists are tried on a query of so many bytes.
+/// How many lists are tried on a query of the given number of bytes.
 pub(crate) fn most_lists(bytes: usize) -> usize
     ensures { result ≡ most_lists bytes }
 {

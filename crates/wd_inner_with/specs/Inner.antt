@@ -38,7 +38,7 @@ most_inner = 128
 abbrev pub fewer : ℕ → List Token → ℕ
 fewer left tokens = if begins_inner tokens then left - 1 else left
 
--- further names behind those
+-- further names after those
 abbrev pub behind : List Token → Said → Said
 behind names query = record { tokens = query.tokens; read_twice = names ++ query.read_twice }
 
@@ -46,7 +46,7 @@ abbrev pub turned : (Said → Result Said RespellError) → Said → Option Said
 turned go query None = go query
 turned go query (Some new) = if nat_lt most_tokens (length new.tokens) then Err TooLong else go (behind query.read_twice new)
 
--- without the WITH clauses in brackets at the first so many places, from the last to the first, and at most so many of them
+-- without the WITH clauses in brackets at the first N places, from the last to the first, and at most so many of them
 unfoldable pub opened_below : ℕ → ℕ → Said → Result Said RespellError
 opened_below left zero query = Ok query
 opened_below left (suc place) query =

@@ -12,7 +12,7 @@ use wd_distinct_on::cut;
 use wd_lex::{Terminal, Token, TokenKind};
 use wd_with::{Expanded, without_with};
 
-/// Whether a bracket and WITH stand first.
+/// Whether a bracket and WITH come first.
 pub fn begins_inner(tokens: &[Token]) -> bool
     ensures { result ≡ spec.begins_inner tokens.now }
 {

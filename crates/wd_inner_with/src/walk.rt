@@ -29,7 +29,7 @@ fn fewer(left: usize, place: usize, tokens: &[Token]) -> usize
     left
 }
 
-/// Adds names behind others.
+/// Adds names after others.
 fn add_names(names: &mut Vec<Token>, mut more: &[Token]) -> Result<(), AllocError>
     ensures { IfOk result (λ _. names.new.items ≡ names.old.items ++ more.entry.now) }
 {

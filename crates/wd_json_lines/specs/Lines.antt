@@ -5,7 +5,7 @@ use Rattle.serde_json.specs.Data.{Data}
 use Rattle.serde_json.specs.Written.{compact_text}
 use Rattle.wd_json.specs.Json.{IsJsonOf}
 
--- how many bytes stand before the first line feed, or the end
+-- how many bytes come before the first line feed, or the end
 abbrev pub line_len : List ℕ → ℕ
 line_len bytes = prefix_len (λ b. not (b == 10)) bytes
 
@@ -16,12 +16,12 @@ first_line bytes = take (line_len bytes) bytes
 abbrev pub behind_line : List ℕ → List ℕ
 behind_line bytes = drop (line_len bytes + 1) bytes
 
--- the lines of bytes are those of values, one each; behind the last line feed nothing need stand
+-- the lines of bytes are those of values, one each; after the last line feed nothing need stand
 abbrev pub AreLines : {A : Type 0} → (A → Data) → List A → List ℕ → Type 0
 AreLines json [] bytes = bytes ≡ []
 AreLines json (x ∷ xs) bytes = (bytes ≢ []) × IsJsonOf (json x) (first_line bytes) × AreLines json xs (behind_line bytes)
 
--- behind lines of these values comes one that is of none
+-- after lines of these values comes one that is of none
 abbrev pub FailBehind : {A : Type 0} → (A → Data) → List A → List ℕ → Type 0
 FailBehind {A} json [] bytes = (bytes ≢ []) × ((x : A) → ¬ IsJsonOf (json x) (first_line bytes))
 FailBehind json (x ∷ xs) bytes = (bytes ≢ []) × IsJsonOf (json x) (first_line bytes) × FailBehind json xs (behind_line bytes)

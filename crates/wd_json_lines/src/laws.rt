@@ -15,7 +15,7 @@ pub fn have_one_list<T: InLine>()
     ensures { HaveOneList T.json }
 {}
 
-/// Values that are written and read again come back, as many as they were and in their order, or memory is wanting.
+/// Values that are written and read again come back, as many as they were and in their order, or memory runs out.
 pub fn read_back<T: InLine>(alloc: Global, items: &[T]) -> Result<Vec<T>, LineError>
     ensures same { IfOk result (λ v. map T.json (map T.said v.items) ≡ map T.json (map T.said items.now)) }
     ensures memory { IfErr result (λ e. e ≡ error.OutOfMemory) }

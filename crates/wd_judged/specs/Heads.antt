@@ -13,7 +13,7 @@ abbrev pub HaveHeads : (path text : List ℕ) (start : ℕ) → Kind → List Op
 HaveHeads path text start kind places blocks =
     (n : ℕ) → IfSome (slice_get places n) (λ place. IfSome (slice_get blocks n) (λ (block : Block). BeginsBlock path text start kind place (string_bytes block.text)))
 
--- so do those of a finding, whose statement stands in a file of that path and text
+-- so do those of a finding, whose statement is in a file of that path and text
 abbrev pub BeginBlocks : (path text : List ℕ) → Judged → Type 0
 BeginBlocks path text judged = of_judgement judged.judgement
   where

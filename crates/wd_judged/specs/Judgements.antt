@@ -13,12 +13,12 @@ use Rattle.wd_judged.specs.declared.judged.Judged.{Judged}
 use Rattle.wd_judged.specs.declared.judged.Judgement.{Judgement}
 use Rattle.wd_judged.specs.declared.judged.Judgement.TheVariants.{Found, Refused}
 
--- the text of the statement that stands there
+-- the text of the statement that is there
 abbrev pub statement_of : List ℕ → Span → List ℕ
 statement_of text span = slice_range text span.start span.end
 
--- a finding is one of the two texts and counts as its verdict, its simpler plan and the further search say; a refusal has its cause in them and is
--- not read
+-- a finding is one of the two texts and counts as its verdict, its simpler plan and the further search say; a refusal has its cause in
+-- them and is not read
 abbrev pub IsJudgement : List ℕ → List ℕ → Kind → Judgement → Type 0
 IsJudgement schema query kind (Found finding) = IsFinding schema query finding × (kind ≡ kind_of finding.verdict finding.certain finding.further)
 IsJudgement schema query kind (Refused error) = HasCause schema query error × (kind ≡ NotRead)
@@ -28,7 +28,7 @@ abbrev pub places_told : Judgement → ℕ
 places_told (Found finding) = length finding.places.items
 places_told (Refused error) = 1
 
--- This is judged of a query's text, which stands there in its file: what is found of it, helps that are some for it, and a block for each
+-- This is judged of a query's text, which is there in its file: what is found of it, helps that are some for it, and a block for each
 -- place.
 pub record IsJudgedAs (schema query : List ℕ) (span : Span) (judged : Judged) : Type 0 where
   pub stands : judged.span ≡ span
@@ -37,7 +37,7 @@ pub record IsJudgedAs (schema query : List ℕ) (span : Span) (judged : Judged) 
   pub alike : IfSome judged.alike (IsHelp schema query)
   pub told : length judged.blocks.items ≡ places_told judged.judgement
 
--- this is judged of the statement of a text that stands there
+-- this is judged of the statement of a text that is there
 abbrev pub IsJudged : List ℕ → List ℕ → Span → Judged → Type 0
 IsJudged schema text span judged = IsJudgedAs schema (statement_of text span) span judged
 

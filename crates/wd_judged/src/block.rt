@@ -26,7 +26,7 @@ pub struct Block {
     pub span: Option<Span>,
     /// The line and the column at which these begin; those of the statement, or of the file where it is refused, where they are not known.
     pub position: Position,
-    /// The words that stand there, with one blank for each white space; none where the place is not known.
+    /// The words that are there, with one blank for each white space; none where the place is not known.
     pub words: String,
     /// The lines that tell it to a person.
     pub text: String,

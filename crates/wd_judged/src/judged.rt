@@ -38,7 +38,7 @@ pub enum Judgement {
 /// What is judged of a statement of a file.
 #[derive(Drop)]
 pub struct Judged {
-    /// Where the statement stands in its file.
+    /// Where the statement is in its file.
     pub span: Span,
     /// What it counts as.
     pub kind: Kind,
@@ -67,7 +67,7 @@ impl Judged {
     }
 }
 
-/// What is judged of the statement of a file that stands there, over the schema of another file.
+/// What is judged of the statement of a file that is there, over the schema of another file.
 pub fn judge_statement(
     alloc: Global,
     schema: File<'_>,
@@ -87,7 +87,7 @@ pub fn judge_statement(
     }
 }
 
-/// The statement of a file that stands there.
+/// The statement of a file that is there.
 fn statement_at<'a>(file: File<'a>, span: Span) -> Statement<'a>
     ensures path { result.path.now ≡ file.entry.path.now }
     ensures text { result.text.now ≡ file.entry.text.now }
@@ -101,7 +101,7 @@ fn statement_at<'a>(file: File<'a>, span: Span) -> Statement<'a>
     }
 }
 
-/// What is judged of a query that stands there in a file, and of which this is found.
+/// What is judged of a query that is there in a file, and of which this is found.
 fn of_finding(
     alloc: Global,
     schema: &[u8],
@@ -149,7 +149,7 @@ fn help_where_open(
     }
 }
 
-/// Where the window calls and the limits of a plan stand in its query.
+/// Where the window calls and the limits of a plan are in its query.
 fn sites_in(alloc: Global, query: &[u8], plan: &Plan) -> Result<Vec<PlanSite>, OutOfMemory> {
     match lex(alloc, query) {
         Ok(tokens) => sites(alloc, &tokens, plan),
@@ -172,7 +172,7 @@ fn alike_where_open(
     }
 }
 
-/// What is judged of a query that stands there in a file, and that is refused or whose schema is.
+/// What is judged of a query that is there in a file, and that is refused or whose schema is.
 fn of_refusal(
     alloc: Global,
     schema: File<'_>,
