@@ -47,7 +47,7 @@ begins_later (t.Terminal m.Offset) = true
 begins_later (t.Terminal m.Fetch) = true
 begins_later _ = false
 
--- a part ends there
+-- whether a part that ends in this way ends at a token
 abbrev pub stops : Stop → TokenKind → Bool
 stops stop.Comma kind = is_comma kind
 stops stop.From kind = ends_items kind
@@ -60,7 +60,7 @@ depth_after depth (t.Terminal m.LeftBracket) = depth + 1
 depth_after depth (t.Terminal m.RightBracket) = depth - 1
 depth_after depth _ = depth
 
--- the given number of tokens and those that come before the end of the part; the given number of brackets are open
+-- `count` tokens and those before the end of the part; `depth` brackets are open
 unfoldable pub reach_from : Stop → ℕ → ℕ → List Token → ℕ
 reach_from stop depth count [] = count
 reach_from stop depth count (token ∷ tokens) =
@@ -70,7 +70,8 @@ reach_from stop depth count (token ∷ tokens) =
 abbrev pub reach : Stop → List Token → ℕ
 reach stop tokens = reach_from stop 0 0 tokens
 
--- the place of the bracket that closes what holds these tokens, of which the first has that place; the given number of brackets are open
+-- the place of the bracket that closes the level of these tokens, of which the first has the place `place`; `depth` brackets are open
+-- within the level
 unfoldable pub closing_from : ℕ → ℕ → List Token → Option ℕ
 closing_from depth place [] = None
 closing_from depth place (token ∷ tokens) =

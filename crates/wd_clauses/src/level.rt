@@ -5,12 +5,12 @@ ghost use Rattle.wd_clauses.specs.Reach as spec;
 
 use wd_lex::{Terminal, Token, TokenKind};
 
-/// What ends a part of a query, beside the end of its level.
+/// What ends a part of a query, apart from the end of its level.
 #[derive(Clone, Copy, PartialEq, Eq)]
 pub enum Stop {
     /// A comma.
     Comma,
-    /// FROM or DISTINCT: the items of SELECT end with FROM, and IS DISTINCT FROM is none.
+    /// FROM or DISTINCT: the items of SELECT end with FROM, and the FROM of IS DISTINCT FROM does not count.
     From,
     /// WHERE, or a word that begins a clause after it: a FROM clause ends there.
     Clause,
@@ -18,7 +18,7 @@ pub enum Stop {
     Later,
 }
 
-/// Whether a bracket closes, or a semicolon is there.
+/// Whether a token is a closing bracket or a semicolon.
 fn ends_level(kind: &TokenKind) -> bool
     ensures { result ≡ spec.ends_level kind.now }
 {
@@ -47,7 +47,7 @@ fn begins_later(kind: &TokenKind) -> bool
     )
 }
 
-/// Whether a part ends there, of those that end so.
+/// Whether a part that ends in this way ends at a token.
 fn stops(stop: Stop, kind: &TokenKind) -> bool
     ensures { result ≡ spec.stops stop kind.now }
 {
@@ -96,7 +96,7 @@ fn reach(stop: Stop, tokens: &[Token]) -> usize
     count
 }
 
-/// A part that begins with the tokens, and those after it.
+/// The part that the tokens begin with, and the tokens after it.
 pub fn split(stop: Stop, tokens: &[Token]) -> (&[Token], &[Token])
     ensures part { result.0.now ≡ take (spec.reach stop tokens.now) tokens.now }
     ensures behind { result.1.now ≡ drop (spec.reach stop tokens.now) tokens.now }

@@ -1,4 +1,4 @@
-//! Tokens that are written after others, at most 65,536 in all.
+//! Appends tokens to those written so far, at most 65,536 in all.
 
 ghost use Rattle.std.specs.Prelude.{◌≡◌, ◌∷◌, [], IfOk};
 ghost use Rattle.wd_clauses.specs.Added as spec;
@@ -49,7 +49,7 @@ pub fn add(written: &mut Vec<Token>, token: Token) -> Result<(), RespellError>
     Ok(())
 }
 
-/// Adds copies of tokens, where there is room for all.
+/// Adds copies of tokens, if there is room for all; else the tokens stay as they are.
 pub fn add_all(written: &mut Vec<Token>, tokens: &[Token]) -> Result<(), RespellError>
     ensures { Writes written.old.items written.new.items result tokens.now }
 {

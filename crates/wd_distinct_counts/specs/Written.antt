@@ -1,5 +1,5 @@
--- The select that stands for one with COUNT( DISTINCT c ): it counts c over
--- FROM ( SELECT keys, c FROM .. WHERE .. GROUP BY keys, c ) AS a, in which each value of c stands once in each group.
+-- The select that replaces one with COUNT( DISTINCT c ): it counts c over FROM ( SELECT keys, c FROM .. WHERE .. GROUP BY keys, c ) AS
+-- a, in which each value of c appears once in each group.
 use Rattle.std.specs.Prelude.{List, [], ◌∷◌, ◌++◌, Option}
 use Rattle.wd_lex.specs.declared.token.Terminal.TheVariants as m
 use Rattle.wd_lex.specs.declared.token.Token.{Token}

@@ -1,4 +1,4 @@
-//! The select that stands for one with COUNT( DISTINCT c ).
+//! The select that replaces one with COUNT( DISTINCT c ).
 
 ghost use Rattle.std.specs.Prelude.{◌≡◌, ◌++◌, option_map};
 ghost use Rattle.wd_clauses.specs.Given.{Makes, Writes};

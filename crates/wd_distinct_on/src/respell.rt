@@ -30,7 +30,7 @@ fn items_in(alloc: Global, tokens: &[Token]) -> Result<Option<Vec<Item<'_>>>, Al
     }
 }
 
-/// The keys of a list that may be empty, if none is the place of an item.
+/// The keys of a list that may be empty, if none is the position of an item.
 fn keys_in<'t>(
     alloc: Global,
     items: &[Item<'t>],
@@ -50,7 +50,7 @@ fn keys_in<'t>(
     }
 }
 
-/// What stands for a select after these tokens, if its names are distinct and its keys fit.
+/// The replacement of a select after these tokens, if its names are distinct and its keys fit.
 fn if_fit(
     alloc: Global,
     front: &[Token],
@@ -68,7 +68,7 @@ fn if_fit(
     Ok(None)
 }
 
-/// What stands for a select, by its items and its keys.
+/// The replacement of a select, by its items and its keys.
 fn with_orders<'t>(
     alloc: Global,
     front: &[Token],
@@ -87,7 +87,7 @@ fn with_orders<'t>(
     }
 }
 
-/// What stands for a select, by its items.
+/// The replacement of a select, by its items.
 fn with_keys<'t>(
     alloc: Global,
     front: &[Token],
@@ -105,7 +105,7 @@ fn with_keys<'t>(
     }
 }
 
-/// What stands for a select after these tokens.
+/// The replacement of a select after these tokens.
 #[tactic(auto, unfolding(crate::specs::Respelled::respelled_select))]
 fn respelled_select(
     alloc: Global,

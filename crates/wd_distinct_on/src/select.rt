@@ -51,7 +51,7 @@ fn order_at(tokens: &[Token]) -> Order<'_>
     }
 }
 
-/// Whether the level ends.
+/// Whether the tokens are at the end of their level.
 fn ends(tokens: &[Token]) -> bool
     ensures { result ≡ spec.ends tokens.now }
 {
@@ -64,7 +64,7 @@ fn ends(tokens: &[Token]) -> bool
     }
 }
 
-/// Whether FROM comes first.
+/// Whether the tokens begin with FROM.
 fn begins_from(tokens: &[Token]) -> bool
     ensures { result ≡ begins is_from tokens.now }
 {
@@ -122,7 +122,7 @@ fn opens(kind: &TokenKind) -> bool
     matches!(kind, TokenKind::Terminal(Terminal::LeftBracket))
 }
 
-/// Whether `SELECT DISTINCT ON (` comes first.
+/// Whether the tokens begin with `SELECT DISTINCT ON (`.
 pub fn begins_select(tokens: &[Token]) -> bool
     ensures { result ≡ spec.begins_select tokens.now }
 {

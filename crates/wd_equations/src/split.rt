@@ -1,4 +1,4 @@
-//! Parts of a list of tokens, up to separators that are outside brackets.
+//! Parts of a list of tokens, up to separators outside brackets.
 
 ghost use Rattle.std.specs.Prelude.{◌≡◌, ◌≤◌, ◌+◌, ◌<◌, ◌^◌, length, map, drop, IfOk};
 ghost use Rattle.wd_equations.specs.Parts.{depth_after, part_from, parts_of};

@@ -12,7 +12,7 @@ abbrev pub fixed_from : List ℕ → ℕ → List Fix → List ℕ
 fixed_from text start [] = drop start text
 fixed_from text start (fix ∷ fixes) = slice_range text start fix.span.start ++ fix.text.items ++ fixed_from text fix.span.end fixes
 
--- this is the text with the mended statements, which are in it one after the other
+-- this is the text with the mended statements, whose spans come one after the other
 pub record IsFixed (text : List ℕ) (fixes : List Fix) (after : List ℕ) : Type 0 where
   pub ordered : StandInOrder 0 (map span_of fixes) (length text)
   pub is : after ≡ fixed_from text 0 fixes

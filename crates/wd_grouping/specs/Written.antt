@@ -1,5 +1,5 @@
--- The select that stands for one with GROUP BY: its keys are columns, and those that stand for expressions are made by
--- FROM ( SELECT * , e AS "group 1" FROM .. WHERE .. ) AS a.
+-- The select that replaces one with GROUP BY: its keys are columns, and those for expressions are made by FROM ( SELECT * , e AS "group
+-- 1" FROM .. WHERE .. ) AS a.
 use Rattle.std.specs.Prelude.{ℕ, List, [], ◌∷◌, ◌++◌, Option, Some, None}
 use Rattle.wd_lex.specs.declared.token.Terminal.TheVariants as m
 use Rattle.wd_lex.specs.declared.token.Token.{Token}

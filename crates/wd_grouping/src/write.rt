@@ -1,4 +1,4 @@
-//! The select that stands for one with GROUP BY.
+//! The select that replaces one with GROUP BY.
 
 ghost use Rattle.std.specs.Prelude.{◌≡◌, ◌∷◌, ◌++◌, [], map, option_map};
 ghost use Rattle.wd_clauses.specs.Given.{Makes, Writes};
@@ -90,7 +90,7 @@ fn add_named(
     Ok(())
 }
 
-/// Adds the column that stands for a key.
+/// Adds the column for a key.
 fn add_column(
     alloc: Global,
     written: &mut Vec<Token>,
@@ -108,7 +108,7 @@ fn add_column(
     }
 }
 
-/// Adds the columns that stand for keys.
+/// Adds the columns for keys.
 fn add_columns(
     alloc: Global,
     written: &mut Vec<Token>,
