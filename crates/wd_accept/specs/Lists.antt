@@ -18,7 +18,7 @@ use Rattle.wd_accept.specs.declared.error.VerifyError.TheVariants as error
 abbrev pub answer_limit : Answer → Option ℕ
 answer_limit read = if read.ordered then final_limit read.plan 0 else None
 
--- a text spells a valid certificate of a plan, by which the answer's Limit goes by `keys`(`listed` is true) or does not
+-- a text spells a valid certificate of a plan, by which the answer's Limit goes by `keys` (`listed` is true) or does not
 abbrev pub SpellsListed : Bool → List ℕ → List TableRule → Answer → Type 0
 SpellsListed listed certificate tables read =
     (said : CertificateRecord) × Spells said certificate × IsValidCertificate tables read.plan said × (goes_by_keys said.nodes (answer_limit read) ≡ listed)

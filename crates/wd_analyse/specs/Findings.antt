@@ -65,7 +65,7 @@ pub record Finding : Type 0 where
   pub reasons : List Reason
   pub marks : List Mark
 
--- at a node with `width` columns, that has neither calls nor a limit
+-- what is found at a node with `width` columns that has neither calls nor a limit
 pub record IsBare (width : ℕ) (f : Finding) : Type 0 where
   pub entry : f.entry ≡ entry_by width f.claims [] [] None
   pub reasons : f.reasons ≡ []

@@ -26,7 +26,7 @@ use Rattle.wd_analyse.specs.Sources.{Keeps, columns_in, gives_some, is_tried, st
 abbrev pub copy_in : Copies → ℕ → Option ℕ
 copy_in copies c = maps.get nat_eq copies.lowest c
 
--- the definitions of `Sources` for a Map, but for any function that tells which output copies a column
+-- the definitions of `Sources` for a Map, for any function that tells which output copies a column
 
 abbrev pub output_by : (ℕ → Option ℕ) → ℕ → ℕ → Option ℕ
 output_by copy width c = if nat_lt c width then Some c else copy (c - width)

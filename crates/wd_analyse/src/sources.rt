@@ -79,7 +79,7 @@ fn add_left_side(
     Ok(())
 }
 
-/// Appends the left side of each given factas columns of the node, which these copies tell.
+/// Appends the left side of each given fact as columns of the node, which these copies tell.
 fn add_left_sides_by(
     alloc: Global,
     copies: &Copies,

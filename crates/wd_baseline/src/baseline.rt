@@ -30,7 +30,7 @@ pub struct Baseline {
 impl Baseline {
     /// Reads a baseline: a line `{"version":1}`, and then a line of JSON for each finding, as `Known::line` writes it; white space
     /// within a line and the order of its members do not matter, and the last line needs no line feed. Equal lines count as often as
-    /// they appear. Refused are another first line, and the first line that is no finding.
+    /// they appear. Another first line is refused, and so is the first line that is no finding.
     pub fn read(alloc: Global, bytes: &[u8]) -> Result<Baseline, BaselineError>
         ensures ok { IfOk result (λ b. IsBaselineOf bytes.now b) }
         ensures refused { IfErr result (λ e. HasCause e bytes.now) }

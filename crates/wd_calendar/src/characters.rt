@@ -5,7 +5,7 @@ ghost use Rattle.wd_calendar.specs.Characters as spec;
 ghost use Rattle.wd_calendar.specs.Characters.{digits_from, number_after};
 ghost use Rattle.wd_calendar.specs.Given.{Finds};
 
-/// The number that digits write; `None` for another text or a number of ten digits or more.
+/// The number that digits write; `None` where the text has another character or the number is above 999,999,999.
 #[tactic(auto, unfolding(crate::specs::Characters::number_after))]
 pub fn number_of(text: &[u8]) -> Option<u64>
     ensures value { result ≡ spec.number_of text.now }

@@ -25,7 +25,7 @@ abbrev pub or_right : Result PlanTree ℕ → (ℕ → Result PlanTree ℕ) → 
 or_right (Ok node) right = Ok node
 or_right (Err more) right = right more
 
--- the node with a number in postorder; past the last node, by how much the number is too large
+-- the node with a number in postorder; past the last node, the number minus the number of nodes
 abbrev pub found : PlanTree → ℕ → Result PlanTree ℕ
 found (Scan table columns) number = or_own (Scan table columns) (Err number)
 found (Join condition left right) number = or_own (Join condition left right) (or_right (found left number) (found right))

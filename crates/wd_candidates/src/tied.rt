@@ -51,7 +51,7 @@ pub fn tied_columns(
     }
 }
 
-/// The node with a number in postorder; past the last node, by how much the number is too large.
+/// The node with a number in postorder; past the last node, the number minus the number of nodes.
 fn find_node(plan: &Plan, number: u64) -> Result<&Plan, u64>
     ensures { result_map_both (λ node. plan_of node.now) (λ left. left) result ≡ found (plan_of plan.now) number }
 {

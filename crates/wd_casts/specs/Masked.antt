@@ -58,7 +58,7 @@ is_plain state (b ∷ bytes) =
     not (is_prefix state) && not (is_outside state && is_doubtful b (slice_index bytes 0)) && not (splits_number state b (slice_index bytes 0))
     && is_plain (step state b (slice_index bytes 0)).1 bytes
 
--- the masked byte of a byte, and whether the next byte is the second of `::`
+-- the byte that replaces a byte, and whether the next byte is the second of `::`
 abbrev pub byte_for : Bool → State → ℕ → ℕ → ℕ × Bool
 byte_for true state b next = (percent, false)
 byte_for false state b next =

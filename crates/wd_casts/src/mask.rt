@@ -73,7 +73,7 @@ fn is_plain(text: &[u8]) -> bool
     true
 }
 
-/// The masked byte of a byte, and whether the next byte is the second of `::`.
+/// The byte that replaces a byte, and whether the next byte is the second of `::`.
 fn byte_for(is_second: bool, state: State, byte: u8, next: u8) -> (u8, bool)
     ensures { result ≡ spec.byte_for is_second state byte next }
 {

@@ -10,7 +10,7 @@ use wd_lex::{Terminal, Token, TokenKind};
 pub enum Stop {
     /// A comma.
     Comma,
-    /// FROM or DISTINCT: the items of SELECT end with FROM, and the FROM of IS DISTINCT FROM does not count.
+    /// FROM, with which the items of SELECT end, or DISTINCT, so that they do not end with the FROM of IS DISTINCT FROM.
     From,
     /// WHERE, or a word that begins a clause after it: a FROM clause ends there.
     Clause,

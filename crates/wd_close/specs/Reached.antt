@@ -85,7 +85,7 @@ is_last list i = is_number (slice_get list (length list - 1)) i
 abbrev pub watched_one : List (List ℕ) → ℕ → Member → List (List ℕ)
 watched_one watchers i m = set watchers (place m) (get_or watchers (place m) [] ++ i ∷ [])
 
--- a fact watches a member, once: it does already where it came last
+-- a fact watches a member, once: it does already where it is the last of the member's list
 abbrev pub watched_once : List (List ℕ) → ℕ → Member → List (List ℕ)
 watched_once watchers i m = if is_last (get_or watchers (place m) []) i then watchers else watched_one watchers i m
 

@@ -20,7 +20,7 @@ pub(crate) fn watchers_of(watchers: &[Vec<usize>], member: Member) -> &[usize]
     }
 }
 
-/// Whether a fact came last.
+/// Whether a fact is the last of a list.
 fn is_last(list: &[usize], fact: usize) -> bool
     ensures { result ≡ spec.is_last list.now fact }
 {

@@ -219,9 +219,9 @@ AskNext words files path = (task : Task) × AskFor words task × StandsNext (pat
 abbrev pub IsTableWord : List (List ℕ) → List ℕ → Type 0
 IsTableWord words word = (schema query : List ℕ) × (tables : List (List ℕ)) × AreWordsOf words (Run schema query tables) × Any (λ w. w ≡ word) tables
 
--- The reason of a failure to make the output. A fault of the command line and a word without an `=` come before any file is read. A
--- file cannot be read only where one read failed, of a path that the words ask for; what was supplied is what the words before that one
--- ask for. A refusal and a fault come of the files.
+-- The reason of a failure to make the output. A fault of the command line and a word without an `=` come before any file is read.
+-- `CannotRead` means that one read failed, of a path that the words ask for, and that exactly the files that the words ask for before
+-- that one were supplied. A refusal or a fault is about the files' contents.
 abbrev pub HasReason : List (List ℕ) → Reads → Reads → Failure → Type 0
 HasReason words before after (CommandLine error) = AreOtherWords words × ReadsNothing before after
 HasReason words before after NotText = ⊥

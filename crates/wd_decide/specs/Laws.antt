@@ -1,4 +1,4 @@
--- What a reported certificate is worth, and a reported witness.
+-- What the report of a certificate means, and that of a witness.
 use Rattle.std.specs.Prelude.{◌≡◌, ℕ, List, IsSome, None}
 use Rattle.wd_certificate.specs.Certificates.{certificate_of}
 use Rattle.wd_certificate.specs.Json as certificates

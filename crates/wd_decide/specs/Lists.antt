@@ -62,7 +62,7 @@ pub record IsListVerdictOf (tables : List TableRule) (read : Answer) (listed : L
 abbrev pub IsListVerdict : List ℕ → List ℕ → ListVerdict → Type 0
 IsListVerdict schema query listed = ForAnswer schema query (λ tables read. IsListVerdictOf tables read listed)
 
--- ---- what a reported certificate is worth, and a reported witness
+-- ---- what the report of a certificate means, and that of a witness
 
 -- a certificate that is reported is a verdict's, and a text that spells it is accepted for the list, so that `verify_list` takes it
 pub record IsListSound (schema query : List ℕ) (certificate : Certificate) : Type 0 where

@@ -49,8 +49,8 @@ pub enum ListVerdict {
 }
 
 /// Whether the query of a text has one list of rows over the schema of a text. The verdict is that of `decide`, except for a query with
-/// a certificate: where the answer's Limit goes by `keys` in the certificate, `verify_list` accepts the certificate's text; else the
-/// reason is told.
+/// a certificate: where the answer's Limit goes by `keys` in the certificate, `verify_list` accepts the certificate's text; otherwise
+/// the reason is given.
 ///
 /// Each refusal occurs only where its cause holds, as `examine` says.
 pub fn decide_list(alloc: Global, schema: &[u8], query: &[u8]) -> Result<ListVerdict, DecideError>

@@ -55,9 +55,9 @@ pub fn examine(alloc: Global, schema: &[u8], query: &[u8]) -> Result<Examined, D
 }
 
 /// Whether the query of a text has one answer over the schema of a text. A certificate that is reported is valid for the plan that
-/// reads the texts, and `verify` accepts its text. A witness that is reported is true of that plan: the two outcomes are not one,
-/// and `refute` refuses its text by none of 601 to 604 and 802. Else there is a reason at least, each being that of a call or a
-/// limit for which no rule is known, in postorder, and there is no witness among the candidates that are tried.
+/// reads the texts, and `verify` accepts its text. A witness that is reported is true of that plan: the two outcomes are not one, and
+/// `refute` refuses its text with none of 601 to 604 and 802. Otherwise there is at least one reason, each for a call or a limit for
+/// which no rule is known, in postorder, and there is no witness among the candidates that are tried.
 ///
 /// Each refusal occurs only where its cause holds, as `examine` says.
 pub fn decide(alloc: Global, schema: &[u8], query: &[u8]) -> Result<Verdict, DecideError>

@@ -189,7 +189,8 @@ impl Selects for DistinctCounts {
     }
 }
 
-/// The query without COUNT( DISTINCT c ), as far as its selects are read.
+/// The query without COUNT( DISTINCT c ), as far as its selects are read. The error is `TooLong` where the query, or what is written,
+/// has more than 65,536 tokens.
 pub fn without_distinct_counts(alloc: Global, tokens: &[Token]) -> Result<Vec<Token>, RespellError>
     ensures { Gives (λ x. x.items) result (spec.respelled tokens.now) }
 {

@@ -168,7 +168,8 @@ impl Selects for DistinctOn {
     }
 }
 
-/// The query without DISTINCT ON, as far as its selects with it are read.
+/// The query without DISTINCT ON, as far as its selects with it are read. The error is `TooLong` where the query, or what is written,
+/// has more than 65,536 tokens.
 pub fn without_distinct_on(alloc: Global, tokens: &[Token]) -> Result<Vec<Token>, RespellError>
     ensures { spec.Gives (λ x. x.items) result (spec.respelled tokens.now) }
 {

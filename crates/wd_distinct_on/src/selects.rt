@@ -54,7 +54,8 @@ fn fewer<S: Selects>(selects: &S, left: usize, place: usize, tokens: &[Token]) -
     left
 }
 
-/// The query in which at most `most` selects are looked at, and each of these is respelled if it can be.
+/// The query in which at most `most` selects are looked at, and each of these is respelled if it can be. The error is `TooLong` where
+/// the query, or what is written, has more than 65,536 tokens.
 #[tactic(auto, unfolding(crate::specs::Selects::respelled_below))]
 pub fn respelled_backwards<S: Selects>(
     alloc: Global,

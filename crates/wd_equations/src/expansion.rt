@@ -1,6 +1,6 @@
 //! Goes over tokens from left to right, and writes the right side of each equation in place of its left side.
 //!
-//! `walk` takes step by step, and each part of an equation is walked in turn. A part is within fewer brackets than the whole, or is a
+//! `walk` goes on step by step, and walks each part of an equation in turn. A part is within fewer brackets than the whole, or is a
 //! smaller operand, and brackets are followed to 64 levels, so that `walk` is called within itself at most 130 times.
 
 ghost use Rattle.std.specs.Prelude.{◌≡◌, ◌≤◌, ◌<◌, length, map, IfOk, IfErr};

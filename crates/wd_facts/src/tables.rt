@@ -59,7 +59,7 @@ fn is_null_key(table: &Table, key: &Key) -> bool
     names_columns(table, key) && !gives_row(table, key)
 }
 
-/// The facts that the keys that determine the row do so.
+/// For each key that determines the row, the fact that it does.
 fn row_key_facts(alloc: Global, table: &Table) -> Result<Vec<Given>, OutOfMemory>
     ensures { IfOk result (λ v. map fact_of v.items ≡ spec.keys_facts member.Row (spec.row_keys (table_of table.now))) }
 {

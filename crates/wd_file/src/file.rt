@@ -182,7 +182,7 @@ impl<W: Watch> Findings<'_, W> {
         )
     }
 
-    /// The lock of a file, if it has a line for each of the given number of statements. A lock that has not is reported.
+    /// The lock of a file, if it has a line for each of the given number of statements. A lock of another length is reported.
     fn fitting_lock<'f>(
         &mut self,
         task: Task<'f>,

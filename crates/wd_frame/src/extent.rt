@@ -13,8 +13,8 @@ use wd_plan::Frame;
 use wd_value::OutOfMemory;
 
 /// How many places are before the start of the frame of the row at `place`, and how many are not after its end. The frame without its
-/// exclusion has the places from the first number up to the second, and none where the second is not greater. Takes time linear in the
-/// logarithm of the partition's length.
+/// exclusion has the places from the first number up to the second, and none where the second is not greater. Takes time logarithmic in
+/// the partition's length.
 pub fn bounds(part: &Part, frame: &Frame, place: usize) -> (usize, usize)
     ensures start { IsInOrder (part_of part.now) frame.now → place < length (part_of part.now).groups → result.0 ≡ start_of (part_of part.now) frame.now place }
     ensures end { IsInOrder (part_of part.now) frame.now → place < length (part_of part.now).groups → result.1 ≡ end_of (part_of part.now) frame.now place }

@@ -29,7 +29,7 @@ pub record IsFound (schema query : List ℕ) (found : Found) : Type 0 where
 abbrev pub to_try : List TableRule → PlanTree → ℕ → List Instance
 to_try tables plan rows = filter (is_meeting tables) (candidates tables plan rows)
 
--- a search among them: the number of rows in each table, the order in which one ordering takes rows that tie, and the most evaluations
+-- a search among them: the number of rows in each table, the turn, by which one ordering takes rows that tie, and the most evaluations
 pub record Search : Type 0 where
   pub rows : ℕ
   pub turn : Turn

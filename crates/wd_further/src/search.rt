@@ -41,7 +41,7 @@ const MOST_OTHERWISE: u32 = 500;
 /// The most work of the evaluations of all sizes together in one turn, in units of about five nanoseconds.
 const MOST_WORK: u128 = 60_000_000;
 
-/// The least work that an evaluation counts for each row.
+/// The least work that an evaluation is taken to need for each row.
 const LEAST_WORK: u64 = 250;
 
 /// A witness over the first candidate that shows two answers of a plan.

@@ -54,8 +54,8 @@ fn one_number(alloc: Global, rows: &RowSource) -> Result<Coding, OutOfMemory>
     Ok(Coding { codes, bound: 1 })
 }
 
-/// A number for each place of two lists of numbers; two are equal exactly where both numbers are. The two are combined into one product
-/// code where at most few of the pairs below the bounds are not met; otherwise the pairs that are met are numbered.
+/// A number for each place of two lists of numbers; two are equal exactly where both numbers are. The two numbers are coded as one
+/// where there are not too many pairs below the bounds (`are_dense`); otherwise the pairs that are met are numbered.
 fn both(alloc: Global, first: Coding, second: &Coding) -> Result<Coding, OutOfMemory>
     requires long { length first.codes.items ≡ length second.now.codes.items }
     requires high { (k : ℕ) → k < length first.codes.items → get_or first.codes.items k 0 < first.bound }

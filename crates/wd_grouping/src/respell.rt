@@ -197,7 +197,8 @@ impl Selects for ExpressionKeys {
     }
 }
 
-/// The query with columns for the keys of GROUP BY, as far as its selects are read.
+/// The query with columns for the keys of GROUP BY, as far as its selects are read. The error is `TooLong` where the query, or what is
+/// written, has more than 65,536 tokens.
 pub fn without_expression_keys(alloc: Global, tokens: &[Token]) -> Result<Vec<Token>, RespellError>
     ensures { Gives (λ x. x.items) result (spec.respelled tokens.now) }
 {

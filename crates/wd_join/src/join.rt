@@ -64,8 +64,8 @@ impl Kept {
     }
 }
 
-/// All pairs of a left and a right row, the left one outermost, for which the condition is true, or
-/// the least fault among all pairs. Where there are more than `most` rows they are not built.
+/// All pairs of a left and a right row, the left one outermost, for which the condition is true, or the least fault among all pairs.
+/// The error is `TooManyRows` where these are more than `most` rows, which are then not built.
 pub fn join_rows(
     alloc: Global,
     condition: Option<&Expr>,

@@ -29,8 +29,8 @@ pub struct Pair {
 }
 
 /// The pairs of a left and a right row, the left one outermost, for which the condition is true, by their positions, where it consists
-/// of equalities of a left and a right column; `None` exactly where it does not, or where rows of a side differ in width. Where there
-/// are more than `most` they are not made.
+/// of equalities of a left and a right column; `None` exactly where it does not, or where rows of a side differ in width. The error is
+/// `TooManyRows` where there are more than `most` pairs, which are then not made.
 pub fn equal_pairs(
     alloc: Global,
     condition: &Expr,

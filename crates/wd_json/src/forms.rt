@@ -31,7 +31,7 @@ pub trait InJson: Drop {
         ensures { IfOk result (λ v. view v ≡ Self.json (Self.said self.now)) };
 }
 
-/// The elements of a list, refused where one of them is refused.
+/// The elements of a list; refused where the value is no list or one of the elements is refused.
 pub fn read_list<T: InJson>(alloc: Global, value: &Value) -> Result<Vec<T>, Misread>
     ensures ok { IfOk result (λ v. view value.now ≡ list_json T.json (map T.said v.items)) }
     ensures refused { IfErr result (λ e. e ≡ misread.Shape → (xs : List T.Said) → view value.now ≢ list_json T.json xs) }
