@@ -12,7 +12,7 @@ IsPlain (byte ∷ rest) = byte ≢ 45
 abbrev pub word_of : List ℕ → List ℕ → List ℕ
 word_of name path = name ++ 61 ∷ path
 
--- the text has no `=`, so that it is what comes before the first `=`
+-- the text has no `=`, as what comes before the first `=` of a word
 abbrev pub HasNoEquals : List ℕ → Type 0
 HasNoEquals text = ¬ (Contains text 61)
 

@@ -28,8 +28,8 @@ pub record IsSound (schema query : List ℕ) (certificate : Certificate) : Type 
 abbrev pub ReportedAreSound : Type 0
 ReportedAreSound = (schema query : List ℕ) (certificate : Certificate) → IsVerdict schema query (Deterministic certificate) → IsSound schema query certificate
 
--- a witness is true of the plan that reads the texts, with no step too large, and a text that spells it refutes the query; nothing
--- there refuses that text by a number
+-- a witness is true of the plan that reads the texts, with no step too large, and a text that spells it refutes the query; that text is
+-- refused with no number
 pub record IsTrueOf (schema query : List ℕ) (witness : Witness) : Type 0 where
   pub shown : ForReading schema query (λ tables plan. IsShown tables plan (witness_of witness))
   pub refuted : (text : List ℕ) → witnesses.Spells (witness_of witness) text → IsRefuted schema query text

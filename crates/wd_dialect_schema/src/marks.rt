@@ -69,7 +69,7 @@ fn is_deferrable(mark: Mark) -> bool
     }
 }
 
-/// Whether DEFERRABLE is among the marks, without NOT before it.
+/// Whether DEFERRABLE is among the marks, without NOT right before it.
 pub fn says_deferrable(marks: &[Mark]) -> bool
     ensures { result ≡ says_deferrable false marks.now }
 {

@@ -42,7 +42,7 @@ fn value_or<'t>(own: &'t [Token], name: &Token, items: &[Item<'t>]) -> &'t [Toke
     own
 }
 
-/// A key, in which a name may appear for an item.
+/// A key. A name alone, perhaps with ASC, DESC or NULLS after it, sorts by what the item with that name stands for.
 fn key_of<'t>(items: &[Item<'t>], tokens: &'t [Token]) -> Key<'t>
     ensures { sort_key result ≡ spec.key_of (map named_item items.now) tokens.now }
 {

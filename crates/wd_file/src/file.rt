@@ -167,7 +167,7 @@ impl<'f> Task<'f> {
 }
 
 impl<W: Watch> Findings<'_, W> {
-    /// Reports how many statements a file has, and that it has none.
+    /// Adds a file's statements to the progress of the run. A file without any is reported, and counts as one query that is not read.
     fn begin(&mut self, task: Task<'_>, statements: u64) -> Result<(), OutOfMemory> {
         self.watch.add_queries(statements.max(1));
         if statements > 0 {

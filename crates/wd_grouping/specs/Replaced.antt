@@ -33,7 +33,7 @@ abbrev pub or_else : {A : Type 0} → Option A → Option A → Option A
 or_else None other = other
 or_else (Some found) other = Some found
 
--- the first key's expression that tokens begin with and at whose end an operand ends
+-- the expression of the first key that is an operand at the start of the tokens
 abbrev pub operand_of : List GroupKey → List Token → Option Operand
 operand_of [] tokens = None
 operand_of (key ∷ keys) tokens = or_else (operand_by key.name key.value tokens) (operand_of keys tokens)

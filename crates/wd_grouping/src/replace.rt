@@ -33,7 +33,7 @@ fn ends(tokens: &[Token]) -> bool
     }
 }
 
-/// The expression of a key, if the tokens begin with it and an operand ends there.
+/// The expression of a key, if it is an operand at the start of the tokens.
 fn operand_by(key: &Key, tokens: &[Token]) -> Option<Operand>
     ensures { Finds named.operand result (spec.operand_by (named.group_key key.now).name (named.group_key key.now).value tokens.now) }
 {
@@ -47,7 +47,7 @@ fn operand_by(key: &Key, tokens: &[Token]) -> Option<Operand>
     }
 }
 
-/// The first key's expression that the tokens begin with and at whose end an operand ends.
+/// The expression of the first key that is an operand at the start of the tokens.
 fn operand_of(keys: &[Key], tokens: &[Token]) -> Option<Operand>
     ensures { Finds named.operand result (spec.operand_of (map named.group_key keys.now) tokens.now) }
 {

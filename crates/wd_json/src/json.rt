@@ -9,8 +9,8 @@ use crate::misread::Misread;
 use serde_json::{Map, Value};
 use std::collections::btree_map;
 
-/// The value of the next member, which must have this name. Members come in the order of their names, each once, in any order the text
-/// has them.
+/// The value of the next member, which must have this name; refused where there is no member or another one. Members come in the order
+/// of their names, each once, whatever their order in the text.
 pub fn next_member<'v>(
     members: &mut btree_map::Iter<'v, String, Value>,
     name: &str,

@@ -13,7 +13,7 @@ abbrev pub HaveHeads : (path text : List ℕ) (start : ℕ) → Kind → List Op
 HaveHeads path text start kind places blocks =
     (n : ℕ) → IfSome (slice_get places n) (λ place. IfSome (slice_get blocks n) (λ (block : Block). BeginsBlock path text start kind place (string_bytes block.text)))
 
--- the blocks of a judgement begin so: for a finding with the head lines, where the statement is in a file of this path and text
+-- for a finding the blocks begin with the head lines, where the statement is in a file of this path and text
 abbrev pub BeginBlocks : (path text : List ℕ) → Judged → Type 0
 BeginBlocks path text judged = of_judgement judged.judgement
   where
