@@ -22,7 +22,7 @@ use Rattle.wd_accept.specs.declared.error.VerifyOrigin.TheVariants as origin
 abbrev pub SpellsValid : List ℕ → List TableRule → PlanTree → Type 0
 SpellsValid certificate tables plan = (said : CertificateRecord) × Spells said certificate × IsValidCertificate tables plan said
 
--- it is valid for the plan that reads the texts of a schema and a query
+-- the certificate is valid for the plan that reads the texts of a schema and a query
 abbrev pub IsAccepted : List ℕ → List ℕ → List ℕ → Type 0
 IsAccepted schema query certificate = ForReading schema query (SpellsValid certificate)
 
@@ -36,7 +36,7 @@ abbrev pub RefusesPlan : CertError → List ℕ → List TableRule → PlanTree 
 RefusesPlan refusal certificate tables plan =
     certificates.HasCause refusal certificate ⊎ ((said : CertificateRecord) × Spells said certificate × (first_refusal tables plan said ≡ Some refusal))
 
--- why the texts of a schema, a query and a certificate are refused; of the order of the rows nothing is asked
+-- why the texts of a schema, a query and a certificate are refused; the order of the rows plays no part
 abbrev pub HasCause : List ℕ → List ℕ → List ℕ → VerifyError → Type 0
 HasCause schema query certificate (error.Texts refusal) = HasTextCause schema query refusal
 HasCause schema query certificate (error.Certificate refusal) = ForReading schema query (RefusesPlan refusal certificate)

@@ -11,12 +11,12 @@ use Rattle.wd_accept.specs.declared.error.VerifyError.{VerifyError}
 abbrev pub AcceptedHasOne : Type 0
 AcceptedHasOne = (schema query certificate : List ℕ) → IsAccepted schema query certificate → HaveOneAnswer schema query
 
--- what is accepted has the cause of no refusal of its certificate, but that memory runs out
+-- for an accepted certificate no cause of a refusal of the certificate holds, but that memory runs out
 abbrev pub NotBoth : Type 0
 NotBoth = (schema query certificate : List ℕ) (refusal : CertError)
     → IsAccepted schema query certificate → IsSome (number_of refusal) → ForReading schema query (RefusesPlan refusal certificate) → ⊥
 
--- texts that have a meaning, and a certificate that is accepted for them, have the cause of no refusal but that memory runs out
+-- texts that have a meaning, and a certificate that is accepted for them, are refused only where memory runs out
 abbrev pub AcceptedIsTaken : Type 0
 AcceptedIsTaken = (schema query certificate : List ℕ) (e : VerifyError)
     → HaveMeaning schema query → IsAccepted schema query certificate → HasCause schema query certificate e → verify_number e ≡ None

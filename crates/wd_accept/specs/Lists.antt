@@ -18,12 +18,12 @@ use Rattle.wd_accept.specs.declared.error.VerifyError.TheVariants as error
 abbrev pub answer_limit : Answer → Option ℕ
 answer_limit read = if read.ordered then final_limit read.plan 0 else None
 
--- a text spells a valid certificate of a plan, by which the answer's Limit goes by `keys`, or does not
+-- a text spells a valid certificate of a plan, by which the answer's Limit goes by `keys` (`listed` is true) or does not
 abbrev pub SpellsListed : Bool → List ℕ → List TableRule → Answer → Type 0
 SpellsListed listed certificate tables read =
     (said : CertificateRecord) × Spells said certificate × IsValidCertificate tables read.plan said × (goes_by_keys said.nodes (answer_limit read) ≡ listed)
 
--- it is a valid certificate of the plan that reads the texts of a schema and a query, and the answer's Limit goes by `keys`
+-- the certificate is valid for the plan that reads the texts of a schema and a query, and the answer's Limit goes by `keys`
 abbrev pub IsListAccepted : List ℕ → List ℕ → List ℕ → Type 0
 IsListAccepted schema query certificate = ForAnswer schema query (SpellsListed true certificate)
 
@@ -41,11 +41,11 @@ HasListCause schema query certificate error.Unlisted = ForAnswer schema query (S
 
 -- ---- laws
 
--- texts for which a certificate is accepted have one list, and it is accepted as a certificate
+-- texts for which a certificate is accepted have one list, and the certificate is accepted by `verify` too
 abbrev pub ListedHasOneList : Type 0
 ListedHasOneList = (schema query certificate : List ℕ) → IsListAccepted schema query certificate → IsAccepted schema query certificate × HaveOneList schema query
 
--- texts that have a meaning, and a certificate that is accepted for their list, have the cause of no refusal but that memory runs out
+-- texts that have a meaning, and a certificate that is accepted for their list, are refused only where memory runs out
 abbrev pub ListedIsTaken : Type 0
 ListedIsTaken = (schema query certificate : List ℕ) (e : VerifyError)
     → HaveMeaning schema query → IsListAccepted schema query certificate → HasListCause schema query certificate e → verify_number e ≡ None

@@ -30,7 +30,7 @@ pub enum VerifyOrigin {
 }
 
 impl VerifyError {
-    /// The refusal's number, and None where memory runs out.
+    /// The refusal's number; `None` where memory runs out.
     pub fn number(&self) -> Option<u32>
         ensures { result ≡ verify_number self.now }
     {
@@ -41,7 +41,7 @@ impl VerifyError {
         }
     }
 
-    /// The byte, the token or the node that the refusal is about.
+    /// The byte, the token or the node that the refusal is about; `None` where it is about none.
     pub fn place(&self) -> Option<u64>
         ensures { result ≡ verify_place self.now }
     {

@@ -19,7 +19,7 @@ pub fn accepted_has_one()
     valid_has_one();
 }
 
-/// What is accepted has the cause of no refusal of its certificate.
+/// For an accepted certificate no cause of a refusal of the certificate holds.
 pub fn not_both()
     ensures { NotBoth }
 {
@@ -28,7 +28,7 @@ pub fn not_both()
     is_read_back();
 }
 
-/// A certificate that is accepted is refused for nothing that stands in the texts, where these have a meaning.
+/// A certificate that is accepted is refused only where memory runs out, if the texts have a meaning.
 pub fn accepted_is_taken()
     ensures { AcceptedIsTaken }
 {
@@ -46,7 +46,7 @@ pub fn listed_has_one_list()
     listed_has_one();
 }
 
-/// A certificate that is accepted for a list is refused for nothing that stands in the texts, where these have a meaning.
+/// A certificate that is accepted for a list is refused only where memory runs out, if the texts have a meaning.
 pub fn listed_is_taken()
     ensures { ListedIsTaken }
 {

@@ -11,7 +11,7 @@ use wd_certificate::Node;
 use wd_plan::Plan;
 use wd_resolve::Resolved;
 
-/// The number of the last Limit of a plan with so many nodes, where only Maps stand above it.
+/// The number of the last Limit of a plan with `nodes` nodes, where only Maps are above it.
 fn final_limit(plan: &Plan, nodes: u64) -> Option<u64>
     requires { nodes ≡ node_count (plan_of plan.now) }
     ensures { result ≡ rules.final_limit (plan_of plan.now) 0 }
@@ -23,8 +23,7 @@ fn final_limit(plan: &Plan, nodes: u64) -> Option<u64>
     }
 }
 
-/// The number of the answer's Limit of a plan with so many nodes: of the last Limit in postorder,
-/// where the outermost select has ORDER BY.
+/// The number of the answer's Limit of a plan with `nodes` nodes: of the last Limit in postorder, where the outermost select has ORDER BY.
 pub fn answer_limit(resolved: &Resolved, nodes: u64) -> Option<u64>
     requires { nodes ≡ node_count (plan_of resolved.now.plan) }
     ensures { result ≡ spec.answer_limit (resolved_of resolved.now) }
@@ -36,7 +35,7 @@ pub fn answer_limit(resolved: &Resolved, nodes: u64) -> Option<u64>
     }
 }
 
-/// Whether there is such a Limit, and its entry names a trace: it goes by `keys`.
+/// Whether there is an answer's Limit and its entry names a trace, so that the Limit goes by `keys`.
 pub fn goes_by_keys(nodes: &[Node], limit: Option<u64>) -> bool
     ensures { result ≡ rules.goes_by_keys (map node_of nodes.now) limit }
 {

@@ -28,7 +28,7 @@ use wd_verify::verify_plan;
 #[derive(Clone, Copy, Debug)]
 pub struct Accepted;
 
-/// What a certificate's text is accepted for: the plan of the texts of a schema and a query, and the valid certificate that it spells.
+/// The parts of an accepted certificate's text: the plan of the texts of a schema and a query, and the valid certificate that it spells.
 #[derive(Drop)]
 struct Verified {
     planned: PlannedQuery,
@@ -39,9 +39,9 @@ struct Verified {
 /// does, the query has one answer over each instance that meets the schema: in any row order and under any lawful orderings of
 /// rows that tie, one multiset of rows or one fault. No query is evaluated.
 ///
-/// Each refusal comes only where its cause stands, in this order: 101 to 107 and 301 to 309 of the schema; 101 to 107, 201, 202 and
-/// 401 to 415 of the query; 501 to 503 of the certificate's text; 503 for version 1 where the plan has a Group; 504, or 502 for a limit at a node that is no Limit; 505 to 510 at
-/// the first node in postorder whose entry is not valid.
+/// Each refusal occurs only where its cause holds, in this order: 101 to 107 and 301 to 309 of the schema; 101 to 107, 201, 202 and 401
+/// to 415 of the query; 501 to 503 of the certificate's text; 503 for version 1 where the plan has a Group; 504, or 502 for a limit at
+/// a node that is no Limit; 505 to 510 at the first node in postorder whose entry is not valid.
 pub fn verify(
     alloc: Global,
     schema: &[u8],
@@ -68,7 +68,7 @@ pub fn verify(
 /// the answer's Limit goes by `keys`. Where it does, the query has one list of rows, or one fault, over each instance that meets the
 /// schema: in any row order and under any lawful orderings of rows that tie. No query is evaluated.
 ///
-/// It refuses as `verify` does, and then by 511 where there is no answer's Limit, or the certificate's limit there is null.
+/// It refuses as `verify` does, and then with 511 where there is no answer's Limit, or the certificate's limit there is null.
 pub fn verify_list(
     alloc: Global,
     schema: &[u8],
@@ -79,7 +79,7 @@ pub fn verify_list(
     ensures one_list { IfOk result (λ _. HaveOneList schema.now query.now) }
     ensures refused { IfErr result (λ e. HasListCause schema.now query.now certificate.now e) }
 
-    // For texts that have a meaning a certificate that is valid so is refused only where memory runs out.
+    // For texts that have a meaning a certificate that is valid and shows one list is refused only where memory runs out.
     ensures taken { IfErr result (λ e. HaveMeaning schema.now query.now → IsListAccepted schema.now query.now certificate.now → verify_number e ≡ None) }
 {
     listed_has_one_list();

@@ -1,4 +1,4 @@
--- Two answers for one plan say the same, but for the uses of facts that their traces name.
+-- Two answers for one plan differ at most in the uses of facts that their traces name.
 use Rattle.std.specs.Prelude.{◌≡◌, List, [], map}
 use Rattle.wd_schema.specs.Tables.{TableRule}
 use Rattle.wd_plan.specs.Plans.{PlanTree}

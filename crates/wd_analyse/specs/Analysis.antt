@@ -8,7 +8,7 @@ use Rattle.wd_analyse.specs.declared.analysis.Analysis.{Analysis}
 use Rattle.wd_analyse.specs.declared.analysis.Analysis.TheVariants.{Certified, Open}
 use Rattle.wd_analyse.specs.Findings.{AreFindings, Finding, entries_in, marks_in, reasons_in}
 
--- a certificate that is valid, or a reason at least
+-- a certificate that is valid, or at least one reason
 abbrev pub IsSound : List TableRule → PlanTree → Analysis → Type 0
 IsSound tables plan (Certified certificate) = IsValidCertificate tables plan (certificate_of certificate)
 IsSound tables plan (Open reasons marks) = reasons.items ≢ []
@@ -18,7 +18,7 @@ abbrev pub Tells : PlanTree → List Finding → Analysis → Type 0
 Tells plan fs (Certified certificate) = (reasons_in fs ≡ []) × (nodes_of certificate ≡ entries_in fs) × (certificate.version ≡ version_needed plan)
 Tells plan fs (Open reasons marks) = (reasons.items ≢ []) × (reasons.items ≡ reasons_in fs) × (marks.items ≡ marks_in fs)
 
--- it tells what is found at the plan's nodes
+-- the analysis tells what is found at the plan's nodes
 pub record IsExact (tables : List TableRule) (plan : PlanTree) (analysis : Analysis) : Type 0 where
   pub before : List Finding
   pub top : Finding

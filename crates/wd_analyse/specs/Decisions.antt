@@ -1,4 +1,4 @@
--- Which rule justifies a call, by what the columns of its class give, or what is lacking.
+-- Which rule justifies a call, by what the columns of its class determine, or what is lacking.
 use Rattle.std.specs.Prelude.{ℕ, ◌+◌, Bool, true, false, not, ◌&&◌, List, [], ◌∷◌, nat_eq, slice_get, Option, Some, None, is_some, if◌then◌else◌}
 use Rattle.wd_plan.specs.declared.window.Call.{Call}
 use Rattle.wd_plan.specs.Frames.{is_stable}
@@ -15,7 +15,7 @@ use Rattle.wd_analyse.specs.declared.decided.Lack.{Lack}
 use Rattle.wd_analyse.specs.declared.decided.Lack.TheVariants as lack
 use Rattle.wd_analyse.specs.Evidence.{Closing}
 
--- the least of some columns that is not given
+-- the least of some columns that is not determined
 abbrev pub missing_of : (Member → Bool) → List ℕ → Option ℕ
 missing_of has [] = None
 missing_of has (c ∷ columns) = if has (member.Column c) then missing_of has columns else Some c
@@ -27,7 +27,7 @@ abbrev pub has_taken : (Member → Bool) → Option ℕ → Bool
 has_taken has None = false
 has_taken has (Some c) = has (member.Column c)
 
--- the value that FIRST_VALUE, LAST_VALUE or NTH_VALUE takes over a stable frame is given
+-- the value that FIRST_VALUE, LAST_VALUE or NTH_VALUE takes over a stable frame is determined
 abbrev pub gives_value : (Member → Bool) → Call → Bool
 gives_value has call = is_stable call.frame && has_taken has (taken_column call.function)
 
@@ -40,12 +40,12 @@ abbrev pub lack_of_column : Option ℕ → Lack
 lack_of_column None = lack.Row
 lack_of_column (Some c) = lack.Column c
 
--- what a call lacks whose class gives neither the row nor every column
+-- what a call lacks whose class determines neither the row nor every column
 abbrev pub lack_of : Call → Lack
 lack_of call = if is_stable call.frame then lack_of_column (taken_column call.function) else lack.Row
 
--- the first rule that justifies a call, whose class gives these and is shown by the trace with a number, over an input with so
--- many columns, where a class may have `exchange` already
+-- the first rule that justifies a call, whose class determines these members and is shown by the trace with this number, over an input
+-- with `columns` columns, where a class may have `exchange` already
 abbrev pub decide : (Member → Bool) → ℕ → ℕ → Option ℕ → Call → Decided
 decide has number columns exchange call =
     if is_by_peers call.frame call.function then By Peers
@@ -66,7 +66,7 @@ abbrev pub next_exchange : Option ℕ → ℕ → Decided → Option ℕ
 next_exchange (Some first) class decided = Some first
 next_exchange None class decided = if takes_exchange decided then Some class else None
 
--- the calls of a Window in their order; the classes' traces have the numbers from one on
+-- the calls of a Window in their order; the classes' traces are numbered from `first` on
 abbrev pub decided_calls : List Closing → ℕ → ℕ → Option ℕ → List Call → List Decided
 decided_calls classes first columns exchange [] = []
 decided_calls classes first columns exchange (call ∷ calls) =
@@ -87,7 +87,7 @@ abbrev pub with_rule : Decided → List Rule → List Rule
 with_rule (By rule) rules = rule ∷ rules
 with_rule (Open lacking) rules = rules
 
--- the rules of those that have one
+-- the rules of the calls that have one
 abbrev pub rules_in : List Decided → List Rule
 rules_in [] = []
 rules_in (d ∷ ds) = with_rule d (rules_in ds)

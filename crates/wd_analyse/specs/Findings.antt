@@ -31,7 +31,7 @@ name_of (rule.Unique n) = name.Unique
 name_of (rule.Values n) = name.Values
 name_of (rule.Exchange n) = name.Exchange
 
--- of the call with a number, at the node with a number
+-- the reason for the call with a number, at the node with a number
 abbrev pub reason_of : ℕ → ℕ → Decided → List Reason
 reason_of node call (By r) = []
 reason_of node call (Open lacking) = record { node = node; call = Some call; lack = lacking } ∷ []
@@ -40,7 +40,7 @@ abbrev pub mark_of : ℕ → ℕ → Decided → List Mark
 mark_of node call (By r) = record { node = node; call = Some call; rule = name_of r } ∷ []
 mark_of node call (Open lacking) = []
 
--- of the calls from a number on
+-- the reasons for the calls from a number on
 abbrev pub reasons_of : ℕ → ℕ → List Decided → List Reason
 reasons_of node call [] = []
 reasons_of node call (d ∷ ds) = reason_of node call d ++ reasons_of node (call + 1) ds
@@ -49,7 +49,7 @@ abbrev pub marks_of : ℕ → ℕ → List Decided → List Mark
 marks_of node call [] = []
 marks_of node call (d ∷ ds) = mark_of node call d ++ marks_of node (call + 1) ds
 
--- of the limit of the node with a number
+-- the reason for the limit of the node with a number
 abbrev pub limit_reason : ℕ → ℕ → Reason
 limit_reason node column = record { node = node; call = None; lack = lack.Column column }
 
@@ -58,20 +58,20 @@ limit_mark node rule = record { node = node; call = None; rule = rule }
 
 -- ---- what is found at a node
 
--- what it keeps, its entry, and the reasons and marks of its calls or its limit
+-- what the node keeps, its entry, and the reasons and marks of its calls or its limit
 pub record Finding : Type 0 where
   pub claims : List Closing
   pub entry : NodeRecord
   pub reasons : List Reason
   pub marks : List Mark
 
--- at a node with so many columns, that has neither calls nor a limit
+-- what is found at a node with `width` columns that has neither calls nor a limit
 pub record IsBare (width : ℕ) (f : Finding) : Type 0 where
   pub entry : f.entry ≡ entry_by width f.claims [] [] None
   pub reasons : f.reasons ≡ []
   pub marks : f.marks ≡ []
 
--- what is decided of a Window's calls, by what a node keeps and what its classes' columns give
+-- what is decided of a Window's calls, by what the node keeps and what its classes' columns determine
 abbrev pub decided_at : WindowRule → PlanTree → List Closing → List Closing → List Decided
 decided_at w input claims classes = decided_calls classes (length claims) (width input) None w.calls
 
@@ -87,7 +87,7 @@ pub record IsOfWindow (facts : FactList) (w : WindowRule) (input : PlanTree) (no
 abbrev pub whole_or_ties : LimitRule → RuleName
 whole_or_ties limit = if is_some limit.count then name.Ties else name.Whole
 
--- by the least column that the sort keys do not give, if there is one
+-- a limit's entry, by the least column that the sort keys do not determine, if there is one
 abbrev pub entry_by_keys : ℕ → List Closing → Closing → Option ℕ → NodeRecord
 entry_by_keys width claims keys None = entry_by width claims (keys ∷ []) [] (Some (length claims))
 entry_by_keys width claims keys (Some column) = entry_by width claims [] [] None
@@ -101,7 +101,7 @@ abbrev pub marks_by_keys : ℕ → LimitRule → Option ℕ → List Mark
 marks_by_keys node limit None = limit_mark node name.Keys ∷ []
 marks_by_keys node limit (Some column) = if is_whole_or_ties limit then limit_mark node (whole_or_ties limit) ∷ [] else []
 
--- the least of the first so many columns that others do not give
+-- the least of the first `columns` columns that others do not determine
 abbrev pub lacking : ℕ → Closing → Option ℕ
 lacking columns c = missing_of c.has (all_columns columns)
 
@@ -136,7 +136,7 @@ pub record IsFinding (tables : List TableRule) (plan : PlanTree) (kept more : Li
 abbrev pub facts_kept : PlanTree → Finding → List Fact
 facts_kept plan f = map (kept_fact (width plan)) f.claims
 
--- of a plan over an input, whose findings come before
+-- the findings of a plan over an input: those of the input come before
 pub record OverOne (tables : List TableRule) (plan input : PlanTree) (first : ℕ) (Below : List Finding → Finding → Type 0) (before : List Finding) (top : Finding) : Type 0 where
   pub deeper : List Finding
   pub child : Finding
@@ -144,7 +144,7 @@ pub record OverOne (tables : List TableRule) (plan input : PlanTree) (first : �
   pub are : before ≡ deeper ++ child ∷ []
   pub finding : IsFinding tables plan (facts_kept input child) [] (first + length before) top
 
--- of a Join: the findings of the left side, then those of the right one
+-- the findings of a Join: those of the left side, then those of the right one, then its own
 pub record OverTwo (tables : List TableRule) (plan left right : PlanTree) (first : ℕ) (OfLeft : List Finding → Finding → Type 0) (OfRight : ℕ → List Finding → Finding → Type 0) (before : List Finding) (top : Finding) : Type 0 where
   pub deeper : List Finding
   pub child : Finding

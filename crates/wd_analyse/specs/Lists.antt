@@ -13,7 +13,7 @@ use Rattle.wd_analyse.specs.Analysis.{IsAnswer}
 use Rattle.wd_analyse.specs.Evidence.{Closing, IsClosing}
 use Rattle.wd_analyse.specs.Findings.{AreFindings, Finding, facts_kept, lacking}
 
--- the least column that the sort keys of a Limit do not give, by the facts that its input keeps; none where they give all
+-- the least column that the sort keys of a Limit do not determine, by the facts that its input keeps; none where they determine all
 pub record IsLackOf (tables : List TableRule) (limit : LimitRule) (input : PlanTree) (lack : Option ℕ) : Type 0 where
   pub before : List Finding
   pub child : Finding
@@ -23,7 +23,7 @@ pub record IsLackOf (tables : List TableRule) (limit : LimitRule) (input : PlanT
   pub columns : keys.from ≡ key_columns limit.keys
   pub is : lacking (width input) keys ≡ lack
 
--- of a plan's last Limit, as `final_limit` has it; none where there is no such Limit
+-- what the sort keys of a plan's last Limit lack, the Limit that `final_limit` numbers; none where there is no such Limit
 abbrev pub IsLack : List TableRule → PlanTree → Option ℕ → Type 0
 IsLack tables (Scan table columns) lack = lack ≡ None
 IsLack tables (Join condition left right) lack = lack ≡ None

@@ -1,4 +1,4 @@
--- The columns that are tried at a node: what they give may be kept.
+-- The columns that are tried at a node: what they determine may be kept.
 use Rattle.std.specs.Prelude.{◌≡◌, ℕ, ◌+◌, ◌-◌, ◌<◌, ◌≤◌, Bool, ◌&&◌, List, [], ◌∷◌, ◌++◌, filter, flat_map, length, map, nat_lt, Option, Some, if◌then◌else◌}
 use Rattle.std.specs.List.{AllByRecursion, list_all, list_any}
 use Rattle.wd_plan.specs.Expressions.{Expression}
@@ -20,16 +20,16 @@ columns_in (Left ∷ X) = columns_in X
 columns_in (Right ∷ X) = columns_in X
 columns_in (Row ∷ X) = columns_in X
 
--- a column as one of the first so many: by itself, or at a Map by the lowest output that copies it
+-- a column as one of the first `width` columns: by itself, or at a Map by the lowest output that copies it
 abbrev pub output_of : List Expression → ℕ → ℕ → Option ℕ
 output_of outputs width c = if nat_lt c width then Some c else copy_from 0 outputs (c - width)
 
--- columns, if each is one of these
+-- columns as columns of the node, if each is one or is copied by one
 abbrev pub outputs_of : List Expression → ℕ → List ℕ → Option (List ℕ)
 outputs_of outputs width [] = Some []
 outputs_of outputs width (c ∷ X) = both_copied (output_of outputs width c) (outputs_of outputs width X)
 
--- the same columns, in whatever order
+-- the same columns, in any order
 abbrev pub same_columns : List ℕ → List ℕ → Bool
 same_columns X Y = list_all (is_in Y) X && list_all (is_in X) Y
 
@@ -38,12 +38,12 @@ is_tried tried X = list_any (same_columns X) tried
 
 -- ---- in order
 
--- the left sides of facts by the node's own columns
+-- the left sides of facts as columns of the node
 abbrev pub left_sides : List Expression → ℕ → List Fact → List (List ℕ)
 left_sides outputs width [] = []
 left_sides outputs width (fact ∷ facts) = if_copied (outputs_of outputs width (columns_in fact.from)) (left_sides outputs width facts)
 
--- columns with each left side of facts whose columns are renumbered
+-- columns, each time with the left side of one of the facts, whose columns are renumbered
 abbrev pub unions_with : List ℕ → ℕ → List Fact → List (List ℕ)
 unions_with X by facts = map (λ (fact : Fact). X ++ map (λ c. by + c) (columns_in fact.from)) facts
 
@@ -77,7 +77,7 @@ outputs_in (Limit limit input) = []
 abbrev pub sources : PlanTree → List Fact → List Fact → List Fact → List (List ℕ)
 sources plan facts kept more = left_sides (outputs_in plan) (width plan) facts ++ ([] ∷ unions_at plan kept more)
 
--- those that were not tried before, each once
+-- the lists that were not tried before, each once
 abbrev pub distinct : List (List ℕ) → List (List ℕ) → List (List ℕ)
 distinct tried [] = []
 distinct tried (X ∷ Xs) = if is_tried tried X then distinct tried Xs else (X ∷ distinct (tried ++ X ∷ []) Xs)
@@ -90,12 +90,12 @@ AreClosings facts cs = AllByRecursion (IsClosing facts) cs
 abbrev pub starts : List Closing → List (List ℕ)
 starts cs = map (λ (c : Closing). c.from) cs
 
--- columns give something that a node with so many columns keeps
+-- columns determine something that a node with `width` columns keeps
 abbrev pub gives_some : ℕ → Closing → Bool
 gives_some width c = nat_lt 0 (length (kept_members width c))
 
--- what a node with so many columns keeps: of its sources, each once and in order, a front is tried, and those are kept that give
--- something; at most 64, and where there are fewer all sources are tried
+-- what a node with `width` columns keeps: its sources, each once and in order, are tried up to some point, and those that determine
+-- something are kept, at most 64; where fewer are kept all sources are tried
 pub record Keeps (facts : FactList) (width : ℕ) (sources : List (List ℕ)) (claims : List Closing) : Type 0 where
   pub tried : List Closing
   pub untried : List (List ℕ)

@@ -22,11 +22,11 @@ use Rattle.wd_analyse.specs.Sources.{Keeps, columns_in, gives_some, is_tried, st
 
 -- ---- the sources of a Map
 
--- the lowest output that copies a column, as an index has it
+-- the lowest output that copies a column, as looked up in an index
 abbrev pub copy_in : Copies → ℕ → Option ℕ
 copy_in copies c = maps.get nat_eq copies.lowest c
 
--- as `Sources` has them of a Map's outputs, of whatever tells the output that copies a column
+-- the definitions of `Sources` for a Map, for any function that tells which output copies a column
 
 abbrev pub output_by : (ℕ → Option ℕ) → ℕ → ℕ → Option ℕ
 output_by copy width c = if nat_lt c width then Some c else copy (c - width)
@@ -41,20 +41,20 @@ left_sides_by copy width (fact ∷ facts) = if_copied (outputs_by copy width (co
 
 -- ---- the search for what a node keeps
 
--- facts that can be closed, of a node with so many columns
+-- facts that can be closed, at a node with `width` columns
 pub record Admits (facts : FactList) (width : ℕ) : Type 0 where
   pub split : is_split_within facts.split facts.columns ≡ true
   pub named : are_named facts ≡ true
   pub wide : width ≤ facts.columns
 
--- what columns give is added to the claims, if it is anything
+-- what columns determine is added to the claims, if they determine anything
 pub record Adds (facts : FactList) (width : ℕ) (X : List ℕ) (old new : List Closing) : Type 0 where
   pub closing : Closing
   pub is : IsClosing facts closing
   pub from : closing.from ≡ X
   pub more : new ≡ old ++ filter (gives_some width) (closing ∷ [])
 
--- each number is below those behind it
+-- each number is below those after it
 abbrev pub rises : List ℕ → Bool
 rises [] = true
 rises (c ∷ X) = list_all (nat_lt c) X && rises X
@@ -62,12 +62,12 @@ rises (c ∷ X) = list_all (nat_lt c) X && rises X
 abbrev pub lists_in : Tried → List (List ℕ)
 lists_in tried = map vec_items tried.lists.keys
 
--- an index tells of any columns whether they were tried; each list in it rises
+-- an index tells for all columns whether they were tried; each of its lists rises
 pub record HasTried (Xs : List (List ℕ)) (tried : Tried) : Type 0 where
   pub rising : list_all rises (lists_in tried) ≡ true
   pub same : (X : List ℕ) → is_tried (lists_in tried) X ≡ is_tried Xs X
 
--- columns are noted behind those that were tried, where they are fresh
+-- columns are appended to those that were tried, where they are fresh
 pub record IsNextTried (Xs : List (List ℕ)) (X : List ℕ) (fresh : Bool) (new : Tried) : Type 0 where
   pub test : fresh ≡ not (is_tried Xs X)
   pub has : HasTried (if fresh then Xs ++ X ∷ [] else Xs) new
@@ -77,7 +77,7 @@ pub record IsSearch (facts : FactList) (width : ℕ) (sources : List (List ℕ))
   pub keeps : Keeps facts width sources claims
   pub has : HasTried (starts keeps.tried) tried
 
--- one source more is tried
+-- one more source is tried
 abbrev pub Tries : FactList → ℕ → List ℕ → Tried → List Closing → Tried → List Closing → Type 0
 Tries facts width X tried claims new_tried new_claims = (before : List (List ℕ)) → IsSearch facts width before tried claims → IsSearch facts width (before ++ X ∷ []) new_tried new_claims
 
@@ -105,7 +105,7 @@ told_of findings = record { reasons = findings.reasons.items; marks = findings.m
 abbrev pub entries_of : Found → List NodeRecord
 entries_of found = map node_of found.nodes.items
 
--- a node's entry, and its reasons and marks behind those so far
+-- a node's entry, and its reasons and marks after those so far
 pub record Says (facts : FactList) (plan : PlanTree) (node : ℕ) (claims : List Closing) (entry : NodeRecord) (old new : Told) : Type 0 where
   pub finding : Finding
   pub said : IsSaid facts plan node finding
@@ -116,7 +116,7 @@ pub record Says (facts : FactList) (plan : PlanTree) (node : ℕ) (claims : List
 
 -- ---- what is found
 
--- what is found at a plan's top node, whose children keep these, behind what was found; it keeps these facts
+-- what is found at a plan's top node, whose children keep these, is appended to what was found before; the node keeps these facts
 pub record FindsTop (tables : List TableRule) (plan : PlanTree) (kept more : List Fact) (old new : Found) (facts : List Fact) : Type 0 where
   pub finding : Finding
   pub is : IsFinding tables plan kept more (length (entries_of old)) finding
@@ -126,7 +126,7 @@ pub record FindsTop (tables : List TableRule) (plan : PlanTree) (kept more : Lis
   pub keeps : facts ≡ facts_kept plan finding
   pub plain : ArePlain (width plan) facts
 
--- what is found at a plan's nodes, behind what was found; its top node keeps these facts
+-- what is found at a plan's nodes is appended to what was found before; the top node keeps these facts
 pub record Finds (tables : List TableRule) (plan : PlanTree) (old new : Found) (facts : List Fact) : Type 0 where
   pub before : List Finding
   pub top : Finding

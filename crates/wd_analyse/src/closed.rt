@@ -1,4 +1,4 @@
-//! What columns give at a node, and the facts that show it.
+//! What columns determine at a node, and the facts that show it.
 
 ghost use Rattle.std.specs.Prelude.{◌≡◌, ◌++◌, true, map, nat_lt, IfOk};
 ghost use Rattle.std.specs.List.{list_all};
@@ -12,7 +12,7 @@ use wd_plan::has_column;
 use wd_sets::Set;
 use wd_value::OutOfMemory;
 
-/// Columns, what they give, and the facts that show it, in the order in which they are used.
+/// Columns, what they determine, and the facts that show it, in the order in which they are used.
 #[derive(Drop)]
 pub(crate) struct Closed {
     pub(crate) from: Vec<u16>,
@@ -20,7 +20,7 @@ pub(crate) struct Closed {
     pub(crate) uses: Vec<u64>,
 }
 
-/// What columns give at a node.
+/// Closes columns under the facts of a node.
 pub(crate) fn close(
     alloc: Global,
     facts: &Prepared<'_>,
@@ -35,7 +35,7 @@ pub(crate) fn close(
     Ok(Closed { from, set, uses })
 }
 
-/// Appends a column that is not there.
+/// Appends a column unless it is there already.
 fn meet(column: u16, met: &mut Vec<u16>) -> Result<(), OutOfMemory>
     ensures { IfOk result (λ _. met.new.items ≡ met_with met.old.items column) }
 {
@@ -68,7 +68,7 @@ fn numbers(alloc: Global, columns: &[u16]) -> Result<Vec<u64>, OutOfMemory>
     Ok(list)
 }
 
-/// The trace that shows what columns give.
+/// The trace that shows what columns determine.
 fn trace(alloc: Global, closed: &Closed) -> Result<Trace, OutOfMemory>
     ensures { IfOk result (λ t. trace_of t ≡ trace_by (closing_of closed.now)) }
 {
@@ -78,7 +78,7 @@ fn trace(alloc: Global, closed: &Closed) -> Result<Trace, OutOfMemory>
     Ok(Trace { from, uses })
 }
 
-/// Appends the traces that show what columns give.
+/// Appends the traces that show what columns determine.
 pub(crate) fn add_traces(
     alloc: Global,
     all: &[Closed],

@@ -31,7 +31,7 @@ impl Copies {
         Ok(copies)
     }
 
-    /// Puts an output before those that are there: it takes the place of another copy.
+    /// Puts an output before those that are there: it replaces a later copy of the same column.
     fn put(&mut self, output: &Expr, number: u16) -> Result<(), OutOfMemory>
         ensures { IfOk result (λ _. (c : ℕ) → copy_in self.new c ≡ if is_side c (side_of (expression_of output.now)) then Some number else copy_in self.old c) }
     {
@@ -41,7 +41,7 @@ impl Copies {
         Ok(())
     }
 
-    /// The lowest of the outputs that copies a column.
+    /// The lowest of the outputs that copy a column.
     pub(crate) fn get(&self, column: u16) -> Option<u16>
         ensures { result ≡ copy_in self.now column }
     {

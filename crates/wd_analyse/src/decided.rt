@@ -18,11 +18,11 @@ use wd_value::OutOfMemory;
 /// Why no rule justifies a call or a limit.
 #[derive(Clone, Copy)]
 pub enum Lack {
-    /// The keys give every column, but another class of the node has the rule `exchange`.
+    /// The keys determine every column, but another class of the node has the rule `exchange`.
     SecondClass,
-    /// The keys do not give the column with this number.
+    /// The keys do not determine the column with this number.
     Column(u16),
-    /// The keys do not give the row.
+    /// The keys do not determine the row.
     Row,
 }
 
@@ -33,7 +33,7 @@ pub(crate) enum Decided {
     Open(Lack),
 }
 
-/// The least of the first so many columns that is not given.
+/// The least of the first `columns` columns that is not determined.
 #[tactic(auto, using(crate::proofs::Missing::missing_more, crate::proofs::Missing::missing_none))]
 pub(crate) fn missing(closed: &Closed, columns: u16) -> Option<u16>
     ensures { result ≡ spec.missing_of (closing_of closed.now).has (all_columns columns) }
@@ -56,7 +56,7 @@ fn taken_column(function: &Function) -> Option<u16>
     }
 }
 
-/// Whether the value that a call takes over a stable frame is given.
+/// Whether the value that a call takes over a stable frame is determined.
 fn gives_value(closed: &Closed, call: &Call) -> bool
     ensures { result ≡ spec.gives_value (closing_of closed.now).has call.now }
 {
@@ -67,7 +67,7 @@ fn gives_value(closed: &Closed, call: &Call) -> bool
         }
 }
 
-/// The rule `exchange`, unless another class has it.
+/// The rule `exchange`, unless another class of the node has it.
 fn by_exchange(exchange: Option<u16>, class: u16, number: u64) -> Decided
     ensures { result ≡ spec.by_exchange exchange class number }
 {
@@ -83,7 +83,7 @@ fn by_exchange(exchange: Option<u16>, class: u16, number: u64) -> Decided
     }
 }
 
-/// What a call lacks whose class gives neither the row nor every column.
+/// What a call lacks whose class determines neither the row nor every column.
 fn lack_of(call: &Call) -> Lack
     ensures { result ≡ spec.lack_of call.now }
 {
@@ -114,7 +114,7 @@ fn decide(closed: &Closed, number: u64, columns: u16, exchange: Option<u16>, cal
     }
 }
 
-/// The first rule that justifies a call, by the classes of its node, whose traces have the numbers from one on.
+/// The first rule that justifies a call, by the classes of its node, whose traces are numbered from `first` on.
 fn decide_of(
     classes: &[Closed],
     first: u64,
@@ -159,7 +159,7 @@ fn next_exchange(exchange: Option<u16>, class: u16, decided: Decided) -> Option<
     }
 }
 
-/// What is decided of the calls of a Window, over an input with so many columns.
+/// What is decided of the calls of a Window, over an input with `columns` columns.
 pub(crate) fn decide_calls(
     alloc: Global,
     classes: &[Closed],

@@ -28,7 +28,7 @@ use wd_plan::{Class, Limit, Plan, Window};
 use wd_schema::Schema;
 use wd_value::{OutOfMemory, SortColumn};
 
-/// What is known at a node: its number, its given facts, and what it keeps.
+/// What is known at a node: its number, its given facts, and the claims that it keeps.
 #[derive(Drop)]
 pub(crate) struct Here<'a> {
     pub(crate) node: u64,
@@ -65,7 +65,7 @@ pub(crate) fn key_columns(alloc: Global, keys: &[SortColumn]) -> Result<Vec<u16>
     Ok(columns)
 }
 
-/// What the columns of a class give.
+/// What the columns of a class determine.
 fn close_class(
     alloc: Global,
     facts: &Prepared<'_>,
@@ -81,7 +81,7 @@ fn close_class(
     close(alloc, facts, &columns)
 }
 
-/// What the columns of each class give.
+/// What the columns of each class determine.
 #[tactic(auto, using(crate::proofs::Claims::closings_more))]
 fn close_classes(
     alloc: Global,
@@ -138,7 +138,7 @@ fn say_calls(decided: &[Decided], node: u64, findings: &mut Findings) -> Result<
     Ok(())
 }
 
-/// The entry of a node with so many columns.
+/// The entry of a node with `width` columns.
 #[tactic(auto, using(crate::proofs::Entries::traces_joined))]
 fn make_entry(
     alloc: Global,
@@ -201,7 +201,7 @@ fn is_whole_or_ties(limit: &Limit) -> bool
     limit.offset == 0 && (limit.count.is_none() || limit.ties)
 }
 
-/// Which of the two it keeps: without a count all rows.
+/// Which of these rules a limit has: `whole` without a count, else `ties`.
 fn whole_or_ties(limit: &Limit) -> RuleName
     ensures { result ≡ spec.whole_or_ties (limit_of limit.now) }
 {
@@ -222,7 +222,7 @@ fn say_limit(node: u64, rule: RuleName, findings: &mut Findings) -> Result<(), O
     Ok(())
 }
 
-/// The entry of a Limit with so many columns whose sort keys give each of them.
+/// The entry of a Limit with `columns` columns whose sort keys determine each of them.
 #[tactic(auto, using(crate::proofs::Says::number))]
 fn shown_entry(
     alloc: Global,
@@ -251,7 +251,7 @@ fn say_lack(node: u64, column: u16, findings: &mut Findings) -> Result<(), OutOf
     Ok(())
 }
 
-/// Says what a limit goes by whose sort keys lack a column.
+/// Says which rule a limit has whose sort keys lack a column, or that it has none.
 fn say_without_keys(
     node: u64,
     limit: &Limit,
@@ -268,7 +268,7 @@ fn say_without_keys(
     }
 }
 
-/// The entry of a Limit with so many columns whose sort keys give these, and what is said of it.
+/// The entry of a Limit with `columns` columns whose sort keys determine these, and what is said of it.
 #[tactic(auto, using(crate::proofs::Says::number))]
 fn keys_entry(
     alloc: Global,
@@ -295,7 +295,7 @@ fn keys_entry(
     }
 }
 
-/// The entry of a Limit, and what is said of it: it goes by `keys` where its sort keys give every column.
+/// The entry of a Limit, and what is said of it: it goes by `keys` where its sort keys determine every column.
 #[tactic(auto, using(wd_plan::proofs::Ranges::narrow))]
 fn limit_entry(
     alloc: Global,

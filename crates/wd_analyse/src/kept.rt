@@ -1,4 +1,4 @@
-//! What a node keeps of what columns give.
+//! What a node keeps of what columns determine.
 
 ghost use Rattle.std.specs.Prelude.{◌≡◌, ℕ, ◌++◌, map, filter, IfOk};
 ghost use Rattle.wd_certificate.specs.Certificates.{kept_of};
@@ -27,7 +27,7 @@ fn column_set(alloc: Global, columns: &[u16]) -> Result<Set, OutOfMemory>
     Ok(set)
 }
 
-/// Whether a column is given, and stands outside those that give it, which are in a set of their own.
+/// Whether a column is determined and is not among the columns that determine it, which `from` holds as a set.
 fn is_new(closed: &Closed, from: &Set, column: u16) -> bool
     requires { has_column from.now column ≡ is_in closed.now.from.items column }
     ensures { result ≡ spec.is_new (closing_of closed.now) column }
@@ -51,7 +51,7 @@ fn add_new(
     Ok(())
 }
 
-/// The first so many columns that are given, but for those that give them.
+/// Those of the first `width` columns that are determined and are not among the columns that determine them.
 #[tactic(auto, using(crate::proofs::New::new_step, crate::proofs::New::new_none))]
 fn new_columns(alloc: Global, closed: &Closed, width: u16) -> Result<Vec<Member>, OutOfMemory>
     ensures { IfOk result (λ v. v.items ≡ columns_named (filter (spec.is_new (closing_of closed.now)) (all_columns width))) }
@@ -64,7 +64,7 @@ fn new_columns(alloc: Global, closed: &Closed, width: u16) -> Result<Vec<Member>
     Ok(list)
 }
 
-/// What a node with so many columns keeps of what columns give.
+/// What a node with `width` columns keeps of what columns determine.
 pub(crate) fn kept_members(
     alloc: Global,
     closed: &Closed,
@@ -98,7 +98,7 @@ fn targets(alloc: Global, members: &[Member]) -> Result<Vec<Target>, OutOfMemory
     Ok(list)
 }
 
-/// What a node keeps of what columns give, by the trace with this number.
+/// What a node keeps of what columns determine, shown by the trace with this number.
 fn kept(alloc: Global, claim: &Closed, width: u16, trace: u64) -> Result<Kept, OutOfMemory>
     ensures { IfOk result (λ k. kept_of k ≡ record { to = map spec.target_of (spec.kept_members width (closing_of claim.now)); trace = trace }) }
 {
@@ -107,7 +107,7 @@ fn kept(alloc: Global, claim: &Closed, width: u16, trace: u64) -> Result<Kept, O
     Ok(Kept { to, trace })
 }
 
-/// What a node with so many columns keeps, for its entry; each claim is shown by the trace with its number.
+/// What a node with `width` columns keeps, for its entry; each claim is shown by the trace with the claim's number.
 pub(crate) fn keep(alloc: Global, claims: &[Closed], width: u16) -> Result<Vec<Kept>, OutOfMemory>
     ensures { IfOk result (λ v. map kept_of v.items ≡ spec.keep_by width 0 (map closing_of claims.now)) }
 {
@@ -129,7 +129,7 @@ fn named(alloc: Global, columns: &[u16]) -> Result<Vec<Member>, OutOfMemory>
     Ok(list)
 }
 
-/// What a node keeps of what columns give, as a fact.
+/// What a node keeps of what columns determine, as a fact.
 fn kept_fact(alloc: Global, claim: &Closed, width: u16) -> Result<Given, OutOfMemory>
     ensures { IfOk result (λ g. fact_of g ≡ spec.kept_fact width (closing_of claim.now)) }
 {

@@ -4,7 +4,7 @@ ghost use Rattle.wd_analyse.specs.Alike.{AnswersAreAlike};
 ghost use Rattle.wd_analyse.specs.Lists.{KeysComeFirst};
 ghost use Rattle.wd_analyse.specs.Peers.{PeersAreCertified};
 
-/// A plan has one answer, but for the uses of facts that a certificate's traces name.
+/// Two answers for one plan differ at most in the uses of facts that the certificate's traces name.
 pub fn answers_are_alike()
     ensures { AnswersAreAlike }
 {}

@@ -49,7 +49,7 @@ fn nothing(alloc: Global) -> Found
     }
 }
 
-/// Analyses a plan's top node, whose inputs keep these facts; what it keeps.
+/// Analyses a plan's top node, whose inputs keep these facts, and returns what it keeps.
 #[tactic(auto, using(wd_plan::proofs::Ranges::narrow))]
 fn analyse_top(
     alloc: Global,
@@ -77,7 +77,7 @@ fn analyse_top(
     kept_facts(alloc, &here.claims, width(plan))
 }
 
-/// Analyses a plan's nodes; what its top node keeps.
+/// Analyses a plan's nodes, and returns what the top node keeps.
 fn analyse_nodes(
     alloc: Global,
     plan: &Plan,
@@ -106,10 +106,9 @@ fn analyse_nodes(
     }
 }
 
-/// Looks for a rule for each window call and each limit of a plan that fits the schema. Where each
-/// has one the plan has one answer, and the certificate says why: it is valid for the plan, and of
-/// version 1 where the plan has no Group. Else the answer is open: a reason for each call and limit
-/// without a rule, of which there is one at least, and a mark for each that has one.
+/// Looks for a rule for each window call and each limit of a plan that fits the schema. Where each has one the plan has one answer, and
+/// the certificate says why: it is valid for the plan, and of version 1 where the plan has no Group. Else the answer is open: a reason
+/// for each call and limit without a rule, of which there is at least one, and a mark for each that has one.
 ///
 /// # Errors
 /// Where memory runs out.
@@ -129,7 +128,7 @@ pub fn analyse(alloc: Global, plan: &Plan, schema: &Schema) -> Result<Analysis, 
     }
 }
 
-/// The least column that the sort keys of a Limit do not give, by the facts that its input keeps.
+/// The least column that the sort keys of a Limit do not determine, by the facts that its input keeps.
 #[tactic(auto, using(wd_plan::proofs::Ranges::narrow))]
 fn limit_lack(
     alloc: Global,
@@ -151,9 +150,8 @@ fn limit_lack(
     Ok(missing(&closed, width(input)))
 }
 
-/// The least column of the rows that a plan's last Limit reads which its sort keys do not give, by
-/// the facts that its input keeps; none where they give every column, or where the plan's top node
-/// is no Limit, nor the node below the Maps at its top.
+/// The least column of the rows that a plan's last Limit reads that its sort keys do not determine, by the facts that its input keeps;
+/// none where they determine every column, or where neither the plan's top node nor the node below the Maps at its top is a Limit.
 ///
 /// # Errors
 /// Where memory runs out.

@@ -1,4 +1,4 @@
-//! What of the columns that are tried at a node is kept.
+//! The search for what a node keeps of what the tried columns determine.
 
 ghost use Rattle.std.specs.Prelude.{map, vec_items, IfOk};
 ghost use Rattle.std.specs.List.{AllByRecursion};
@@ -24,7 +24,7 @@ struct Search {
     claims: Vec<Closed>,
 }
 
-/// Keeps what columns give, if they give anything.
+/// Keeps what columns determine, if they determine anything.
 fn add_claim(
     alloc: Global,
     facts: &Prepared<'_>,
@@ -44,7 +44,7 @@ fn add_claim(
     Ok(())
 }
 
-/// Tries columns, unless they were tried before or as many facts are kept as there may be.
+/// Tries columns, unless they were tried before or `MOST_KEPT` facts are kept.
 fn try_columns(
     alloc: Global,
     facts: &Prepared<'_>,
@@ -62,7 +62,7 @@ fn try_columns(
     Ok(())
 }
 
-/// What a node with these given facts keeps of what these columns give.
+/// What a node with these given facts keeps of what these columns determine.
 pub(crate) fn claims_of(
     alloc: Global,
     facts: &Prepared<'_>,

@@ -31,7 +31,7 @@ fn columns_in(alloc: Global, members: &[Member]) -> Result<Vec<u16>, OutOfMemory
     Ok(list)
 }
 
-/// A column as one of the first so many: by itself, or by the lowest output that copies it.
+/// A column as one of the first `width` columns: by itself, or by the lowest output that copies it.
 fn output_of(copies: &Copies, width: u16, column: u16) -> Option<u16>
     ensures { result ≡ output_by (copy_in copies.now) width column }
 {
@@ -42,7 +42,7 @@ fn output_of(copies: &Copies, width: u16, column: u16) -> Option<u16>
     }
 }
 
-/// Columns, if each is one of these.
+/// The columns as columns of the node, if each is one or is copied by one.
 #[tactic(auto, using(crate::proofs::Outputs::outputs_next, crate::proofs::Outputs::outputs_stop))]
 fn outputs_of(
     alloc: Global,
@@ -62,7 +62,7 @@ fn outputs_of(
     Ok(Some(list))
 }
 
-/// Appends the left side of a given fact by the node's own columns, if it has them.
+/// Appends the left side of a given fact as columns of the node, if the node has them.
 fn add_left_side(
     alloc: Global,
     copies: &Copies,
@@ -79,7 +79,7 @@ fn add_left_side(
     Ok(())
 }
 
-/// Appends the left side of each given fact, where these copies tell the node's own columns.
+/// Appends the left side of each given fact as columns of the node, which these copies tell.
 fn add_left_sides_by(
     alloc: Global,
     copies: &Copies,
@@ -95,7 +95,7 @@ fn add_left_sides_by(
     Ok(())
 }
 
-/// Appends the left side of each given fact by the columns of a node with these outputs.
+/// Appends the left side of each given fact as columns of a node with these outputs.
 fn add_left_sides(
     alloc: Global,
     outputs: &[Expr],
@@ -110,7 +110,7 @@ fn add_left_sides(
     add_left_sides_by(alloc, &copies, width, facts, list)
 }
 
-/// One list of columns behind another, whose columns are renumbered.
+/// One list of columns, then another whose columns are renumbered.
 fn union(alloc: Global, columns: &[u16], by: u16, others: &[u16]) -> Result<Vec<u16>, OutOfMemory>
     requires { list_all (λ c. nat_lt c (65536 - by)) others.now ≡ true }
     ensures { IfOk result (λ v. v.items ≡ columns.now ++ map (λ c. by + c) others.now) }

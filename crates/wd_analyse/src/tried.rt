@@ -36,7 +36,7 @@ impl Tried {
         }
     }
 
-    /// Notes that columns are tried; whether they were not, in whatever order and however often each.
+    /// Notes that columns are tried. Returns whether they were not tried before, in any order and with any repetitions.
     pub(crate) fn insert(&mut self, alloc: Global, columns: &[u16]) -> Result<bool, OutOfMemory>
         ensures { IfOk result (λ fresh. (Xs : List (List ℕ)) → HasTried Xs self.old → IsNextTried Xs columns.now fresh self.new) }
     {

@@ -37,11 +37,11 @@ with_feed line = string_bytes line ++ 10 ∷ []
 abbrev pub baseline_text : List (String Global) → List ℕ
 baseline_text lines = (codes "{\"version\":1}" ++ 10 ∷ []) ++ flat_map with_feed lines
 
--- what is written of lines: they stand in the order of their bytes, each as often as it is given
+-- the text that is written of lines: they are in the order of their bytes, each as often as it is given
 abbrev pub IsWritten : List (String Global) → List ℕ → Type 0
 IsWritten lines bytes = (sorted : List (String Global)) × IsPermutation lines sorted × IsSorted string_cmp sorted × (bytes ≡ baseline_text sorted)
 
--- bytes spell findings: the first line is that of the version, and each behind it is one
+-- bytes spell findings: the first line is that of the version, and each line after it is one finding
 pub record Spells (bytes : List ℕ) (fs : List FindingRecord) : Type 0 where
   pub version : IsVersionLine (first_line bytes)
   pub findings : AreFindings fs (behind_line bytes)

@@ -9,7 +9,7 @@ use Rattle.wd_baseline.specs.Findings.{FindingRecord, finding_json, finding_text
 abbrev pub HasOneList : Type 0
 HasOneList = (bytes : List ℕ) (fs gs : List FindingRecord) → Spells bytes fs → Spells bytes gs → fs ≡ gs
 
--- a line as `Known::line` gives it: the text of a finding, which is read as that one
+-- a line as `Known::line` gives it: the text of a finding, which is read as that finding
 pub record IsLineOf (line : String Global) (f : FindingRecord) : Type 0 where
   pub text : string_bytes line ≡ finding_text f
   pub spells : read (string_bytes line) ≡ Some (finding_json f)
@@ -25,6 +25,6 @@ AreLinesOf [] (f ∷ fs) = ⊥
 AreLinesOf (line ∷ lines) [] = ⊥
 AreLinesOf (line ∷ lines) (f ∷ fs) = IsLineOf line f × AreLinesOf lines fs
 
--- what is written of lines of findings spells these findings, in the order of the lines
+-- the text that is written of lines of findings spells these findings, in the order of the lines
 abbrev pub IsReadBack : Type 0
 IsReadBack = (lines : List (String Global)) (fs : List FindingRecord) → AreLinesOf lines fs → Spells (baseline_text lines) fs

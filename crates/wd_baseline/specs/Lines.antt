@@ -4,10 +4,10 @@ use Rattle.wd_json_lines.specs.Lines.{AreLines}
 use Rattle.wd_json_lines.specs.Lines as lines
 use Rattle.wd_baseline.specs.Findings.{FindingRecord, finding_json}
 
--- the lines of bytes spell these findings, one each; behind the last line feed nothing need stand
+-- the lines of bytes spell these findings, one each; after the last line feed there need not be anything
 abbrev pub AreFindings : List FindingRecord → List ℕ → Type 0
 AreFindings fs bytes = AreLines finding_json fs bytes
 
--- behind lines that spell these findings comes one that spells none
+-- after lines that spell these findings comes a line that spells none
 abbrev pub FailBehind : List FindingRecord → List ℕ → Type 0
 FailBehind fs bytes = lines.FailBehind finding_json fs bytes

@@ -14,13 +14,13 @@ abbrev pub refusal_at : Misread → ℕ → BaselineError
 refusal_at misread.Shape number = error.Line number
 refusal_at misread.OutOfMemory number = error.OutOfMemory
 
--- the first line of the findings, which is the second of the file, is no finding, or a later one is the first that is none
+-- the first line of the findings, which is the second of the file, is no finding, or a later line is the first that is none
 abbrev pub HasLineCause : BaselineError → List ℕ → Type 0
 HasLineCause error.Version bytes = ⊥
 HasLineCause (error.Line number) bytes = (fs : List FindingRecord) × FailBehind fs bytes × (number ≡ length fs + 2)
 HasLineCause error.OutOfMemory bytes = ⊤
 
--- the first line is another than that of the version, or it is not and the lines behind it have the cause
+-- the first line is another than that of the version, or it is that line and the lines after it have the cause
 abbrev pub HasCause : BaselineError → List ℕ → Type 0
 HasCause error.Version bytes = ¬ IsJsonOf version_json (first_line bytes)
 HasCause (error.Line number) bytes = IsJsonOf version_json (first_line bytes) × HasLineCause (error.Line number) (behind_line bytes)

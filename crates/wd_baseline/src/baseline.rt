@@ -20,7 +20,7 @@ use wd_value::OutOfMemory;
 /// The first line of a baseline.
 const VERSION: &str = "{\"version\":1}\n";
 
-/// Findings that are known, each as often as it is, and how many of them are left.
+/// Findings that are known, each with the number of its occurrences that are left, and the total of these numbers.
 #[derive(Drop)]
 pub struct Baseline {
     counts: HashMap<String, u64>,
@@ -29,8 +29,8 @@ pub struct Baseline {
 
 impl Baseline {
     /// Reads a baseline: a line `{"version":1}`, and then a line of JSON for each finding, as `Known::line` writes it; white space
-    /// within a line and the order of its members do not matter, and the last line needs no line feed. Equal lines count
-    /// as often as they stand. Refused are another first line, and the first line that is no finding.
+    /// within a line and the order of its members do not matter, and the last line needs no line feed. Equal lines count as often as
+    /// they appear. Another first line is refused, and so is the first line that is no finding.
     pub fn read(alloc: Global, bytes: &[u8]) -> Result<Baseline, BaselineError>
         ensures ok { IfOk result (λ b. IsBaselineOf bytes.now b) }
         ensures refused { IfErr result (λ e. HasCause e bytes.now) }
@@ -45,7 +45,7 @@ impl Baseline {
         })
     }
 
-    /// Takes a finding off, by the line that `Known::line` gives it: whether it was known, and not yet taken off as often.
+    /// Takes a finding off, by the line that `Known::line` gives it. Returns whether it was known more often than it was taken off so far.
     pub fn take(&mut self, line: &str) -> bool
         ensures known { result ≡ nat_lt 0 (count_of self.old line.now) }
         ensures taken { (other : List ℕ) → count_of self.new other ≡ count_of self.old other - one_if (bytes_eq line.now other) }
@@ -58,7 +58,7 @@ impl Baseline {
         is_known
     }
 
-    /// How many findings are left: known ones that did not occur, once all that occur are taken off.
+    /// How many findings are left: known ones that did not occur, once all those that occur are taken off.
     pub fn left(&self) -> u64
         ensures { result ≡ left_of self.now }
     {
@@ -66,7 +66,7 @@ impl Baseline {
     }
 }
 
-/// Reads the first line.
+/// Reads the first line, which has to be that of the version.
 fn read_first(alloc: Global, line: &[u8]) -> Result<(), BaselineError>
     ensures ok { IfOk result (λ _. spec.IsVersionLine line.now) }
     ensures refused { IfErr result (λ e. spec.HasVersionCause e line.now) }
@@ -78,8 +78,8 @@ fn read_first(alloc: Global, line: &[u8]) -> Result<(), BaselineError>
     }
 }
 
-/// Writes a baseline of findings, by the lines that `Known::line` gives them: the line of the version, and then theirs in the order
-/// of their bytes, so that few lines of the file change where few findings do.
+/// Writes a baseline of findings, by the lines that `Known::line` gives them: the line of the version, and then these lines in the
+/// order of their bytes, so that few lines of the file change where few findings do.
 pub fn written(alloc: Global, lines: Vec<String>) -> Result<Vec<u8>, OutOfMemory>
     ensures { IfOk result (λ b. IsWritten lines.items b.items) }
 {

@@ -1,4 +1,4 @@
-//! How often lines stand in a list.
+//! How often lines appear in a list.
 
 ghost use Rattle.std.specs.Prelude.{◌≡◌, ◌+◌, ◌-◌, ◌<◌, ◌^◌, ℕ, List, nat_lt, IfOk, OnOk};
 ghost use Rattle.std.specs.List.{count_by};
@@ -28,7 +28,7 @@ fn add_one(counts: &mut HashMap<String, u64>, alloc: Global, line: &str) -> Resu
     Ok(())
 }
 
-/// Counts a line once less, where it is counted; else nothing changes.
+/// Counts a line once less, where it is counted; else nothing changes. Returns whether it was counted.
 pub(crate) fn take_one(counts: &mut HashMap<String, u64>, line: &str) -> bool
     ensures counted { result ≡ nat_lt 0 (count_in counts.old line.now) }
     ensures taken { (other : List ℕ) → count_in counts.new other ≡ count_in counts.old other - one_if (bytes_eq line.now other) }
@@ -44,7 +44,7 @@ pub(crate) fn take_one(counts: &mut HashMap<String, u64>, line: &str) -> bool
     }
 }
 
-/// How often each line stands among some.
+/// How often each of these lines appears.
 pub(crate) fn counted(alloc: Global, lines: &[String]) -> Result<HashMap<String, u64>, OutOfMemory>
     ensures { IfOk result (λ m. (line : List ℕ) → count_in m line ≡ count_by (λ s. bytes_eq (string_bytes s) line) lines.now) }
 {

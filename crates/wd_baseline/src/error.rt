@@ -15,7 +15,7 @@ pub enum BaselineError {
     /// The first line is not `{"version":1}`.
     #[error("line 1 is not {{\"version\":1}}")]
     Version,
-    /// A line, counted from 1, is no finding: no JSON, or JSON of another form.
+    /// A line, counted from 1, is no finding: it is not JSON, or JSON of another form.
     #[error("line {number} is no finding")]
     Line { number: u64 },
     /// The allocator refused a growth.
@@ -39,7 +39,7 @@ impl<T: Drop> From<AllocFailed<T>> for BaselineError {
     }
 }
 
-/// The refusal of the line with a number.
+/// The error for the line with a number.
 pub(crate) fn at_line(misread: Misread, number: u64) -> BaselineError
     ensures { result ≡ refusal_at misread number }
 {

@@ -17,7 +17,7 @@ use wd_value::OutOfMemory;
 pub enum Finding {
     /// Two answers were found.
     Depends,
-    /// None were, and no rule is known for which there is one answer.
+    /// No two answers were found, and no rule is known by which there is one answer.
     MayTie,
     /// The statement is refused.
     NotRead,
@@ -35,7 +35,7 @@ impl Finding {
         }
     }
 
-    /// The finding of a word.
+    /// The finding with this word, if any.
     pub(crate) fn of_word(word: &str) -> Option<Finding>
         ensures { MatchOption result ((f : SpecFinding) → word.now ≢ spec.word f) (λ f. word.now ≡ spec.word f) }
     {
@@ -48,11 +48,11 @@ impl Finding {
     }
 }
 
-/// A finding by the words that it is known by: they stay the same where the lines of its file move.
+/// A finding, by words that stay the same when the statement moves to other lines of its file.
 #[derive(Clone, Copy)]
 pub struct Known<'p, 'w> {
     pub finding: Finding,
-    /// The path of the query's file, as the command line has it.
+    /// The path of the query's file, as it is on the command line.
     pub path: &'p str,
     /// The words of the open place, with one blank for each white space, or the number of a refusal.
     pub place: &'w str,

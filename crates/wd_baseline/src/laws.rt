@@ -1,4 +1,4 @@
-//! Laws of baselines, and what writing and reading one give together.
+//! Laws of baselines, and a round trip: a baseline that is written is read back.
 
 ghost use Rattle.std.specs.Prelude.{◌≡◌, ℕ, List, IfOk, IfErr};
 ghost use Rattle.std.specs.List.{All, count_by};
@@ -17,12 +17,12 @@ pub fn has_one_list()
     ensures { HasOneList }
 {}
 
-/// What is written of the lines of findings spells these findings.
+/// The text that is written of the lines of findings spells these findings.
 pub fn is_read_back()
     ensures { IsReadBack }
 {}
 
-/// A baseline that is written of the lines of findings and read again has each as often as it was given, or memory is wanting.
+/// A baseline that is written of the lines of findings and read again has each finding as often as it was given, unless memory runs out.
 pub fn read_back(alloc: Global, lines: Vec<String>) -> Result<Baseline, BaselineError>
     ensures same { All IsFindingLine lines.items
         → IfOk result (λ b. (line : List ℕ) → count_of b line ≡ count_by (λ s. bytes_eq (string_bytes s) line) lines.items) }

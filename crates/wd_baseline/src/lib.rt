@@ -1,7 +1,7 @@
-//! Findings that are known: a baseline, of which each finding is a line of JSON, and what of it still occurs.
+//! Findings that are known: a baseline, in which each finding is a line of JSON, and which of its findings still occur.
 //!
-//! `known` makes a finding's line, `lines` reads the lines of a file, `counts` counts lines in a map, and `baseline` takes off one
-//! finding after the other and writes a baseline.
+//! `known` makes a finding's line, `lines` reads the lines of a file, `counts` counts lines in a map, and `baseline` takes findings off
+//! one by one and writes a baseline.
 #![tactic(auto)]
 
 mod baseline;

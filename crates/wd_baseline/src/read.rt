@@ -14,7 +14,7 @@ use serde_json::Value;
 use std::alloc::Global;
 use wd_json::{Misread, next_member, no_more_members, number, object, text};
 
-/// The JSON value that bytes are.
+/// The JSON value that bytes spell.
 fn value_of(alloc: Global, bytes: &[u8]) -> Result<Value, Misread>
     ensures ok { IfOk result (λ v. IsJsonOf (view v) bytes.now) }
     ensures refused { IfErr result (λ e. e ≡ misread.Shape → (d : Data) → ¬ IsJsonOf d bytes.now) }

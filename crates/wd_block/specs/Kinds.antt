@@ -1,4 +1,4 @@
--- What verdicts count as.
+-- The kinds that verdicts count as.
 use Rattle.std.specs.Prelude.{Option, Some, None}
 use Rattle.wd_certain.specs.declared.certain.Certain.{Certain}
 use Rattle.wd_further.specs.declared.judge.Found.{Found}
@@ -7,7 +7,7 @@ use Rattle.wd_decide.specs.declared.verdict.Verdict.TheVariants as v
 use Rattle.wd_lines.specs.declared.count.Kind.{Kind}
 use Rattle.wd_lines.specs.declared.count.Kind.TheVariants.{Deterministic, Depends, MayTie}
 
--- where the verdict is UNKNOWN, a query of which a simpler plan is certified has one answer, and one for which a further search found a
+-- where the verdict is UNKNOWN, a query whose simpler plan is certified has one answer, and a query for which a further search found a
 -- witness depends
 abbrev pub kind_of : Verdict → Option Certain → Option Found → Kind
 kind_of (v.Deterministic certificate) certain further = Deterministic

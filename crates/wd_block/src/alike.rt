@@ -9,7 +9,7 @@ use wd_lex::Span;
 use wd_lines::add_joined;
 use wd_value::OutOfMemory;
 
-/// Adds RANK or WITH TIES for a place, as it is written then.
+/// Adds the help for a place: the call with RANK, or the limit WITH TIES, as it would be written.
 pub(crate) fn add_alike(
     alloc: Global,
     out: &mut String,
@@ -38,7 +38,7 @@ pub(crate) fn add_alike(
     Ok(())
 }
 
-/// What stands there in a statement, with a change put in.
+/// A part of a statement, with a change put in.
 fn with_change(
     alloc: Global,
     statement: Statement<'_>,

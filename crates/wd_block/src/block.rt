@@ -18,7 +18,7 @@ use wd_sites::{KeyPlace, Site};
 use wd_source::{Position, position_at};
 use wd_value::OutOfMemory;
 
-/// A statement of a file: the file's path and text, and where in it the statement stands.
+/// A statement of a file: the file's path and text, and where in it the statement is.
 #[derive(Clone, Copy)]
 pub struct Statement<'a> {
     pub path: &'a str,
@@ -27,9 +27,9 @@ pub struct Statement<'a> {
     pub end: u64,
 }
 
-/// Adds the block for the place with a number that is open in a statement; that of the first has the rows of the witness and both
-/// answers. `help` has the sort keys that mend the statement, `alike` RANK or WITH TIES. Where there is no such place, nothing is added, and
-/// where memory runs out, the text stays as it was.
+/// Adds the block for the place with a number that is open in a statement; the block of the first place has the rows of the witness and
+/// both answers. `help` has the sort keys that mend the statement, `alike` RANK or WITH TIES. Where there is no such place, nothing is
+/// added, and where memory runs out, the text stays as it was.
 pub fn add_open(
     alloc: Global,
     out: &mut String,
@@ -73,7 +73,7 @@ fn open_block(
     Ok(block)
 }
 
-/// The line that says where a place stands, and what is open there in a query of this kind.
+/// The line that says where a place is, and what is open there in a query of this kind.
 fn head_line(
     alloc: Global,
     statement: Statement<'_>,
@@ -88,7 +88,7 @@ fn head_line(
     Ok(line)
 }
 
-/// Where a place stands.
+/// Where a place is: the path, the line and the column.
 fn site_words(
     alloc: Global,
     statement: Statement<'_>,
@@ -110,7 +110,7 @@ fn site_words(
     Ok(words)
 }
 
-/// What stands below the first line of a block: the line of the query, what is lacking, the rows of the witness and the helps.
+/// What comes below the first line of a block: the line of the query, what is lacking, the rows of the witness and the helps.
 fn details(
     alloc: Global,
     statement: Statement<'_>,
@@ -175,7 +175,7 @@ fn add_evidence(alloc: Global, out: &mut String, finding: &Finding) -> Result<()
     Ok(())
 }
 
-/// Adds the help for a place: its ORDER BY with the keys, and with what else the query has one answer then.
+/// Adds the help for a place: its ORDER BY with the keys, and which other changes the query needs to have one answer.
 fn add_help(
     out: &mut String,
     statement: Statement<'_>,
@@ -200,7 +200,7 @@ fn add_help(
     Ok(())
 }
 
-/// Adds the helps for what is not open as the query stands, and would be with the other helps.
+/// Adds the helps for places that are not open in the query as it is, but would be with the other helps alone.
 fn add_other_helps(
     out: &mut String,
     statement: Statement<'_>,

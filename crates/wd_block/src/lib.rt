@@ -1,4 +1,7 @@
-//! Blocks of what is open in a query: where it stands, what is said of it, the rows of a witness with both answers, and the help.
+//! Blocks of what is open in a query: where it is, what is said of it, the rows of a witness with both answers, and the help.
+//!
+//! `block` puts a block together from the parts of wd_lines; `words` has what is said of a place and of what it lacks, and `alike` the
+//! help by which rows that tie are treated alike.
 #![tactic(auto)]
 
 mod alike;

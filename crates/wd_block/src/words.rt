@@ -32,7 +32,7 @@ pub fn place_words(kind: Kind, reason: Reason) -> &'static str
     }
 }
 
-/// What is said of a call, or of a limit (no call), by which the answer goes.
+/// What is said of a call, or of a limit (no call), on which the answer depends.
 fn depends_words(call: Option<u32>) -> &'static str
     ensures { result.now ≡ heads.depends_words call }
 {
@@ -42,7 +42,7 @@ fn depends_words(call: Option<u32>) -> &'static str
     }
 }
 
-/// What is said of a call, or of a limit (no call), of which no two answers are known.
+/// What is said of a call, or of a limit (no call), for which no two answers are known.
 fn may_tie_words(call: Option<u32>) -> &'static str
     ensures { result.now ≡ heads.may_tie_words call }
 {

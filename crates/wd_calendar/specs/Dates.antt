@@ -21,6 +21,6 @@ abbrev pub day_where_all : Date → List ℕ → Option ℤ
 day_where_all date [] = Some (day_number date)
 day_where_all date (b ∷ rest) = None
 
--- the number of the day that a text says
+-- the number of the day that a text gives
 unfoldable pub day_of : List ℕ → Option ℤ
 day_of text = date_at text >>= λ date. day_where_all date.0 date.1

@@ -1,4 +1,4 @@
--- Moments that are written YYYY-MM-DD, or that with a blank or T and HH:MM, HH:MM:SS or HH:MM:SS.f, and spans that are written as a
+-- Moments that are written YYYY-MM-DD, or so with a blank or T and HH:MM, HH:MM:SS or HH:MM:SS.f, and spans that are written as a
 -- number and a unit.
 use Rattle.std.specs.Prelude.{ℕ, ◌+◌, ◌-◌, ◌*◌, ◌^◌, ◌==◌, ◌&&◌, ◌||◌, nat_lt, nat_le, codes, ℤ, pos, ◌-ℤ◌, if◌then◌else◌, List, [], ◌∷◌, length, take, drop, Option, Some, None}
 use Rattle.std.specs.Str.{bytes_eq}
@@ -39,7 +39,7 @@ blank = 32
 abbrev pub letter_t : ℕ
 letter_t = 84
 
--- the microseconds of the last of so many places after the point
+-- the microseconds of one unit in the last of `count` places after the point
 abbrev pub last_place : ℕ → Option ℕ
 last_place count = if nat_le 1 count && nat_le count 6 then Some (10 ^ (6 - count)) else None
 
@@ -55,7 +55,7 @@ seconds_of (b ∷ text) =
     past colon (b ∷ text) >>= λ text. number_at 2 text >>= λ seconds. fraction_of seconds.1 >>= λ fraction.
     if nat_lt seconds.0 60 then Some (seconds.0 * second + fraction) else None
 
--- HH:MM, and what follows
+-- the microseconds of HH:MM and what follows it
 unfoldable pub time_of : List ℕ → Option ℕ
 time_of text =
     number_at 2 text >>= λ hours. past colon hours.1 >>= λ text. number_at 2 text >>= λ minutes. seconds_of minutes.1 >>= λ seconds.
@@ -72,7 +72,7 @@ time_after (b ∷ text) = if b == blank || b == letter_t then time_of text else 
 unfoldable pub microsecond_number : Date → ℕ → ℤ
 microsecond_number date time = pos (days_before date * day + time) -ℤ pos (days_before epoch * day)
 
--- the number of the microsecond that a text says
+-- the number of the microsecond that a text gives
 unfoldable pub microsecond_of : List ℕ → Option ℤ
 microsecond_of text = date_at text >>= λ date. time_after date.1 >>= λ time. Some (microsecond_number date.0 time)
 
@@ -87,15 +87,15 @@ unit_of text =
     else (if bytes_eq text (codes "day") || bytes_eq text (codes "days") then Some day
     else (if bytes_eq text (codes "week") || bytes_eq text (codes "weeks") then Some week else None))))
 
--- where it is a whole number of 64 bits
+-- a span, where a whole number of 64 bits holds it
 abbrev pub span_of : ℕ → Option ℤ
 span_of span = if nat_lt span (2 ^ 63) then Some (pos span) else None
 
--- so many of a unit
+-- the microseconds of a number of units
 abbrev pub counted : ℕ → ℕ → Option ℤ
 counted number unit = span_of (number * unit)
 
--- the microseconds of the span that a text says: digits, a blank and a unit
+-- the microseconds of the span that a text gives: digits, a blank and a unit
 unfoldable pub interval_of : List ℕ → Option ℤ
 interval_of text =
     let count = digits_from 0 text in

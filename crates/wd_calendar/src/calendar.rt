@@ -43,7 +43,7 @@ fn days_of_month(year: u64, month: u64) -> u64
     }
 }
 
-/// The days of the years from 1 on.
+/// The number of days in the first `years` years, from the year 1 on.
 fn years_days(years: u64) -> u64
     requires { years ≤ 9999 }
     ensures value { result ≡ days_of_years years }
@@ -56,7 +56,7 @@ fn years_days(years: u64) -> u64
     days
 }
 
-/// The days of the months of a year from 1 on.
+/// The number of days in the first `months` months of a year.
 fn months_days(year: u64, months: u64) -> u64
     requires { months ≤ 12 }
     ensures value { result ≡ days_of_months year months }
@@ -82,7 +82,7 @@ impl Date {
             && self.day <= days_of_month(self.year, self.month)
     }
 
-    /// The days before it, from 0001-01-01 on.
+    /// The number of days before it, from 0001-01-01 on.
     #[tactic(auto, unfolding(crate::specs::Calendar::days_before))]
     pub fn days_before(&self) -> u64
         requires { is_date self.now ≡ true }
@@ -92,7 +92,7 @@ impl Date {
         years_days(self.year - 1) + months_days(self.year, self.month - 1) + (self.day - 1)
     }
 
-    /// The number of the day.
+    /// The number of the day, counted from 1970-01-01.
     #[tactic(auto, unfolding(crate::specs::Calendar::day_number))]
     pub fn day_number(&self) -> i64
         requires { is_date self.now ≡ true }

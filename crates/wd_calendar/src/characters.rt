@@ -5,7 +5,7 @@ ghost use Rattle.wd_calendar.specs.Characters as spec;
 ghost use Rattle.wd_calendar.specs.Characters.{digits_from, number_after};
 ghost use Rattle.wd_calendar.specs.Given.{Finds};
 
-/// The number that digits write.
+/// The number that digits write; `None` where the text has another character or the number is above 999,999,999.
 #[tactic(auto, unfolding(crate::specs::Characters::number_after))]
 pub fn number_of(text: &[u8]) -> Option<u64>
     ensures value { result ≡ spec.number_of text.now }
@@ -23,7 +23,7 @@ pub fn number_of(text: &[u8]) -> Option<u64>
     Some(number)
 }
 
-/// The number that exactly so many digits write, and the text after them.
+/// The number that exactly `count` digits at the start write, and the text after them.
 #[tactic(auto, unfolding(crate::specs::Characters::number_at))]
 pub fn number_at(text: &[u8], count: usize) -> Option<(u64, &[u8])>
     ensures value { Finds (λ x. (x.0, x.1.now)) result (spec.number_at count text.now) }
@@ -39,7 +39,7 @@ pub fn number_at(text: &[u8], count: usize) -> Option<(u64, &[u8])>
     }
 }
 
-/// The text after a character, where it stands first.
+/// The text after a character, if the text begins with it.
 #[tactic(auto, unfolding(crate::specs::Characters::past))]
 pub fn past(text: &[u8], character: u8) -> Option<&[u8]>
     ensures { Finds (λ r. r.now) result (spec.past character text.now) }
@@ -54,7 +54,7 @@ pub fn past(text: &[u8], character: u8) -> Option<&[u8]>
     }
 }
 
-/// How many digits stand first.
+/// How many digits the text begins with.
 #[tactic(auto, unfolding(crate::specs::Characters::digits_from))]
 pub fn digits_length(text: &[u8]) -> usize
     ensures value { result ≡ digits_from 0 text.now }

@@ -27,7 +27,7 @@ pub fn date_at(text: &[u8]) -> Option<(Date, &[u8])>
     }
 }
 
-/// The number of the day that a text says as `YYYY-MM-DD`, counted from 1970-01-01. None where it says no such day.
+/// The number of the day that a text gives as `YYYY-MM-DD`, counted from 1970-01-01. `None` where it gives no such day.
 #[tactic(auto, unfolding(crate::specs::Dates::day_of))]
 pub fn day_of(text: &[u8]) -> Option<i64>
     ensures { result ≡ spec.day_of text.now }

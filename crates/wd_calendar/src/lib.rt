@@ -1,4 +1,4 @@
-//! The calendar of the standard, and texts that say days, moments and spans, as numbers.
+//! The calendar of the standard, and texts that give days, moments and spans of time, as numbers.
 //!
 //! `calendar` counts days, `characters` reads numbers and marks, `date` reads dates with both, and `time` times of a day, moments
 //! and spans.

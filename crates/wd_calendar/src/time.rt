@@ -19,7 +19,7 @@ const DAY: u64 = 24 * HOUR;
 
 const WEEK: u64 = 7 * DAY;
 
-/// The microseconds of the last of so many places after the point.
+/// The microseconds of one unit in the last of `count` places after the point.
 fn last_place(count: usize) -> Option<u64>
     ensures value { result ≡ spec.last_place count }
     ensures within { IfSome result (λ place. place ≤ 100000) }
@@ -35,7 +35,7 @@ fn last_place(count: usize) -> Option<u64>
     }
 }
 
-/// `.f`, or nothing.
+/// The microseconds of `.f`, or of nothing.
 #[tactic(auto, unfolding(crate::specs::Times::fraction_of))]
 fn fraction_of(text: &[u8]) -> Option<u64>
     ensures value { result ≡ spec.fraction_of text.now }
@@ -50,7 +50,7 @@ fn fraction_of(text: &[u8]) -> Option<u64>
     Some(number * place)
 }
 
-/// `:SS` or `:SS.f`, or nothing.
+/// The microseconds of `:SS` or `:SS.f`, or of nothing.
 #[tactic(auto, unfolding(crate::specs::Times::seconds_of))]
 fn seconds_of(text: &[u8]) -> Option<u64>
     ensures value { result ≡ spec.seconds_of text.now }
@@ -69,7 +69,7 @@ fn seconds_of(text: &[u8]) -> Option<u64>
     }
 }
 
-/// `HH:MM`, and what follows.
+/// The microseconds of `HH:MM` and what follows it.
 #[tactic(auto, unfolding(crate::specs::Times::time_of))]
 fn time_of(text: &[u8]) -> Option<u64>
     ensures value { result ≡ spec.time_of text.now }
@@ -86,7 +86,7 @@ fn time_of(text: &[u8]) -> Option<u64>
     }
 }
 
-/// A blank or T and a time, or nothing.
+/// The microseconds of a blank or T and a time, or of nothing.
 #[tactic(auto, unfolding(crate::specs::Times::time_after))]
 fn time_after(text: &[u8]) -> Option<u64>
     ensures value { result ≡ spec.time_after text.now }
@@ -102,7 +102,7 @@ fn time_after(text: &[u8]) -> Option<u64>
     }
 }
 
-/// The microseconds from the first of 1970-01-01 on.
+/// The number of microseconds from the start of 1970-01-01 to a time of a date.
 #[tactic(auto, unfolding(crate::specs::Times::microsecond_number))]
 fn microsecond_number(date: Date, time: u64) -> i64
     requires date { is_date date ≡ true }
@@ -112,8 +112,8 @@ fn microsecond_number(date: Date, time: u64) -> i64
     (date.days_before() * DAY + time) as i64 - (EPOCH.days_before() * DAY) as i64
 }
 
-/// The number of the microsecond that a text says as `YYYY-MM-DD`, or as that with a blank or T and `HH:MM`, `HH:MM:SS` or
-/// `HH:MM:SS.f` with up to six digits, counted from the first of 1970-01-01. None where it says no such moment.
+/// The number of the microsecond that a text gives as `YYYY-MM-DD`, or as such a date with a blank or T and `HH:MM`, `HH:MM:SS` or
+/// `HH:MM:SS.f` with up to six digits, counted from the first of 1970-01-01. `None` where it gives no such moment.
 #[tactic(auto, unfolding(crate::specs::Times::microsecond_of))]
 pub fn microsecond_of(text: &[u8]) -> Option<i64>
     ensures { result ≡ spec.microsecond_of text.now }
@@ -150,7 +150,7 @@ fn unit_of(text: &[u8]) -> Option<u64>
     }
 }
 
-/// So many of a unit, where it is a whole number of 64 bits.
+/// The microseconds of a number of units, where 64 bits hold them.
 fn counted(number: u64, unit: u64) -> Option<i64>
     ensures { result ≡ spec.counted number unit }
 {
@@ -162,8 +162,8 @@ fn counted(number: u64, unit: u64) -> Option<i64>
     }
 }
 
-/// The microseconds of the span that a text says as a number of at most nine digits, a blank, and second, minute, hour, day or
-/// week, also with an s. A day has 24 hours. None where it says no such span, or one that 64 bits do not hold.
+/// The microseconds of the span that a text gives as a number of at most nine digits, a blank, and second, minute, hour, day or week,
+/// also with an s. A day has 24 hours. `None` where it gives no such span, or one that 64 bits do not hold.
 #[tactic(auto, unfolding(crate::specs::Times::interval_of))]
 pub fn interval_of(text: &[u8]) -> Option<i64>
     ensures { result ≡ spec.interval_of text.now }

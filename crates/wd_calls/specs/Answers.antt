@@ -25,7 +25,7 @@ addend Null = Null
 addend (Text bytes) = Int (pos 0)
 addend (Truth b) = Int (pos 0)
 
--- how many places the stretches at each place have, as far as 64 bits count
+-- how many places the ranges at each place have, as far as 64 bits count
 pub record AreCounts (count : ℕ) (lists : List (List Stretch)) (answers : List Answer) : Type 0 where
   pub long : length answers ≡ count
   pub each : (p : ℕ) (other : Answer) → p < count → shown (slice_index_or answers p other) ≡ Number (pos (min (length (places_along lists p)) (2 ^ 64 - 1)))

@@ -15,11 +15,11 @@ use Rattle.wd_frame.specs.Laws.{has_range_offset}
 use Rattle.wd_frame.specs.Places.{PartRule, key_at}
 use Rattle.wd_calls.specs.declared.partition.Partition.{Partition}
 
--- the partition list that a value of the code shows
+-- the partition list of a `Partition` of the code
 abbrev pub partition_of : Partition → List Row
 partition_of partition = rows_at partition.rows.now partition.positions.now
 
--- the keys at two places are as far from each other as the class's one sort key has them
+-- the keys at two places are as far from each other as the values of the class's one sort key
 abbrev pub HasKeys : ClassRule → List Row → PartRule → Type 0
 HasKeys class partition part = (p q : ℕ) → p < length partition → q < length partition
     → value_distance part.desc (key_at part p) (key_at part q) ≡ key_distance class.order (row_at partition p) (row_at partition q)
@@ -40,7 +40,7 @@ abbrev pub IsValueAt : Frame → Function → List Row → PartRule → ℕ → 
 IsValueAt frame function partition part place value =
     (class : ClassRule) → IsPartOf class frame partition part → place < length partition → value ≡ call_value class frame function partition place
 
--- those at all places
+-- the values of a call at all places
 pub record AreValues (frame : Frame) (function : Function) (partition : List Row) (part : PartRule) (values : List (Result Value Fault)) : Type 0 where
   pub long : length values ≡ length partition
   pub each : (place : ℕ) (other : Result Value Fault) → IsValueAt frame function partition part place (slice_index_or values place other)

@@ -18,7 +18,7 @@ use Rattle.wd_calls.specs.declared.call.Source.TheVariants as source
 use Rattle.wd_calls.specs.Answers.{value_of}
 use Rattle.wd_calls.specs.Parts.{IsPartOf}
 
--- the number, from 0, of the row that is taken of so many
+-- the number, from 0, of the row that is taken from `count` rows
 abbrev pub number_of : FrameRow → ℕ → ℕ
 number_of First count = 0
 number_of Last count = count - 1
@@ -29,7 +29,7 @@ abbrev pub AreCallAnswers : Frame → Function → List Row → PartRule → Lis
 AreCallAnswers frame function partition part answers = (class : ClassRule) → IsPartOf class frame partition part → (place : ℕ) (other : Answer) → place < length partition
     → value_of (shown (slice_index_or answers place other)) ≡ call_value class frame function partition place
 
--- a function of the kind, and for one that takes a row of its frame the places of the frames
+-- the source is of the function's kind; for a function that takes a row of its frame it has the places of the frames
 abbrev pub IsSourceOf : Frame → Function → List Row → PartRule → Source → Type 0
 IsSourceOf frame function partition part (source.Ranking ranking) = function ≡ of.Ranking ranking
 IsSourceOf frame function partition part (source.Shift shift) = function ≡ of.Shift shift.now

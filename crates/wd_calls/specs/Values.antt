@@ -10,11 +10,11 @@ use Rattle.wd_plan.specs.Calls.{column_values}
 abbrev pub value_in : List Row → ℕ → ℕ → Value
 value_in partition column place = column_of (row_at partition place) column
 
--- those at places
+-- the values of a column at these places
 abbrev pub values_at : List Row → ℕ → List ℕ → List Value
 values_at partition column places = column_values column (rows_at partition places)
 
--- those at the first so many places
+-- the values of a column at the first `count` places
 abbrev pub first_values : List Row → ℕ → ℕ → List Value
 first_values partition column count = map (value_in partition column) (positions count)
 

@@ -17,7 +17,7 @@ use wd_frame::{Answer, Count, Greatest, Least, Stretch, Sum, over_all, over_list
 use wd_plan::Aggregate;
 use wd_value::{Fault, OutOfMemory, Value};
 
-/// For each of so many places the answer of an aggregate over its stretches.
+/// For each of `count` places the answer of an aggregate over the place's ranges.
 pub(crate) fn answers<'a>(
     alloc: Global,
     aggregate: Aggregate,
@@ -118,7 +118,7 @@ fn counts<'a>(
     Ok(counts)
 }
 
-/// What the values add to a total. Takes 0 for one that is no whole number.
+/// What the values add to a total. A value that is no whole number counts as 0.
 fn addends<'a>(
     alloc: Global,
     values: &[&'a Value],

@@ -3,8 +3,7 @@
 ghost use Rattle.std.specs.Prelude.{◌≡◌, ◌+◌, ◌<◌, ◌≤◌, ◌^◌};
 ghost use Rattle.wd_plan.specs.Calls as calls;
 
-/// The bucket of a place, from 1, where so many members are dealt to buckets as evenly as possible,
-/// the larger ones first.
+/// The bucket of a place, from 1, where `members` members are dealt to `buckets` buckets as evenly as possible, the larger ones first.
 pub(crate) fn bucket(buckets: u64, members: usize, place: usize) -> u64
     requires { members < 2 ^ 63 }
     ensures value { place < members → result ≡ calls.bucket buckets members place }

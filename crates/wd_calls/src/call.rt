@@ -30,16 +30,15 @@ use wd_value::{Fault, OutOfMemory, Value};
 enum Source<'a> {
     Ranking(Ranking),
     Shift(&'a Shift),
-    /// The value of a column at a row of the frame, which has the places of stretches.
+    /// The value of a column at a row of the frame, given by ranges of places.
     Row(FrameRow, u16, Vec<Vec<Stretch>>),
     /// One for each place.
     Answers(Vec<Answer<'a>>),
 }
 
-/// The value of a call at each place of a partition, or its fault there: a sum that 64 bits don't
-/// hold (SQL, window function; PG, Window Functions). `part` has the partition's peer groups and,
-/// where the frame has an offset in RANGE, its keys. All values together take time that goes with
-/// the partition, whatever the frame.
+/// The value of a call at each place of a partition, or its fault there: a sum that 64 bits don't hold (SQL, window function; PG,
+/// Window Functions). `part` has the partition's peer groups and, where the frame has an offset in RANGE, its keys. All values together
+/// take time linear in the partition, whatever the frame.
 pub fn call_values(
     alloc: Global,
     call: &Call,
@@ -95,7 +94,7 @@ fn source_of<'a>(
     }
 }
 
-/// The source of a function of frames that have the places of stretches.
+/// The source of a function of frames, which are given by ranges of places.
 fn frame_source<'a>(
     alloc: Global,
     function: FrameFunction,
@@ -119,7 +118,7 @@ fn frame_source<'a>(
     }
 }
 
-/// The value at a place whose peer group starts at `start`.
+/// A call's value at a place whose peer group starts at `start`.
 fn value_from(
     alloc: Global,
     source: &Source,
@@ -167,7 +166,7 @@ fn taken(
     }
 }
 
-/// The number, from 0, of the row that a function takes of a frame.
+/// The number, from 0, of the row that a function takes from a frame.
 fn number_of(row: FrameRow, lists: &[Vec<Stretch>], place: usize) -> usize
     ensures { length (places_along (lists_of lists.now) place) < 2 ^ 64 → result ≡ spec.number_of row (length (places_along (lists_of lists.now) place)) }
 {

@@ -1,4 +1,9 @@
 //! The values of window calls at the places of a partition.
+//!
+//! `call` makes the values of a call from a `Source`, by the kind of its function: `ranking` and `bucket` from a place and its peer
+//! group, `shift` from the place at a distance, and functions of frames from the frames' places, which wd_frame gives; there
+//! `aggregate` slides over all frames instead of summing each anew. `partition` reads values by place, and `places` counts and picks
+//! the places of one frame.
 #![tactic(auto)]
 
 mod aggregate;

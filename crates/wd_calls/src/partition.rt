@@ -43,7 +43,7 @@ pub(crate) fn copy_at(
     value_at(partition, place, column, &null).copy(alloc)
 }
 
-/// The values in a column of the rows at the first so many places.
+/// The values in a column of the rows at the first `count` places.
 pub(crate) fn column_values<'a>(
     alloc: Global,
     partition: &'a Partition,

@@ -1,4 +1,4 @@
-//! The places of a row's frame, from the stretches of all frames.
+//! The places of a row's frame, from the ranges of all frames.
 
 ghost use Rattle.std.specs.Prelude.{◌≡◌, ◌-◌, ◌^◌, length, min, slice_get};
 ghost use Rattle.wd_frame.specs.Stretches as spec;
@@ -34,7 +34,7 @@ pub(crate) fn place_at(lists: &[Vec<Stretch>], place: usize, number: usize) -> O
     None
 }
 
-/// The stretch at a place, and one without places past the last.
+/// The range at a place; an empty one past the last.
 fn stretch_at(list: &[Stretch], place: usize) -> Stretch
     ensures { result ≡ spec.stretch_at list.now place }
 {

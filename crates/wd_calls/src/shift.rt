@@ -10,7 +10,7 @@ use std::alloc::Global;
 use wd_plan::{Direction, Shift};
 use wd_value::{OutOfMemory, Value};
 
-/// The value of a column so many rows away in the partition, else the default.
+/// The value of a column at the shift's distance in the partition, else the default.
 pub(crate) fn value_away(
     alloc: Global,
     shift: &Shift,
@@ -25,7 +25,7 @@ pub(crate) fn value_away(
     }
 }
 
-/// The value so many rows earlier, else the default.
+/// The value at the shift's distance before the place, else the default.
 fn earlier(
     alloc: Global,
     shift: &Shift,
@@ -40,7 +40,7 @@ fn earlier(
     }
 }
 
-/// The value so many rows later, else the default.
+/// The value at the shift's distance after the place, else the default.
 fn later(
     alloc: Global,
     shift: &Shift,

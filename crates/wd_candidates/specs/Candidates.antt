@@ -28,7 +28,7 @@ abbrev pub alternating : ℕ → Bool
 alternating zero = false
 alternating (suc i) = not (alternating i)
 
--- the values of a type, counted from 0: the whole numbers from 1; 'a', 'b', 'c', 'd'; false, true, false, true
+-- the values of a type by number, from 0: the whole numbers from 1; 'a', 'b', 'c', 'd'; false, true, false, true
 abbrev pub value_of_type : ColumnType → ℕ → Value
 value_of_type type.SmallInt i = Int (pos (i + 1))
 value_of_type type.Integer i = Int (pos (i + 1))
@@ -46,7 +46,7 @@ styled_value TiedNull tied keyed column i = if tied then null_or_first column el
 styled_value TiedFirst tied keyed column i = value_of_type column.kind (if tied then 0 else i)
 styled_value KeysApart tied keyed column i = value_of_type column.kind (if keyed then i else 0)
 
--- but a column that is fixed has that value in every row
+-- a fixed column has its value in every row, another one the styled value
 abbrev pub cell : Option Value → Value → Value
 cell None v = v
 cell (Some fixed) v = fixed
@@ -65,7 +65,7 @@ cells holds c (column ∷ columns) = holds c column ∷ cells holds (c + 1) colu
 abbrev pub candidate_row : TableRule → (ℕ → Option Value) → (ℕ → Bool) → Style → ℕ → Row
 candidate_row table fixed tied style i = cells (λ c column. cell (fixed c) (styled_value style (tied c) (is_keyed table.keys c) column i)) 0 table.columns
 
--- so many rows where the plan scans the table, else none
+-- the shape's number of rows where the plan scans the table, else none
 abbrev pub candidate_rows : Bool → TableRule → (ℕ → Option Value) → (ℕ → Bool) → Shape → List Row
 candidate_rows scanned table fixed tied shape = if scanned then map (candidate_row table fixed tied shape.style) (positions shape.rows) else []
 
@@ -78,7 +78,7 @@ candidate tables plan o shape = map (λ t. candidate_rows (is_scanned plan t) (t
 abbrev pub styles : List Style
 styles = TiedNull ∷ TiedFirst ∷ KeysApart ∷ []
 
--- 2, 3 and 4 rows, and of each number every style
+-- 2, 3 and 4 rows, and for each number of rows every style
 abbrev pub shapes : List Shape
 shapes = flat_map (λ rows. map (λ style. record { rows = rows; style = style }) styles) (2 ∷ 3 ∷ 4 ∷ [])
 

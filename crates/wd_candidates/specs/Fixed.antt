@@ -76,7 +76,7 @@ fixing origins e = option_and_then (λ (s : Setting). option_map (at_column s.va
 abbrev pub fixings_in : (ℕ → Option TableColumn) → List Expression → List Fixing
 fixings_in origins es = flat_map (λ e. option_to_list (fixing origins e)) es
 
--- those of all conjuncts of Filters and Joins, the nodes in postorder, a condition's conjuncts in text order
+-- what is fixed by all conjuncts of Filters and Joins, the nodes in postorder, a condition's conjuncts in text order
 abbrev pub fixings : PlanTree → List Fixing
 fixings (Scan table columns) = []
 fixings (Join condition left right) = (fixings left ++ fixings right) ++ fixings_in (origin (Join condition left right)) (conjuncts_of condition)

@@ -6,7 +6,7 @@ use Rattle.wd_plan.specs.Plans.{PlanTree, Scan, Join, Filter, Map, Group, Window
 use Rattle.wd_candidates.specs.declared.origins.TableColumn.{TableColumn}
 use Rattle.wd_candidates.specs.Origins.{plain_column}
 
--- the origin of a column of a node, by those of all its columns
+-- the origin of a column of a node, by the origins of all the node's columns
 abbrev pub origin_in : List (Option TableColumn) → ℕ → Option TableColumn
 origin_in origins c = slice_index_or origins c None
 
@@ -14,11 +14,11 @@ origin_in origins c = slice_index_or origins c None
 abbrev pub table_origins : ℕ → ℕ → List (Option TableColumn)
 table_origins table columns = map (λ c. Some (record { table = table; column = c })) (positions columns)
 
--- the origin of a Map's output, by those of its input's columns
+-- the origin of a Map's output, by the origins of its input's columns
 abbrev pub output_origin : List (Option TableColumn) → Expression → Option TableColumn
 output_origin origins e = option_and_then (origin_in origins) (plain_column e)
 
--- the origins of a node's columns: a call has none
+-- the origins of a node's columns: a call has no origin
 abbrev pub origins : PlanTree → List (Option TableColumn)
 origins (Scan table columns) = table_origins table columns
 origins (Join condition left right) = origins left ++ origins right
@@ -29,7 +29,7 @@ origins (Window w input) = origins input ++ map (λ call. None) w.calls
 origins (Distinct input) = origins input
 origins (Limit limit input) = origins input
 
--- a plan scans tables with numbers below this alone
+-- a plan scans only tables with numbers below this
 abbrev pub ScansBelow : ℕ → PlanTree → Type 0
 ScansBelow tables (Scan table columns) = table < tables
 ScansBelow tables (Join condition left right) = ScansBelow tables left × ScansBelow tables right

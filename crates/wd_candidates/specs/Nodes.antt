@@ -14,18 +14,18 @@ AreNarrow (Window w input) = AreNarrow input × (width input + length w.calls �
 AreNarrow (Distinct input) = AreNarrow input
 AreNarrow (Limit limit input) = AreNarrow input
 
--- the node itself, where no number is left after those below it
+-- the node that was found below, or the node itself, where 0 is left of the number
 abbrev pub or_own : PlanTree → Result PlanTree ℕ → Result PlanTree ℕ
 or_own own (Ok node) = Ok node
 or_own own (Err zero) = Ok own
 or_own own (Err (suc more)) = Err more
 
--- on to the right side with the numbers that the left one leaves
+-- the node that was found on the left side, or the search of the right side with what is left of the number
 abbrev pub or_right : Result PlanTree ℕ → (ℕ → Result PlanTree ℕ) → Result PlanTree ℕ
 or_right (Ok node) right = Ok node
 or_right (Err more) right = right more
 
--- the node with a number in postorder; past the last, how many numbers are left
+-- the node with a number in postorder; past the last node, the number minus the number of nodes
 abbrev pub found : PlanTree → ℕ → Result PlanTree ℕ
 found (Scan table columns) number = or_own (Scan table columns) (Err number)
 found (Join condition left right) number = or_own (Join condition left right) (or_right (found left number) (found right))

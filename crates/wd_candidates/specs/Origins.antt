@@ -35,7 +35,7 @@ origin (Limit limit input) c = origin input c
 
 -- ---- what columns are computed from
 
--- whether a column stands in one of the wanted lists, which are wanted by their numbers
+-- whether a column is in one of the wanted lists; the test says by number which lists are wanted
 abbrev pub is_in_wanted : List (List ℕ) → (ℕ → Bool) → ℕ → Bool
 is_in_wanted [] wanted c = false
 is_in_wanted (columns ∷ lists) wanted c = (wanted 0 && has columns c) || is_in_wanted lists (λ n. wanted (n + 1)) c
@@ -53,9 +53,8 @@ group_call_columns (Grouping arguments) = []
 abbrev pub group_columns : GroupRule → List (List ℕ)
 group_columns g = map (λ c. c ∷ []) (positions g.columns) ++ map group_call_columns g.calls
 
--- whether a table's column is one from which a wanted column of a node is computed: an output of a Map from all columns that
--- it uses, a grouping column from itself, a group's call from its argument, a window call from its argument, its partition and
--- its sort keys
+-- whether a table's column is a source of a wanted column of a node: an output of a Map from all columns that it uses, a grouping
+-- column from itself, a group's call from its argument, a window call from its argument, its partition and its sort keys
 abbrev pub is_source : PlanTree → (ℕ → Bool) → ℕ → ℕ → Bool
 is_source (Scan of columns) wanted table c = nat_eq of table && (nat_lt c columns && wanted c)
 is_source (Join condition left right) wanted table c = is_source left wanted table c || is_source right (λ n. wanted (width left + n)) table c

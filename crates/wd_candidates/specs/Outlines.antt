@@ -32,7 +32,7 @@ pub record IsOutline (tables : List TableRule) (plan : PlanTree) (o : Outline) :
 pub record AreTied (tables : List TableRule) (o : NodeColumns) (t : TiedColumns) : Type 0 where
   pub is : (table c : ℕ) → table < length tables → c < length (table_rule tables table).columns → tied_in t table c ≡ is_tied o table c
 
--- those of a call's class or a limit's keys, where the plan has such a call or limit, and nothing where it has not
+-- the tied columns of a call's class or a limit's keys, where the plan has such a call or limit; `None` where it has none
 abbrev pub AreTiedBy : List TableRule → Option NodeColumns → Option TiedColumns → Type 0
 AreTiedBy tables None None = ⊤
 AreTiedBy tables None (Some t) = ⊥

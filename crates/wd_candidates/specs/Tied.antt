@@ -44,10 +44,10 @@ ordered_at call (Window w input) = of_call w input call
 ordered_at call (Distinct input) = None
 ordered_at call (Limit limit input) = of_limit limit input call
 
--- those of the node with a number; none where the plan has no such call or limit
+-- the columns by which the call or limit of the node with a number orders rows; none where the plan has no such call or limit
 abbrev pub ordered_by : PlanTree → ℕ → Option ℕ → Option NodeColumns
 ordered_by plan node call = option_and_then (ordered_at call) (node_at plan node)
 
--- whether a table's column is tied: one from which these columns are computed
+-- whether a table's column is tied: these columns are computed from it
 abbrev pub is_tied : NodeColumns → ℕ → ℕ → Bool
 is_tied o table c = is_source o.node (has o.columns) table c

@@ -77,7 +77,7 @@ fn sets(alloc: Global, conjunct: &Expr) -> Result<Option<Setting>, OutOfMemory>
     }
 }
 
-/// The table column that a conjunct fixes, by the origins of the columns that it reads.
+/// The table column that a conjunct fixes, by the origins of the columns of its node's input.
 fn fixing_of(
     alloc: Global,
     origins: &[Option<TableColumn>],

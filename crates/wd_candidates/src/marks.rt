@@ -15,7 +15,7 @@ use wd_plan::{Class, Expr};
 use wd_schema::Schema;
 use wd_value::{OutOfMemory, SortColumn};
 
-/// So many columns, none of them marked.
+/// Marks for `columns` columns, none of them set.
 pub(crate) fn unmarked(alloc: Global, columns: usize) -> Result<Vec<bool>, OutOfMemory>
     ensures long { IfOk result (λ v. length v.items ≡ columns) }
     ensures none { IfOk result (λ v. (c : ℕ) → is_marked v.items c ≡ false) }

@@ -17,7 +17,7 @@ pub struct TableColumn {
     pub column: u16,
 }
 
-/// The origin of a column of a node, by those of all its columns.
+/// The origin of a column of a node, by the origins of all the node's columns.
 pub fn origin_in(origins: &[Option<TableColumn>], column: u16) -> Option<TableColumn>
     ensures { result ≡ spec.origin_in origins.now column }
 {
@@ -43,7 +43,7 @@ pub fn table_origins(
     Ok(origins)
 }
 
-/// The origin of a Map's output, by those of its input's columns.
+/// The origin of a Map's output, by the origins of its input's columns.
 fn output_origin(origins: &[Option<TableColumn>], output: &Expr) -> Option<TableColumn>
     ensures { result ≡ spec.output_origin origins.now (expression_of output.now) }
 {
@@ -53,7 +53,7 @@ fn output_origin(origins: &[Option<TableColumn>], output: &Expr) -> Option<Table
     }
 }
 
-/// The origins of the columns of a Map, by those of its input's columns.
+/// The origins of the columns of a Map, by the origins of its input's columns.
 pub fn output_origins(
     alloc: Global,
     origins: &[Option<TableColumn>],
@@ -68,7 +68,7 @@ pub fn output_origins(
     Ok(list)
 }
 
-/// The origins of the columns of a Window, by those of its input's columns, which are moved: a call has none.
+/// The origins of the columns of a Window, by the origins of its input's columns, which are moved in: a call has no origin.
 pub fn window_origins(
     origins: Vec<Option<TableColumn>>,
     calls: &[Call],
@@ -93,7 +93,7 @@ pub(crate) fn add_calls(
     Ok(())
 }
 
-/// The origins of the columns of a Group, by those of its input's columns: a call has none.
+/// The origins of the columns of a Group, by the origins of its input's columns: a call has no origin.
 pub fn group_origins(
     alloc: Global,
     origins: &[Option<TableColumn>],
@@ -106,7 +106,7 @@ pub fn group_origins(
     Ok(list)
 }
 
-/// Those of the first so many columns.
+/// The origins of the first `count` columns.
 #[tactic(auto, using(crate::proofs::Copies::first_origins_more))]
 fn first_origins(
     alloc: Global,

@@ -27,9 +27,9 @@ pub struct Outline {
     pub fixed: Vec<Vec<Option<Value>>>,
 }
 
-/// What all candidates of a plan share. A column is fixed to a literal that is not NULL, or to NULL, by a conjunct of a Filter or
-/// a Join that sets it equal to the literal or tests that it is NULL, through plain copies of the column: by the first whose value
-/// is of the column's type and range.
+/// What all candidates of a plan share. A column is fixed to a literal that is not NULL, or to NULL, by a conjunct of a Filter or a
+/// Join that sets it equal to the literal or tests that it is NULL, through plain copies of the column: the first conjunct counts whose
+/// value is of the column's type and range.
 pub fn outline_of(alloc: Global, schema: &Schema, plan: &Plan) -> Result<Outline, OutOfMemory>
     requires { fits (schema_of schema.now) (plan_of plan.now) ≡ true }
     ensures { IfOk result (IsOutline (schema_of schema.now) (plan_of plan.now)) }
@@ -99,7 +99,7 @@ fn empty_row(alloc: Global, columns: &[Column]) -> Result<Vec<Option<Value>>, Ou
     Ok(row)
 }
 
-/// Fills the slot of the fixing's column, where that is empty and the value is one for the column.
+/// Fills the slot of the fixing's column, where the slot is empty and the value is of the column's type and range.
 fn put(schema: &Schema, fixing: Fixing, slots: &mut [Vec<Option<Value>>])
     requires { HasSlots (schema_of schema.now) (map (λ row. row.items) slots.old) }
     ensures { (fs : List Fixing) → AreFilled (schema_of schema.now) fs (map (λ row. row.items) slots.old) → AreFilled (schema_of schema.now) (fs ++ fixing ∷ []) (map (λ row. row.items) slots.new) }

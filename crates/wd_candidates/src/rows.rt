@@ -69,7 +69,7 @@ pub fn fixed_columns(outline: &Outline, table: usize) -> &[Option<Value>]
     }
 }
 
-/// Whether the columns of the table with this number are tied.
+/// Which columns of the table with this number are tied.
 fn columns_tied(tied: &TiedColumns, table: usize) -> &[bool]
     ensures { result.now ≡ marks_of tied.now.tables.items table }
 {
@@ -98,7 +98,7 @@ fn candidate_rows(
     Ok(rows)
 }
 
-/// Which columns of a table stand in a key.
+/// Which columns of a table are in a key.
 pub fn keyed_columns(alloc: Global, table: &Table) -> Result<Vec<bool>, OutOfMemory>
     ensures { IfOk result (λ v. (c : ℕ) → c < length table.now.columns.items → is_marked v.items c ≡ spec.is_keyed (map key_of table.now.keys.items) c) }
 {
@@ -109,7 +109,7 @@ pub fn keyed_columns(alloc: Global, table: &Table) -> Result<Vec<bool>, OutOfMem
     Ok(keyed)
 }
 
-/// The row of a table with this number, where it is known which columns stand in a key.
+/// The row of a table with this number, where it is known which columns are in a key.
 fn candidate_row(
     alloc: Global,
     table: &Table,

@@ -29,7 +29,7 @@ impl Shape {
     }
 }
 
-/// The shapes in their order: 2, 3 and 4 rows, and of each number every style.
+/// The shapes in their order: 2, 3 and 4 rows, and for each number of rows every style.
 pub fn shapes() -> [Shape; 9]
     ensures { result ≡ spec.shapes }
 {

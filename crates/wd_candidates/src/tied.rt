@@ -27,14 +27,14 @@ use wd_plan::{Call, Expr, FrameFunction, Function, Group, GroupCall, Plan, Windo
 use wd_schema::Schema;
 use wd_value::{OutOfMemory, SortColumn};
 
-/// Whether each column of each table of the schema is tied.
+/// The tied columns: for each table of the schema a mark for each of its columns.
 #[derive(Drop)]
 pub struct TiedColumns {
     pub tables: Vec<Vec<bool>>,
 }
 
-/// The table columns from which the columns are computed by which a call, or a limit (no call), of the node with a number in
-/// postorder orders rows; None where the plan has no such call or limit.
+/// The table columns from which a call's ordering columns are computed, or a limit's where `call` is `None`; the call or limit is at
+/// the node with number `node` in postorder. `None` where the plan has no such call or limit.
 pub fn tied_columns(
     alloc: Global,
     schema: &Schema,
@@ -51,7 +51,7 @@ pub fn tied_columns(
     }
 }
 
-/// The node with a number in postorder; past the last, how many numbers are left.
+/// The node with a number in postorder; past the last node, the number minus the number of nodes.
 fn find_node(plan: &Plan, number: u64) -> Result<&Plan, u64>
     ensures { result_map_both (λ node. plan_of node.now) (λ left. left) result ≡ found (plan_of plan.now) number }
 {
@@ -70,7 +70,7 @@ fn find_node(plan: &Plan, number: u64) -> Result<&Plan, u64>
     }
 }
 
-/// What was found below a node, or the node itself, where no number is left.
+/// The node that was found below, or this node itself, where 0 is left of the number.
 fn or_own<'a>(plan: &'a Plan, below: Result<&'a Plan, u64>) -> Result<&'a Plan, u64>
     ensures { result_map_both (λ node. plan_of node.now) (λ left. left) result ≡ nodes.or_own (plan_of plan.now) (result_map_both (λ node. plan_of node.now) (λ left. left) below.entry) }
 {
@@ -81,7 +81,7 @@ fn or_own<'a>(plan: &'a Plan, below: Result<&'a Plan, u64>) -> Result<&'a Plan, 
     }
 }
 
-/// The same of a node with its number found, and its call or limit.
+/// The tied columns of a node's call or limit.
 fn tied_at(
     alloc: Global,
     schema: &Schema,
@@ -103,7 +103,7 @@ fn tied_at(
     }
 }
 
-/// The same of a Window and its call with a number.
+/// The tied columns of a Window's call with this number.
 fn tied_by_call(
     alloc: Global,
     schema: &Schema,
@@ -224,7 +224,7 @@ fn mark_sources(
     }
 }
 
-/// Of the wanted columns of a Join or a Window those that its first input has, and those that stand after them.
+/// The marks of a Join's or a Window's wanted columns, split into those of its first input and the rest.
 fn split_wanted<'a>(input: &Plan, wanted: &'a [bool]) -> (&'a [bool], &'a [bool])
     requires narrow { AreNarrow (plan_of input.now) }
     requires long { width (plan_of input.now) ≤ length wanted.now }

@@ -1,5 +1,5 @@
--- Numbers with a point. In a masked text they stand as two numbers with one byte between them, and are the literal `NUMERIC '12.50'`: as
--- PostgreSQL reads a constant with a point. What stands in its quotes is what stands in the query.
+-- Numbers with a point. In a masked text such a number is two numbers with one byte between them; it is replaced by the literal
+-- `NUMERIC '12.50'`, as PostgreSQL reads a constant with a point. The quotes hold the query's own text.
 use Rattle.std.specs.Prelude.{ℕ, ◌-◌, ◌==◌, ◌&&◌, codes, nat_le, Bool, true, false, if◌then◌else◌, List, [], ◌∷◌, length, slice_range, Option, Some, None}
 use Rattle.std.specs.Str.{is_utf8}
 use Rattle.wd_lex.specs.declared.token.Span.{Span}
@@ -19,7 +19,7 @@ is_pair first second = is_number first.kind && is_number second.kind && second.s
 abbrev pub text_of : List ℕ → Option (List ℕ)
 text_of bytes = if is_utf8 bytes then Some bytes else None
 
--- what stands in the query from the one place to the other
+-- the text of the query from one place to another
 unfoldable pub said_between : List ℕ → ℕ → ℕ → Option (List ℕ)
 said_between query start end = if nat_le start end && nat_le end (length query) then text_of (slice_range query start end) else None
 
@@ -28,7 +28,7 @@ unfoldable pub decimal_at : List ℕ → List Token → Option (List ℕ)
 decimal_at query (first ∷ second ∷ tokens) = if is_pair first second then said_between query first.span.start second.span.end else None
 decimal_at query _ = None
 
--- the word NUMERIC in place of the first number of what is said, and else the token itself
+-- the word NUMERIC in place of the first of the two numbers, where a number with a point was found; otherwise the token itself
 abbrev pub word_for : Option (List ℕ) → Token → Token
 word_for (Some said) token = record { kind = t.Word (codes "numeric"); span = token.span }
 word_for None token = token
@@ -36,13 +36,13 @@ word_for None token = token
 abbrev pub text_at : List ℕ → Span → Token
 text_at said at = record { kind = t.Literal said; span = at }
 
--- what stands for a token that ends what is said, or else perhaps begins a number with a point; and what is said in place of the next one,
--- if it is
+-- the replacement of a token that ends a number with a point, or perhaps begins one; and the number with a point that the next token
+-- ends, if any
 abbrev pub next_for : Option (List ℕ) → Option (List ℕ) → Token → Token × Option (List ℕ)
 next_for (Some said) begun token = (text_at said token.span, None)
 next_for None begun token = (word_for begun token, begun)
 
--- tokens of the masked query with literals; the first of them ends what is said, if something is
+-- tokens of the masked query with literals; the first of them ends a number with a point, if one was begun
 unfoldable pub literals_from : List ℕ → Option (List ℕ) → List Token → List Token
 literals_from query said [] = []
 literals_from query said (token ∷ tokens) =

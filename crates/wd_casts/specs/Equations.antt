@@ -1,4 +1,4 @@
--- What the cast of an operand is.
+-- The form in which the cast of an operand is written.
 use Rattle.std.specs.Prelude.{ℕ, codes, if◌then◌else◌, List, [], ◌∷◌, ◌++◌, Option, Some, None}
 use Rattle.wd_lex.specs.declared.token.Terminal.TheVariants as m
 use Rattle.wd_lex.specs.declared.token.Span.{Span}
@@ -16,7 +16,7 @@ use Rattle.wd_casts.specs.Kinds.{holds, is_within}
 
 -- ---- which equation holds
 
--- a text as that type: DATE '..' and its like, and as a text it is itself
+-- a text in quotes as a type: DATE '..' and the like; as a text it is itself
 abbrev pub text_equation : Kind → Option Form
 text_equation k.Text = Some Same
 text_equation k.Date = Some DateText
@@ -24,20 +24,20 @@ text_equation k.Timestamp = Some TimestampText
 text_equation k.Interval = Some IntervalText
 text_equation _ = None
 
--- a value as another type: as its own type and as one that has all its values it is itself; a moment as a day, and a day as a moment
+-- a value as another type: as its own type, or as one that has all its values, it is itself; a moment as a day, and a day as a moment
 abbrev pub value_equation : Kind → Kind → Option Form
 value_equation k.Timestamp k.Date = Some Day
 value_equation k.Date k.Timestamp = Some Midnight
 value_equation from to = if is_within from to then Some Same else None
 
--- of a number: it is itself where it is a value of the type
+-- the cast of an operand, by what is known of it: a number is itself where it is a value of the type
 abbrev pub equation : Known → Kind → Option Form
 equation Nothing kind = None
 equation Literal kind = text_equation kind
 equation (Number n) kind = if holds kind n then Some Same else None
 equation (Value from) kind = value_equation from kind
 
--- ---- what it says
+-- ---- what a form writes
 
 -- the microseconds of a day
 abbrev pub day : ℕ
@@ -67,7 +67,7 @@ type_word k.Date = codes "date"
 type_word k.Timestamp = codes "timestamp"
 type_word _ = codes "interval"
 
--- what a piece says; what is added has the place of the cast's sign
+-- the tokens of a piece; what is added has the place of the cast's sign
 abbrev pub piece_tokens : Span → List Token → Piece → List Token
 piece_tokens at operand p.Operand = operand
 piece_tokens at operand (p.Mark x) = record { kind = t.Terminal x; span = at } ∷ []

@@ -1,4 +1,4 @@
--- What the values of an expression are, by the types of PostgreSQL.
+-- The kinds of the values of expressions, by the types of PostgreSQL.
 use Rattle.std.specs.Prelude.{ℕ, ◌||◌, ◌^◌, codes, nat_lt, Bool, true, false, if◌then◌else◌, List, Option, Some, None}
 use Rattle.std.specs.Str.{bytes_eq}
 use Rattle.wd_dialect_read.specs.declared.kind.ColumnKind.{ColumnKind}
@@ -6,7 +6,7 @@ use Rattle.wd_dialect_read.specs.declared.kind.ColumnKind.TheVariants as column
 use Rattle.wd_casts.specs.declared.kind.Kind.{Kind}
 use Rattle.wd_casts.specs.declared.kind.Kind.TheVariants as k
 
--- each value of the first is one of the second, which says the same
+-- whether each value of the first kind is a value of the second, with the same meaning
 abbrev pub is_within : Kind → Kind → Bool
 is_within k.Small k.Small = true
 is_within k.Small k.Whole = true
@@ -21,7 +21,7 @@ is_within k.Timestamp k.Timestamp = true
 is_within k.Interval k.Interval = true
 is_within _ _ = false
 
--- a whole number that is not negative is one of its values
+-- whether a whole number that is not negative is a value of the kind
 abbrev pub holds : Kind → ℕ → Bool
 holds k.Small n = nat_lt n (2 ^ 15)
 holds k.Whole n = nat_lt n (2 ^ 31)
@@ -39,7 +39,7 @@ kind_of_column column.Date = Some k.Date
 kind_of_column column.Timestamp = Some k.Timestamp
 kind_of_column _ = None
 
--- the kind of a type whose name is one word, and which takes any value of the kind
+-- the kind of a type whose name is one word, and that takes any value of the kind
 unfoldable pub kind_of_word : List ℕ → Option Kind
 kind_of_word word =
     if bytes_eq word (codes "smallint") || bytes_eq word (codes "int2") then Some k.Small

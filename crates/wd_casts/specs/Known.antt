@@ -31,7 +31,7 @@ token_known kinds (t.Number number) = Number number
 token_known kinds (t.Literal text) = Literal
 token_known kinds _ = Nothing
 
--- a name, of a table or not, a number or a text
+-- what is known of a single token: a name, with its table or not, a number or a text
 unfoldable pub column_known : Kinds → List Token → Known
 column_known kinds (only ∷ []) = token_known kinds only.kind
 column_known kinds (table ∷ dot ∷ column ∷ []) = if is_name table.kind && is_dot dot.kind && is_name column.kind then token_known kinds column.kind else Nothing
@@ -51,20 +51,20 @@ counts_rows (token ∷ tokens) = is_counted token.kind && begins_bracket tokens
 unfoldable pub plain_known : Kinds → List Token → Known
 plain_known kinds tokens = if counts_rows tokens then Value k.Big else column_known kinds tokens
 
--- the first argument, where a comma and one token stand after it at most: the distance of LAG, and no default
+-- the first argument, where at most a comma and one more token come after it: the distance of LAG, and no default
 unfoldable pub first_argument : List Token → Option (List Token)
 first_argument tokens = if nat_lt 2 (length (drop (part_length Comma tokens) tokens)) then None else Some (take (part_length Comma tokens) tokens)
 
--- the argument that a call gives a value of
+-- the argument whose values a call returns
 unfoldable pub picked : List Token → Option (List Token)
 picked [] = None
 picked (token ∷ tokens) = if is_picked token.kind then (brackets_at tokens >>= λ call. first_argument call.0) else None
 
--- the smaller operand whose values are those of this one
+-- the smaller operand within this one that has the same values
 unfoldable pub inner_operand : List Token → Option (List Token)
 inner_operand tokens = or_else (bracketed tokens) (picked tokens)
 
--- values alone: a constant in brackets is no constant
+-- only what is known of values: a constant in brackets does not count as a constant
 abbrev pub as_value : Known → Known
 as_value (Value kind) = Value kind
 as_value _ = Nothing
@@ -83,7 +83,7 @@ abbrev pub value_by : Kind → Option Form → Known
 value_by kind None = Nothing
 value_by kind (Some form) = Value kind
 
--- what is known of a cast of an operand, where an equation gives it
+-- what is known of a cast of an operand, if the cast has an equation
 abbrev pub known_as : Known → Kind → Known
 known_as known kind = value_by kind (equation known kind)
 
@@ -95,12 +95,12 @@ abbrev pub term_by : (List Token → Known) → Kinds → List Token → List Ca
 term_by inner kinds operand [] = primary_known inner kinds operand
 term_by inner kinds operand (cast ∷ casts) = known_after (inner operand) (cast ∷ casts)
 
--- a term that is all of the tokens
+-- what is known of a term, if it is all of the tokens
 abbrev pub whole_known : (List Token → Known) → Kinds → Option Term → Known
 whole_known inner kinds None = Nothing
 whole_known inner kinds (Some term) = if length term.rest == 0 then term_by inner kinds term.operand term.casts else Nothing
 
--- what is known of tokens that are one operand with its casts, looked for in so many brackets and casts
+-- what is known of tokens that are one operand with its casts, followed into at most the given number of brackets and casts
 unfoldable pub known_within : Kinds → ℕ → List Token → Known
 known_within kinds zero tokens = Nothing
 known_within kinds (suc depth) tokens = whole_known (known_within kinds depth) kinds (term_at tokens)

@@ -1,7 +1,7 @@
--- A query in the characters of the profile's lexer: outside of quotes and comments each `::` stands as `%%`, and the point in a number,
--- between two digits, as a blank. All other bytes stay, each at its place. A text in which a `%%`, or two numbers side by side, could say
--- something else is left: there is none for it. Nor is there one for a text with E'..', in which the profile's lexer reads another end than
--- PostgreSQL.
+-- A query in the characters of the profile's lexer: outside of quotes and comments each `::` appears as `%%`, and the point in a
+-- number, between two digits, as a blank. All other bytes stay, each at its place. There is no masked query for a text in which a `%%`,
+-- or two numbers side by side, could mean something else, nor for a text with E'..', for which the profile's lexer reads another end
+-- than PostgreSQL.
 use Rattle.std.specs.Prelude.{ℕ, ◌==◌, ◌||◌, ◌&&◌, not, Bool, true, false, if◌then◌else◌, List, [], ◌∷◌, slice_index, Option, Some, None}
 use Rattle.wd_lex.specs.Characters.{is_blank, is_digit}
 use Rattle.wd_dialect_text.specs.declared.mask.State.{State}
@@ -22,49 +22,49 @@ point = 46
 abbrev pub blank : ℕ
 blank = 32
 
--- a sign in that state stands outside of quotes and comments
+-- whether a sign in this state is outside of quotes and comments
 abbrev pub is_outside : State → Bool
 is_outside s.Between = true
 is_outside s.Word = true
 is_outside s.Number = true
 is_outside _ = false
 
--- the quote of a text E'..'
+-- whether a byte in this state is the quote of a text E'..'
 abbrev pub is_prefix : State → Bool
 is_prefix s.Prefix = true
 is_prefix _ = false
 
--- a byte in that state stands right after a digit of a number, or after a point behind its digits
+-- whether a byte in this state comes right after a digit of a number, or after a point after its digits
 abbrev pub is_numeric : State → Bool
 is_numeric s.Number = true
 is_numeric _ = false
 
--- two percent signs side by side, or one beside a colon
+-- whether two bytes are percent signs, or one a percent sign and the other a colon
 abbrev pub is_doubtful : ℕ → ℕ → Bool
 is_doubtful b next = (b == percent && (next == percent || next == colon)) || (b == colon && next == percent)
 
--- white space between a number and a digit
+-- whether a byte is white space between a number and a digit
 abbrev pub splits_number : State → ℕ → ℕ → Bool
 splits_number state b next = is_numeric state && is_blank b && is_digit next
 
--- a point between a number and a digit
+-- whether a byte is a point between a number and a digit
 abbrev pub is_point : State → ℕ → ℕ → Bool
 is_point state b next = is_numeric state && b == point && is_digit next
 
--- none of these stands in the bytes, of which the first stands in that state
+-- whether none of these is in the bytes, of which the first is in this state
 unfoldable pub is_plain : State → List ℕ → Bool
 is_plain state [] = true
 is_plain state (b ∷ bytes) =
     not (is_prefix state) && not (is_outside state && is_doubtful b (slice_index bytes 0)) && not (splits_number state b (slice_index bytes 0))
     && is_plain (step state b (slice_index bytes 0)).1 bytes
 
--- what stands for a byte, and whether the next is the second of `::`
+-- the byte that replaces a byte, and whether the next byte is the second of `::`
 abbrev pub byte_for : Bool → State → ℕ → ℕ → ℕ × Bool
 byte_for true state b next = (percent, false)
 byte_for false state b next =
     if is_outside state && b == colon && next == colon then (percent, true) else (if is_point state b next then (blank, false) else (b, false))
 
--- bytes, of which the first stands in that state
+-- bytes as they are masked, of which the first is in this state
 unfoldable pub masked_from : Bool → State → List ℕ → List ℕ
 masked_from is_second state [] = []
 masked_from is_second state (b ∷ bytes) =

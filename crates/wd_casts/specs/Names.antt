@@ -1,4 +1,4 @@
--- What the names of a query are.
+-- The kinds of the names of a query.
 use Rattle.std.specs.Prelude.{ℕ, Bool, true, false, if◌then◌else◌, List, [], ◌∷◌, ◌++◌, Option, Some, None}
 use Rattle.std.specs.Str.{bytes_eq}
 use Rattle.wd_lex.specs.declared.token.Token.{Token}
@@ -13,7 +13,7 @@ use Rattle.wd_casts.specs.declared.agreed.Agreed.{Agreed}
 use Rattle.wd_casts.specs.declared.agreed.Agreed.TheVariants.{Unused, On, Not}
 use Rattle.wd_casts.specs.Kinds.{kind_of_column}
 
--- a use of a name, and what its values are there, where that is known
+-- a use of a name, and the kind of its values there, where that is known
 abbrev pub Use : Type 0
 Use = List ℕ × Option Kind
 
@@ -36,7 +36,7 @@ unfoldable pub column_uses : List Statement → List Use
 column_uses [] = []
 column_uses (statement ∷ statements) = statement_uses statement ++ column_uses statements
 
--- it is not known what a name is that the query gives
+-- the kind of a name that the query gives is not known
 unfoldable pub unknown_uses : List (List ℕ) → List Use
 unknown_uses [] = []
 unknown_uses (name ∷ names) = (name, None) ∷ unknown_uses names
@@ -45,9 +45,9 @@ unknown_uses (name ∷ names) = (name, None) ∷ unknown_uses names
 unfoldable pub uses : List Statement → List Token → List Use
 uses statements tokens = if has_lists false tokens then [] else column_uses statements ++ unknown_uses (given_names false tokens)
 
--- ---- what a name is
+-- ---- the kind of a name
 
--- what the values of a name are, where that is known
+-- the kind of the values of a name, where that is known
 abbrev pub Kinds : Type 0
 Kinds = List ℕ → Option Kind
 
@@ -62,7 +62,7 @@ is_same k.Timestamp k.Timestamp = true
 is_same k.Interval k.Interval = true
 is_same _ _ = false
 
--- what the uses of a name are that are known so far, and one more
+-- what the uses of a name agree on, with one more use
 abbrev pub with_kind : Agreed → Option Kind → Agreed
 with_kind Unused (Some kind) = On kind
 with_kind (On first) (Some kind) = if is_same first kind then On first else Not
@@ -79,6 +79,6 @@ abbrev pub agreed_kind : Agreed → Option Kind
 agreed_kind (On kind) = Some kind
 agreed_kind _ = None
 
--- what a name is, where all its uses are known and are that
+-- the kind of a name, where all its uses are known to be of that kind
 abbrev pub kind_named : List Use → Kinds
 kind_named uses name = agreed_kind (agreed_from Unused name uses)

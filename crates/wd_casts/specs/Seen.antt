@@ -26,10 +26,10 @@ abbrev pub or_unused : Option Agreed → Agreed
 or_unused None = Unused
 or_unused (Some agreed) = agreed
 
--- what is kept of the uses of a name
+-- what the code keeps of the uses of a name
 abbrev pub agreed_seen : KnownKinds → List ℕ → Agreed
 agreed_seen kinds name = or_unused (get_by_text kinds.agreed name)
 
--- what a name is by what is kept of its uses
+-- the kind of a name, by what the code keeps of its uses
 abbrev pub kinds_seen : KnownKinds → Kinds
 kinds_seen kinds name = agreed_kind (agreed_seen kinds name)

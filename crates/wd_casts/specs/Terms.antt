@@ -1,4 +1,4 @@
--- An operand with the casts of it.
+-- An operand with its casts.
 use Rattle.std.specs.Prelude.{ℕ, zero, suc, ◌==◌, ◌&&◌, ◌||◌, ◌++◌, codes, Bool, true, false, if◌then◌else◌, List, [], ◌∷◌, length, take, drop, Option, Some, None}
 use Rattle.wd_lex.specs.declared.token.Terminal.TheVariants as m
 use Rattle.wd_lex.specs.declared.token.Token.{Token}
@@ -20,12 +20,12 @@ unfoldable pub begins_sign : List Token → Bool
 begins_sign (first ∷ second ∷ tokens) = is_percent first.kind && is_percent second.kind && first.span.end == second.span.start
 begins_sign _ = false
 
--- CAST (
+-- whether tokens begin with CAST (
 unfoldable pub begins_call : List Token → Bool
 begins_call [] = false
 begins_call (token ∷ tokens) = is_word (codes "cast") token.kind && begins_bracket tokens
 
--- a cast stands somewhere among the tokens
+-- whether a cast is among the tokens
 unfoldable pub has_casts : List Token → Bool
 has_casts [] = false
 has_casts (token ∷ tokens) = begins_sign (token ∷ tokens) || begins_call (token ∷ tokens) || has_casts tokens
@@ -46,12 +46,12 @@ abbrev pub and_more : (List Token → Casts) → List Token → Option (Cast × 
 and_more more tokens None = ([], tokens)
 and_more more tokens (Some found) = (found.0 ∷ (more found.1).0, (more found.1).1)
 
--- {:: type}; the number bounds the turns
+-- {:: type}; the number bounds how many casts are read
 unfoldable pub casts_from : ℕ → List Token → Casts
 casts_from zero tokens = ([], tokens)
 casts_from (suc turns) tokens = and_more (casts_from turns) tokens (cast_at tokens)
 
--- the count of the tokens is always enough
+-- as many casts as there are; the count of the tokens is always enough
 unfoldable pub casts_at : List Token → Casts
 casts_at tokens = casts_from (length tokens) tokens
 
@@ -67,7 +67,7 @@ unfoldable pub term_of : List Token → List Cast → List Token → Option Term
 term_of operand first tokens =
     if begins_sign (casts_at tokens).1 then None else Some (record { operand = operand; casts = first ++ (casts_at tokens).0; rest = (casts_at tokens).1 })
 
--- a name, a constant, a call, or what stands in brackets or between CASE and END, with the casts after it
+-- a name, a constant, a call, or a part in brackets or from CASE to END, with the casts after it
 unfoldable pub primary_at : List Token → Option Term
 primary_at tokens = if primary_length tokens == 0 then None else term_of (take (primary_length tokens) tokens) [] (drop (primary_length tokens) tokens)
 

@@ -10,7 +10,7 @@ use Rattle.wd_casts.specs.declared.kind.Kind.{Kind}
 use Rattle.wd_casts.specs.declared.kind.Kind.TheVariants as k
 use Rattle.wd_casts.specs.Kinds.{kind_of_word}
 
--- that word, which is not reserved
+-- whether a token is this word, which is not reserved
 abbrev pub is_word : List ℕ → TokenKind → Bool
 is_word text (t.Word word) = bytes_eq word text
 is_word text _ = false
@@ -24,12 +24,12 @@ unfoldable pub varying_at : List Token → Option Named
 varying_at [] = None
 varying_at (token ∷ tokens) = if is_word (codes "varying") token.kind then Some (k.Text, tokens) else None
 
--- WITH or WITHOUT
+-- whether a token is WITH or WITHOUT
 abbrev pub is_with : TokenKind → Bool
 is_with (t.Terminal m.With) = true
 is_with kind = is_word (codes "without") kind
 
--- the tokens after WITH TIME ZONE or WITHOUT TIME ZONE, where that stands first
+-- the tokens after WITH TIME ZONE or WITHOUT TIME ZONE, if they begin with that; else all of them
 unfoldable pub past_zone : List Token → List Token
 past_zone (first ∷ second ∷ third ∷ tokens) =
     if is_with first.kind && is_word (codes "time") second.kind && is_word (codes "zone") third.kind then tokens else first ∷ second ∷ third ∷ tokens
@@ -45,7 +45,7 @@ named_at first tokens =
     if is_word (codes "character") first.kind then varying_at tokens
     else (if is_word (codes "timestamp") first.kind then Some (k.Timestamp, past_zone tokens) else word_at first.kind tokens)
 
--- a type that stands without a length or a number of places
+-- a type that has no length and no number of places
 unfoldable pub type_at : List Token → Option Named
 type_at [] = None
 type_at (first ∷ tokens) = named_at first tokens >>= λ found. if begins_bracket found.1 then None else Some found

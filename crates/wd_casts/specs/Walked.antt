@@ -1,4 +1,4 @@
--- Tokens without casts.
+-- Tokens with their casts written out.
 use Rattle.std.specs.Prelude.{ℕ, zero, suc, ◌==◌, ◌++◌, Bool, true, false, if◌then◌else◌, List, [], ◌∷◌, length, Option, Some, None}
 use Rattle.wd_lex.specs.declared.token.Terminal.TheVariants as m
 use Rattle.wd_lex.specs.declared.token.Token.{Token}
@@ -28,7 +28,7 @@ abbrev pub is_nothing : Known → Bool
 is_nothing Nothing = true
 is_nothing _ = false
 
--- each of the casts has an equation, and there is one
+-- a term as a place, if it has a cast and each of its casts has an equation
 abbrev pub place_of : Known → Term → Option Place
 place_of known term =
     if length term.casts == 0 then None
@@ -37,14 +37,14 @@ place_of known term =
 unfoldable pub place_at : Kinds → Bool → List Token → Option Place
 place_at kinds begins tokens = if begins then (term_at tokens >>= λ term. place_of (known_of kinds term.operand) term) else None
 
--- the equations of casts, the first of them first
+-- an operand with its casts written out, the first of them first
 unfoldable pub cast_by : Known → List Cast → List Token → List Token
 cast_by known [] operand = operand
 cast_by known (cast ∷ casts) operand = cast_by (known_as known cast.kind) casts (cast_tokens cast.at operand (equation known cast.kind))
 
 -- ---- from left to right
 
--- An operand may begin after a token that neither ends one nor goes on with it.
+-- An operand may begin after a token that neither ends an operand nor continues one.
 abbrev pub begins_after : TokenKind → Bool
 begins_after (t.Word text) = is_test_word text
 begins_after (t.Quoted text) = false
@@ -74,8 +74,8 @@ step inner kinds begins tokens = step_by inner tokens (place_at kinds begins tok
 abbrev pub and_then : Step → (Bool → List Token → List Token) → List Token
 and_then first more = first.0 ++ more first.1 first.2
 
--- step by step to the end; the number bounds the turns. The count of the tokens is enough, since each step takes a token at least, and an
--- operand has fewer than the whole
+-- step by step to the end; the number bounds the steps. The count of the tokens is enough, since each step takes at least one token,
+-- and an operand has fewer than the whole
 unfoldable pub walked : Kinds → ℕ → Bool → List Token → List Token
 walked kinds zero begins tokens = []
 walked kinds (suc turns) begins [] = []

@@ -1,5 +1,5 @@
-//! What a name of a query is. The uses of names are gone through once, in their order, and of each name it is kept what its uses so far
-//! agree on.
+//! The kinds of a query's names. The uses of names are gone through once, in their order, and for each name it is kept what its uses so
+//! far agree on.
 
 ghost use Rattle.std.specs.Prelude.{◌≡◌, map, ℕ, List, IfOk, OnOk};
 ghost use Rattle.wd_casts.specs.Names as spec;
@@ -18,13 +18,13 @@ use wd_value::OutOfMemory;
 #[derive(Clone, Copy)]
 pub enum Agreed {
     Unused,
-    /// All of them are that.
+    /// All uses are of this kind.
     On(Kind),
-    /// They are not one thing, or of one it is not known.
+    /// The uses are of different kinds, or the kind of one is not known.
     Not,
 }
 
-/// What the names of a query are, where that is known.
+/// The kinds of the names of a query, where they are known.
 #[derive(Drop)]
 pub struct KnownKinds {
     agreed: HashMap<String, Agreed>,
@@ -46,7 +46,7 @@ fn is_same(first: Kind, second: Kind) -> bool
     )
 }
 
-/// What the uses of a name are that are known so far, and one more.
+/// What the uses of a name agree on, with one more use.
 fn with_kind(so_far: Agreed, kind: Option<Kind>) -> Agreed
     ensures { result ≡ spec.with_kind so_far kind }
 {
@@ -90,14 +90,14 @@ impl KnownKinds {
         }
     }
 
-    /// What a name is, where all its uses are known and are that.
+    /// The kind of a name, where all its uses are known to be of that kind.
     pub fn kind_named(&self, name: &str) -> Option<Kind>
         ensures { result ≡ kinds_seen self.now name.now }
     {
         agreed_kind(self.agreed_on(name))
     }
 
-    /// A name is used once more.
+    /// Adds one more use of a name.
     fn add(&mut self, alloc: Global, next: &NameUse) -> Result<(), OutOfMemory>
         ensures { OnOk result ((other : List ℕ) → agreed_seen self.new other ≡ with_next (agreed_seen self.old other) (use_seen next.now) other) }
     {
@@ -107,7 +107,7 @@ impl KnownKinds {
         Ok(())
     }
 
-    /// Names are used once more, one after the other.
+    /// Adds further uses of names, one after the other.
     #[tactic(auto, unfolding(crate::specs::Names::agreed_from))]
     fn add_all(&mut self, alloc: Global, uses: &[NameUse]) -> Result<(), OutOfMemory>
         ensures { OnOk result ((other : List ℕ) → agreed_seen self.new other ≡ agreed_from (agreed_seen self.old other) other (map use_seen uses.now)) }
@@ -121,7 +121,7 @@ impl KnownKinds {
     }
 }
 
-/// What the names of a query over the tables of a schema are.
+/// The kinds of the names of a query over the tables of a schema.
 pub fn known_kinds(
     alloc: Global,
     statements: &[Statement],

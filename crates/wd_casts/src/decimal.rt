@@ -1,4 +1,4 @@
-//! Numbers with a point, which stand in a masked text as two numbers.
+//! Numbers with a point, which are two numbers in a masked text.
 
 ghost use Rattle.std.specs.Prelude.{◌≡◌, ◌∷◌, None, IfOk};
 ghost use Rattle.std.specs.Option.{option_map};
@@ -16,7 +16,7 @@ fn is_number(kind: &TokenKind) -> bool
     matches!(kind, TokenKind::Number(_))
 }
 
-/// Whether they are two numbers with one byte between them.
+/// Whether two tokens are numbers with one byte between them.
 fn is_pair(first: &Token, second: &Token) -> bool
     ensures { result ≡ spec.is_pair first.now second.now }
 {
@@ -35,7 +35,7 @@ fn text_of(bytes: &[u8]) -> Option<&str>
     }
 }
 
-/// What stands in the query from the one place to the other.
+/// The text of the query from one place to another.
 #[tactic(auto, unfolding(crate::specs::Decimals::said_between))]
 fn said_between(query: &[u8], start: u64, end: u64) -> Option<&str>
     ensures { option_map (λ said. said.now) result ≡ spec.said_between query.now start end }
@@ -46,7 +46,7 @@ fn said_between(query: &[u8], start: u64, end: u64) -> Option<&str>
     text_of(&query[start as usize..end as usize])
 }
 
-/// The number with a point at the start, as it stands in the query.
+/// The number with a point at the start, as the query writes it.
 #[tactic(auto, unfolding(crate::specs::Decimals::decimal_at))]
 fn decimal_at<'q>(query: &'q [u8], tokens: &[Token]) -> Option<&'q str>
     ensures { option_map (λ said. said.now) result ≡ spec.decimal_at query.now tokens.now }
@@ -61,7 +61,7 @@ fn decimal_at<'q>(query: &'q [u8], tokens: &[Token]) -> Option<&'q str>
     }
 }
 
-/// The word NUMERIC in place of the first number of what is said, or else an equal token.
+/// The word NUMERIC in place of the first of the two numbers, where a number with a point was found; otherwise an equal token.
 fn word_for(alloc: Global, said: Option<&str>, token: &Token) -> Result<Token, AllocError>
     ensures { IfOk result (λ found. found ≡ spec.word_for (option_map (λ text. text.now) said.entry) token.now) }
 {
@@ -83,7 +83,8 @@ fn text_at(alloc: Global, said: &str, at: Span) -> Result<Token, AllocError>
     Ok(Token { kind, span: at })
 }
 
-/// What stands for a token that ends what is said, or else perhaps begins a number with a point; and what is said in place of the next one.
+/// The replacement of a token that ends a number with a point, or perhaps begins one; and the number with a point that the next token
+/// ends, if any.
 fn next_for<'q>(
     alloc: Global,
     said: Option<&'q str>,
@@ -105,8 +106,8 @@ fn next_for<'q>(
     }
 }
 
-/// The tokens of a masked query with `NUMERIC '12.50'` for each number with a point, which stands there as two numbers. What stands in
-/// the quotes is what stands in the query, and each token has the place of the one that it stands for.
+/// The tokens of a masked query with `NUMERIC '12.50'` for each number with a point, which is two numbers there. The quotes hold the
+/// query's own text, and each token has the place of the one that it replaces.
 #[tactic(auto, unfolding(crate::specs::Decimals::with_literals))]
 pub fn with_literals(
     alloc: Global,

@@ -1,4 +1,4 @@
-//! What the cast of an operand is, as pieces that are written in its place.
+//! The cast of an operand, as pieces that are written in its place.
 
 ghost use Rattle.std.specs.Prelude.{◌≡◌, ◌∷◌, []};
 ghost use Rattle.wd_clauses.specs.Given.{Writes};
@@ -14,7 +14,7 @@ use wd_value::Text;
 /// The microseconds of a day.
 const DAY: u64 = 86_400_000_000;
 
-/// What the cast of an operand is.
+/// The form in which the cast of an operand is written.
 #[derive(Clone, Copy, PartialEq, Eq)]
 pub enum Form {
     /// The operand itself.
@@ -31,7 +31,7 @@ pub enum Form {
     Midnight,
 }
 
-/// What is written in place of a cast.
+/// A piece of what is written in place of a cast.
 #[derive(Clone, Copy)]
 pub enum Piece {
     Operand,
@@ -41,7 +41,7 @@ pub enum Piece {
     Word(Kind),
 }
 
-/// What a text is as a type.
+/// The form of a text in quotes as a type.
 fn text_equation(kind: Kind) -> Option<Form>
     ensures { result ≡ spec.text_equation kind }
 {
@@ -54,7 +54,7 @@ fn text_equation(kind: Kind) -> Option<Form>
     }
 }
 
-/// What a value is as another type.
+/// The form of a value as another type.
 fn value_equation(from: Kind, to: Kind) -> Option<Form>
     ensures { result ≡ spec.value_equation from to }
 {
@@ -69,7 +69,7 @@ fn value_equation(from: Kind, to: Kind) -> Option<Form>
     }
 }
 
-/// What the cast of an operand is, of which so much is known.
+/// The form of the cast of an operand, of which this is known.
 pub fn equation(known: Known, kind: Kind) -> Option<Form>
     ensures { result ≡ spec.equation known kind }
 {
@@ -95,7 +95,7 @@ fn type_word(kind: Kind) -> &'static str
     }
 }
 
-/// Adds what a piece says.
+/// Adds the tokens of a piece.
 fn add_piece(
     written: &mut Vec<Token>,
     at: Span,
@@ -115,7 +115,7 @@ fn add_piece(
     add(written, Token { kind, span: at })
 }
 
-/// Adds what pieces say.
+/// Adds the tokens of pieces.
 #[tactic(auto, unfolding(crate::specs::Equations::pieces_tokens))]
 fn add_pieces(
     written: &mut Vec<Token>,

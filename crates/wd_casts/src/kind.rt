@@ -1,11 +1,11 @@
-//! What the values of an expression are.
+//! The kinds of the values of expressions.
 
 ghost use Rattle.std.specs.Prelude.{◌≡◌};
 ghost use Rattle.wd_casts.specs.Kinds as spec;
 
 use wd_dialect_read::ColumnKind;
 
-/// What the values of an expression are, by the types of PostgreSQL.
+/// A kind of values, by the types of PostgreSQL.
 #[derive(Clone, Copy)]
 pub enum Kind {
     /// Whole numbers of 16 bits.
@@ -18,13 +18,13 @@ pub enum Kind {
     Text,
     /// Days from 1970-01-01 on.
     Date,
-    /// Microseconds from the first of that day on.
+    /// Microseconds from the start of 1970-01-01 on.
     Timestamp,
     /// Spans of time.
     Interval,
 }
 
-/// Whether each value of the first is one of the second, which says the same.
+/// Whether each value of the first kind is a value of the second, with the same meaning.
 pub fn is_within(first: Kind, second: Kind) -> bool
     ensures { result ≡ spec.is_within first second }
 {
@@ -41,7 +41,7 @@ pub fn is_within(first: Kind, second: Kind) -> bool
     )
 }
 
-/// Whether a whole number is one of its values.
+/// Whether a whole number is a value of the kind.
 pub fn holds(kind: Kind, number: u64) -> bool
     ensures { result ≡ spec.holds kind number }
 {

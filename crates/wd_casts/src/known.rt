@@ -16,18 +16,18 @@ use wd_amounts::{
 };
 use wd_lex::{Token, TokenKind};
 
-/// How many brackets and casts are followed.
+/// How deep brackets and casts are followed.
 const MOST_DEEP: usize = 130;
 
 /// What is known of an operand.
 #[derive(Clone, Copy)]
 pub enum Known {
     Nothing,
-    /// It is a text in quotes.
+    /// The operand is a text in quotes.
     Literal,
-    /// It is that number.
+    /// The operand is this number.
     Number(u64),
-    /// Its values are of that kind.
+    /// The operand's values are of this kind.
     Value(Kind),
 }
 
@@ -53,7 +53,7 @@ fn token_known(kinds: &KnownKinds, kind: &TokenKind) -> Known
     }
 }
 
-/// A name, of a table or not, a number or a text.
+/// What is known of a single token: a name, with its table or not, a number or a text.
 #[tactic(auto, unfolding(crate::specs::Known::column_known))]
 fn column_known(kinds: &KnownKinds, tokens: &[Token]) -> Known
     ensures { result ≡ spec.column_known (kinds_seen kinds.now) tokens.now }
@@ -84,7 +84,7 @@ fn is_counted(kind: &TokenKind) -> bool
     }
 }
 
-/// Whether a call that counts rows stands first.
+/// Whether the tokens begin with a call that counts rows.
 #[tactic(auto, unfolding(crate::specs::Known::counts_rows))]
 fn counts_rows(tokens: &[Token]) -> bool
     ensures { result ≡ spec.counts_rows tokens.now }
@@ -106,7 +106,7 @@ fn plain_known(kinds: &KnownKinds, tokens: &[Token]) -> Known
     }
 }
 
-/// The first argument, where a comma and one token stand after it at most.
+/// The first argument, where at most a comma and one more token come after it.
 #[tactic(auto, unfolding(crate::specs::Known::first_argument))]
 fn first_argument(tokens: &[Token]) -> Option<&[Token]>
     ensures { Finds (λ r. r.now) result (spec.first_argument tokens.now) }
@@ -115,7 +115,7 @@ fn first_argument(tokens: &[Token]) -> Option<&[Token]>
     if others.len() > 2 { None } else { Some(first) }
 }
 
-/// The argument that a call gives a value of.
+/// The argument whose values a call returns.
 #[tactic(auto, unfolding(crate::specs::Known::picked))]
 fn picked(tokens: &[Token]) -> Option<&[Token]>
     ensures { Finds (λ r. r.now) result (spec.picked tokens.now) }
@@ -132,7 +132,7 @@ fn picked(tokens: &[Token]) -> Option<&[Token]>
     first_argument(arguments)
 }
 
-/// The smaller operand whose values are those of this one.
+/// The smaller operand within this one that has the same values.
 #[tactic(auto, unfolding(crate::specs::Known::inner_operand))]
 fn inner_operand(tokens: &[Token]) -> Option<&[Token]>
     ensures { Finds (λ r. r.now) result (spec.inner_operand tokens.now) }
@@ -214,7 +214,7 @@ fn term_known(
     }
 }
 
-/// What is known of an operand with its casts, where no tokens stand after them.
+/// What is known of an operand with its casts, where no tokens come after the casts.
 #[cycle(known_within)]
 fn whole_known(
     alloc: Global,
@@ -231,7 +231,7 @@ fn whole_known(
     }
 }
 
-/// What is known of tokens that are one operand with its casts, looked for in so many brackets and casts.
+/// What is known of tokens that are one operand with its casts, followed into at most `depth` brackets and casts.
 #[cycle(known_within)]
 fn known_within(
     alloc: Global,

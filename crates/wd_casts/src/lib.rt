@@ -1,10 +1,10 @@
-//! Casts: PostgreSQL's `x::type` and the standard's `CAST ( x AS type )`, where the value stays or an equation in whole numbers
-//! gives it.
+//! Casts: PostgreSQL's `x::type` and the standard's `CAST ( x AS type )`, where the cast keeps the value or an equation in whole
+//! numbers gives it.
 //!
-//! `mask` gives a query in the characters of the profile's lexer: `::` stands as `%%`, and the point in a number as a blank. `decimal`
-//! makes literals of numbers with a point. `term` reads an operand with its casts, `known` says what is known of the operand by what the
-//! uses of its names (`names`) agree on (`agreed`), and `equation` what a cast of it is. `walk` goes over the tokens from left to right
-//! and writes the equations.
+//! `mask` gives a query in the characters of the profile's lexer: `::` appears as `%%`, and the point in a number as a blank. `decimal`
+//! makes literals of numbers with a point. `term` reads an operand with its casts, `known` says what is known of the operand by what
+//! the uses of its names (`names`) agree on (`agreed`), and `equation` gives what a cast of the operand is. `walk` goes over the tokens
+//! from left to right and writes the equations.
 #![tactic(auto)]
 
 mod agreed;

@@ -7,21 +7,21 @@ ghost use Rattle.wd_casts.specs.Masked as spec;
 use std::alloc::{AllocError, Global};
 use wd_dialect_text::{State, step};
 
-/// Whether a sign stands outside of quotes and comments.
+/// Whether a sign is outside of quotes and comments.
 fn is_outside(state: State) -> bool
     ensures { result ≡ spec.is_outside state }
 {
     matches!(state, State::Between | State::Word | State::Number)
 }
 
-/// Whether it is the quote of a text E'..'.
+/// Whether a byte in this state is the quote of a text E'..'.
 fn is_prefix(state: State) -> bool
     ensures { result ≡ spec.is_prefix state }
 {
     matches!(state, State::Prefix)
 }
 
-/// Whether a byte stands right after a digit of a number, or after a point behind its digits.
+/// Whether a byte in this state comes right after a digit of a number, or after a point after its digits.
 fn is_numeric(state: State) -> bool
     ensures { result ≡ spec.is_numeric state }
 {
@@ -35,7 +35,7 @@ fn is_doubtful(byte: u8, next: u8) -> bool
     (byte == b'%' && (next == b'%' || next == b':')) || (byte == b':' && next == b'%')
 }
 
-/// Whether it is white space between a number and a digit, which could be mistaken for a point that is masked.
+/// Whether a byte is white space between a number and a digit, which could be mistaken for a point that is masked.
 fn splits_number(state: State, byte: u8, next: u8) -> bool
     ensures { result ≡ spec.splits_number state byte next }
 {
@@ -44,14 +44,14 @@ fn splits_number(state: State, byte: u8, next: u8) -> bool
         && next.is_ascii_digit()
 }
 
-/// Whether it is a point between a number and a digit.
+/// Whether a byte is a point between a number and a digit.
 fn is_point(state: State, byte: u8, next: u8) -> bool
     ensures { result ≡ spec.is_point state byte next }
 {
     is_numeric(state) && byte == b'.' && next.is_ascii_digit()
 }
 
-/// Whether no bytes stand in the text that could be mistaken, and no text E'..'.
+/// Whether the text has no bytes that could be mistaken, and no text E'..'.
 #[tactic(auto, unfolding(crate::specs::Masked::is_plain))]
 fn is_plain(text: &[u8]) -> bool
     ensures { result ≡ spec.is_plain State.Between text.now }
@@ -73,7 +73,7 @@ fn is_plain(text: &[u8]) -> bool
     true
 }
 
-/// What stands for a byte, and whether the next is the second of `::`.
+/// The byte that replaces a byte, and whether the next byte is the second of `::`.
 fn byte_for(is_second: bool, state: State, byte: u8, next: u8) -> (u8, bool)
     ensures { result ≡ spec.byte_for is_second state byte next }
 {
@@ -110,9 +110,9 @@ fn with_percents(alloc: Global, text: &[u8]) -> Result<Vec<u8>, AllocError>
     Ok(found)
 }
 
-/// The query as the profile's lexer can read it: outside of quotes and comments each `::` stands as `%%` and the point in a number as a
-/// blank, and all else as it is. None where two percent signs stand side by side outside of quotes and comments, or one beside a colon, or
-/// two numbers with white space alone between them, or a text E'..' stands in it.
+/// The query as the profile's lexer can read it: outside of quotes and comments each `::` appears as `%%` and the point in a number as
+/// a blank, and all else as it is. `None` where, outside of quotes and comments, two percent signs are side by side, or one is next to
+/// a colon, or two numbers have only white space between them; and where the query has a text E'..'.
 #[tactic(auto, unfolding(crate::specs::Masked::masked))]
 pub fn masked(alloc: Global, text: &[u8]) -> Result<Option<Vec<u8>>, AllocError>
     ensures masked { IfOk result (λ found. option_map (λ v. v.items) found ≡ spec.masked text.now) }

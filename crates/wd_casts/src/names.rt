@@ -12,7 +12,7 @@ use wd_dialect_read::{Item, Statement};
 use wd_lex::Token;
 use wd_value::OutOfMemory;
 
-/// A use of a name, and what its values are there, where that is known.
+/// A use of a name, and the kind of its values there, where that is known.
 #[derive(Clone, Copy)]
 pub struct NameUse<'t> {
     pub name: &'t str,
@@ -55,7 +55,7 @@ fn push_all_columns<'t>(
     Ok(())
 }
 
-/// Adds names of which it is not known what they are.
+/// Adds names whose kinds are not known.
 #[tactic(auto, unfolding(crate::specs::Names::unknown_uses))]
 fn push_unknown<'t>(uses: &mut Vec<NameUse<'t>>, given: &[&'t str]) -> Result<(), OutOfMemory>
     ensures { IfOk result (λ _. map use_seen uses.new.items ≡ map use_seen uses.old.items ++ unknown_uses (map (λ n. n.now) given.now)) }

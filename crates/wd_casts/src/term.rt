@@ -1,4 +1,4 @@
-//! An operand with the casts of it.
+//! An operand with its casts.
 
 ghost use Rattle.std.specs.Prelude.{◌≡◌, ◌++◌, IfOk};
 ghost use Rattle.wd_clauses.specs.Given.{Finds};
@@ -13,7 +13,7 @@ use wd_amounts::{Stop, begins_bracket, brackets_at, part_length};
 use wd_lex::{Span, Token};
 use wd_operands::primary_length;
 
-/// A cast: to what, and where its `::` or its CAST stands.
+/// A cast: its type, and the place of its `::` or its CAST.
 #[derive(Clone, Copy)]
 pub struct Cast {
     pub kind: Kind,
@@ -28,7 +28,7 @@ pub struct Term<'t> {
     pub rest: &'t [Token],
 }
 
-/// Whether `::` stands first, as it is masked.
+/// Whether the tokens begin with `::`, as it is masked.
 #[tactic(auto, unfolding(crate::specs::Terms::begins_sign))]
 fn begins_sign(tokens: &[Token]) -> bool
     ensures { result ≡ spec.begins_sign tokens.now }
@@ -43,7 +43,7 @@ fn begins_sign(tokens: &[Token]) -> bool
     }
 }
 
-/// Whether `CAST (` stands first.
+/// Whether the tokens begin with `CAST (`.
 #[tactic(auto, unfolding(crate::specs::Terms::begins_call))]
 fn begins_call(tokens: &[Token]) -> bool
     ensures { result ≡ spec.begins_call tokens.now }
@@ -54,7 +54,7 @@ fn begins_call(tokens: &[Token]) -> bool
     }
 }
 
-/// Whether a cast stands among the tokens of a masked text.
+/// Whether a cast is among the tokens of a masked text.
 #[tactic(auto, unfolding(crate::specs::Terms::has_casts))]
 pub fn has_casts(tokens: &[Token]) -> bool
     ensures { result ≡ spec.has_casts tokens.now }
@@ -90,7 +90,7 @@ fn cast_at(tokens: &[Token]) -> Option<(Cast, &[Token])>
     Some((cast, after))
 }
 
-/// Adds the casts that stand first, and gives the tokens after them.
+/// Adds the casts at the start of the tokens, and returns the tokens after them.
 #[tactic(auto, unfolding(crate::specs::Terms::casts_at))]
 fn push_casts<'t>(casts: &mut Vec<Cast>, tokens: &'t [Token]) -> Result<&'t [Token], AllocError>
     ensures casts { IfOk result (λ _. casts.new.items ≡ casts.old.items ++ (spec.casts_at tokens.now).0) }
@@ -178,7 +178,7 @@ fn call_at(alloc: Global, tokens: &[Token]) -> Result<Option<Term<'_>>, AllocErr
     term_of(operand, casts, rest)
 }
 
-/// The operand that stands first, with its casts.
+/// The operand at the start, with its casts.
 #[tactic(auto, unfolding(crate::specs::Terms::term_at))]
 pub fn term_at(alloc: Global, tokens: &[Token]) -> Result<Option<Term<'_>>, AllocError>
     ensures { IfOk result (λ found. Finds term_seen found (spec.term_at tokens.now)) }

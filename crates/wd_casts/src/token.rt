@@ -6,7 +6,7 @@ ghost use Rattle.wd_casts.specs.Terms as terms;
 
 use wd_lex::{Terminal, TokenKind};
 
-/// Whether it is that word, which is not reserved.
+/// Whether a token is this word, which is not reserved.
 pub fn is_word(kind: &TokenKind, text: &str) -> bool
     ensures { result ≡ spec.is_word text.now kind.now }
 {

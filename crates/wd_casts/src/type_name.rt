@@ -35,7 +35,7 @@ fn is_with(kind: &TokenKind) -> bool
     }
 }
 
-/// The tokens after WITH TIME ZONE or WITHOUT TIME ZONE, where that stands first.
+/// The tokens after WITH TIME ZONE or WITHOUT TIME ZONE, if they begin with that; else all of them.
 #[tactic(auto, unfolding(crate::specs::Types::past_zone))]
 fn past_zone(tokens: &[Token]) -> &[Token]
     ensures { result.now ≡ spec.past_zone tokens.now }
@@ -82,7 +82,7 @@ fn named_at<'t>(first: &Token, tokens: &'t [Token]) -> Option<(Kind, &'t [Token]
     }
 }
 
-/// The type at the start, which stands without a length or a number of places, and the tokens after it.
+/// The type at the start, which must have no length and no number of places, and the tokens after it.
 #[tactic(auto, unfolding(crate::specs::Types::type_at))]
 pub fn type_at(tokens: &[Token]) -> Option<(Kind, &[Token])>
     ensures { Finds found_rest result (spec.type_at tokens.now) }

@@ -1,6 +1,6 @@
-//! Goes over tokens from left to right, and writes what each operand with casts is.
+//! Goes over tokens from left to right, and writes the form of each operand with casts.
 //!
-//! The operand of a cast is walked in turn. It stands within fewer brackets than the whole, or is the operand of a CAST, and brackets are
+//! The operand of a cast is walked in turn. It is within fewer brackets than the whole, or is the operand of a CAST, and brackets are
 //! followed to 64 levels, so that `walk` is called within itself at most 130 times.
 
 ghost use Rattle.std.specs.Prelude.{◌≡◌, length, true, IfOk};
@@ -34,7 +34,7 @@ fn is_nothing(known: Known) -> bool
     matches!(known, Known::Nothing)
 }
 
-/// An operand with its casts, where each has an equation.
+/// An operand with its casts, if each cast has an equation.
 fn place_of<'t>(known: Known, term: Term<'t>) -> Option<Place<'t>>
     ensures { Finds place_seen result (spec.place_of known (term_seen term.entry)) }
 {
@@ -45,7 +45,7 @@ fn place_of<'t>(known: Known, term: Term<'t>) -> Option<Place<'t>>
     }
 }
 
-/// The operand with casts that begins here, where one may.
+/// The operand with casts that begins here, if one may begin here.
 #[tactic(auto, unfolding(crate::specs::Walked::place_at))]
 fn place_at<'t>(
     alloc: Global,
@@ -67,7 +67,7 @@ fn place_at<'t>(
     }
 }
 
-/// The cast of an operand.
+/// An operand with one cast written out.
 fn cast_once(operand: Vec<Token>, known: Known, cast: Cast) -> Result<Vec<Token>, RespellError>
     ensures { Makes (λ x. x.items) (λ x. x) result (equations.cast_tokens cast.at operand.items (equations.equation known cast.kind)) }
 {
@@ -82,7 +82,7 @@ fn cast_once(operand: Vec<Token>, known: Known, cast: Cast) -> Result<Vec<Token>
     }
 }
 
-/// The casts of an operand, one after the other.
+/// An operand with its casts written out, one after the other.
 #[tactic(auto, unfolding(crate::specs::Walked::cast_by))]
 fn cast_by(known: Known, casts: &[Cast], operand: Vec<Token>) -> Result<Vec<Token>, RespellError>
     ensures { Makes (λ x. x.items) (λ x. x) result (spec.cast_by known casts.now operand.items) }
@@ -118,7 +118,7 @@ fn begins_after(kind: &TokenKind) -> bool
     }
 }
 
-/// Writes an operand without casts, and its own casts.
+/// Writes an operand without the casts in it, and then its own casts.
 #[cycle(walk)]
 fn add_place(
     written: &mut Vec<Token>,
@@ -135,7 +135,7 @@ fn add_place(
     Ok(())
 }
 
-/// Writes what stands for what begins here, and says whether an operand may begin after it, and where that is.
+/// Writes the replacement of what begins here. Returns whether an operand may begin after it, and the tokens from there on.
 #[tactic(auto, unfolding(crate::specs::Walked::step))]
 #[cycle(walk)]
 fn step<'t>(
@@ -162,7 +162,7 @@ fn step<'t>(
     }
 }
 
-/// Writes tokens without casts.
+/// Writes tokens with their casts written out.
 #[cycle(walk)]
 fn walk(
     written: &mut Vec<Token>,
@@ -186,7 +186,7 @@ fn walk(
     Ok(())
 }
 
-/// The tokens without casts, where so much is known of names.
+/// The tokens with their casts written out, where this is known of names.
 fn walked_all(
     alloc: Global,
     kinds: &KnownKinds,
@@ -201,7 +201,7 @@ fn walked_all(
 
 /// The tokens of a masked query without its casts, as far as their equations are known by the statements that make its schema: a cast
 /// that keeps the value is left out, a text gets the word of its type, and a moment becomes its day or a day its first moment. What is
-/// added has the place of the cast's `::` or CAST. It refuses with `TooLong` where the result has more than 65,536 tokens.
+/// added has the place of the cast's `::` or CAST. The error is `TooLong` where the result has more than 65,536 tokens.
 #[tactic(auto, unfolding(crate::specs::Walked::without_casts))]
 pub fn without_casts(
     alloc: Global,

@@ -20,7 +20,7 @@ pub record IsCertainOf (certain : Certain) (tables : List TableRule) (plan : Pla
   pub fits : fits tables (plan_of certain.plan) ≡ true
   pub valid : IsValidCertificate tables (plan_of certain.plan) (certificate_of certain.certificate)
 
--- so of the plan that reads the texts of a schema and a query
+-- the simpler plan of the plan that reads the texts of a schema and a query, with a valid certificate
 abbrev pub IsCertain : List ℕ → List ℕ → Certain → Type 0
 IsCertain schema query certain = ForReading schema query (IsCertainOf certain)
 
@@ -32,6 +32,6 @@ IsOpenStill tables plan = (fits tables (simpler tables plan) ≡ false) ⊎ ((an
     IsOpen (Open reasons marks) = reasons.items ≢ []
     IsOpen (Certified certificate) = ⊥
 
--- why nothing is certified: a text is refused for what stands in it, or something stays open
+-- why nothing is certified: a text is refused for a cause that it has, or something stays open
 abbrev pub IsUncertain : List ℕ → List ℕ → Type 0
 IsUncertain schema query = ((refusal : TextError) × HasTextCause schema query refusal) ⊎ ForReading schema query IsOpenStill

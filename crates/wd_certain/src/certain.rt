@@ -1,4 +1,4 @@
-//! A query by its simpler plan.
+//! Certifies a query by its simpler plan.
 
 ghost use Rattle.std.specs.Prelude.{◌≡◌, true, None, IfErr, IfNone, IfOk, IfSome};
 ghost use Rattle.wd_accept.specs.Acceptance.{HaveOneAnswer};
@@ -24,11 +24,11 @@ pub struct Certain {
     pub certificate: Certificate,
 }
 
-/// Whether the query of a text has one answer over the schema of a text because its simpler plan has: then that plan, and the
+/// Whether the query of a text has one answer over the schema of a text because its simpler plan has one; if so, that plan and the
 /// certificate that says why. The simpler plan has the same nodes and the same choices, and under each of them the same outcome
 /// (wd_simpler).
 ///
-/// None where a text is refused, and where the simpler plan too leaves something open; that says nothing of the query.
+/// `None` where a text is refused, or where the simpler plan leaves something open too; that says nothing of the query.
 pub fn certify_simpler(
     alloc: Global,
     schema: &[u8],
@@ -46,7 +46,7 @@ pub fn certify_simpler(
     certified(alloc, planned)
 }
 
-/// Nothing is certified of texts that are refused.
+/// The answer for a text that is refused: nothing is certified.
 fn refused(error: TextError) -> Result<Option<Certain>, OutOfMemory>
     ensures none { IfOk result (λ o. o ≡ None) }
     ensures memory { IfErr result (λ _. text_number error ≡ None) }

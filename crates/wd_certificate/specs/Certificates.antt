@@ -13,7 +13,7 @@ pub record TraceRecord : Type 0 where
   pub from : List ℕ
   pub uses : List ℕ
 
--- what a kept fact gives, and the trace that reaches it
+-- what a kept fact determines, and the trace that reaches it
 pub record KeptRecord : Type 0 where
   pub to : List Target
   pub trace : ℕ

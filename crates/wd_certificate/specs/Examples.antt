@@ -11,7 +11,7 @@ use Rattle.wd_certificate.specs.declared.certificate.Version.TheVariants.{One, T
 abbrev pub trace : List ℕ → List ℕ → TraceRecord
 trace from uses = record { from = from; uses = uses }
 
--- the fact that trace 0 gives the row
+-- the fact that the columns of trace 0 determine the row
 abbrev pub keeps_row : KeptRecord
 keeps_row = record { to = target.Row ∷ []; trace = 0 }
 
@@ -28,7 +28,7 @@ numbered_by_key =
     ∷ node [] [] []
     ∷ []
 
--- it, of version 1
+-- these nodes as a certificate of version 1
 abbrev pub version_1 : CertificateRecord
 version_1 = record { nodes = numbered_by_key; version = One }
 

@@ -31,7 +31,7 @@ rule_word (rule.Unique t) = codes "unique"
 rule_word (rule.Values t) = codes "values"
 rule_word (rule.Exchange t) = codes "exchange"
 
--- the trace of a rule, which `peers` has not
+-- the trace of a rule, which `peers` does not have
 abbrev pub rule_trace : Rule → Option ℕ
 rule_trace rule.Peers = None
 rule_trace (rule.Unique t) = Some t
@@ -63,7 +63,7 @@ certificate_json version nodes = two_members_json (codes "nodes") (list_json nod
 abbrev pub certificate_text : CertificateRecord → List ℕ
 certificate_text certificate = compact_text (certificate_json (version_number certificate.version) certificate.nodes)
 
--- the bytes spell a certificate of the version with this number, be it read or not, with these nodes
+-- the bytes spell a certificate of the version with this number, whether it is read or not, with these nodes
 abbrev pub SpellsVersion : ℕ → List NodeRecord → List ℕ → Type 0
 SpellsVersion version nodes bytes = IsJsonOf (certificate_json version nodes) bytes
 

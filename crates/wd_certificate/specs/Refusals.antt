@@ -21,7 +21,7 @@ number_of (UnjustifiedLimit node) = Some 509
 number_of (OutOfRange node) = Some 510
 number_of OutOfMemory = None
 
--- the node at which 505 to 510 stand
+-- the node that 505 to 510 name
 abbrev pub place_of : CertError → Option ℕ
 place_of NotJson = None
 place_of Shape = None
@@ -35,8 +35,8 @@ place_of (UnjustifiedLimit node) = Some node
 place_of (OutOfRange node) = Some node
 place_of OutOfMemory = None
 
--- why a text is refused: it is no JSON; its JSON is of no certificate of any version; it spells a
--- certificate of another version than 1 and 2. What a certificate says of a plan refuses no text.
+-- why a text is refused: it is no JSON; its JSON is of no certificate of any version; it spells a certificate of another version than 1
+-- and 2. No text is refused for what its certificate says of a plan.
 abbrev pub HasCause : CertError → List ℕ → Type 0
 HasCause NotJson bytes = (d : Data) → ¬ IsJsonOf d bytes
 HasCause Shape bytes = (d : Data) × IsJsonOf d bytes × ((version : ℕ) (nodes : List NodeRecord) → d ≢ certificate_json version nodes)

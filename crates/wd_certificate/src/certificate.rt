@@ -2,7 +2,7 @@
 //! from 0; a number may be any `u64`, and whether it names something is for the check of the
 //! certificate against a plan.
 
-/// What a kept fact gives.
+/// What a kept fact determines.
 #[derive(Clone, Copy)]
 pub enum Target {
     /// A column of the node's output.
@@ -16,15 +16,15 @@ pub enum Target {
 pub struct Trace {
     /// The columns from which it starts.
     pub from: Vec<u64>,
-    /// The facts given at the node that it uses, in this order. Each must have its left side
-    /// reached, and reaches its right side.
+    /// The facts given at the node that it uses, in this order. When a fact is used, its left side must be reached; its right side is
+    /// reached from then on.
     pub uses: Vec<u64>,
 }
 
 /// A fact that a node keeps, which is given at the node above.
 #[derive(Drop)]
 pub struct Kept {
-    /// What the trace's columns give.
+    /// What the trace's columns determine.
     pub to: Vec<Target>,
     /// The number of the trace that reaches it, among the node's.
     pub trace: u64,
@@ -35,11 +35,11 @@ pub struct Kept {
 pub enum Rule {
     /// Rows that tie have one value.
     Peers,
-    /// The class's columns give the row.
+    /// The class's columns determine the row.
     Unique(u64),
-    /// The class's columns give the argument.
+    /// The class's columns determine the argument.
     Values(u64),
-    /// The class's columns give every column of the Window's input.
+    /// The class's columns determine every column of the Window's input.
     Exchange(u64),
 }
 
@@ -50,17 +50,17 @@ pub struct Node {
     pub calls: Vec<Rule>,
     /// The facts that it keeps, in the order in which they are given above.
     pub keep: Vec<Kept>,
-    /// The trace of a Limit that is justified by its sort keys.
+    /// The trace of a Limit that is justified by its sort keys; `None` at another node, or where another rule justifies it.
     pub limit: Option<u64>,
     pub traces: Vec<Trace>,
 }
 
-/// The version of a certificate, which says of which plans it may speak.
+/// The version of a certificate, which says for which plans the certificate may be made.
 #[derive(Clone, Copy)]
 pub enum Version {
-    /// Of plans without groups.
+    /// For plans without groups.
     One,
-    /// Of every plan.
+    /// For every plan.
     Two,
 }
 

@@ -7,14 +7,14 @@ ghost use Rattle.wd_certificate.specs.declared.error.CertError.TheVariants as er
 use thiserror::Error;
 use wd_value::OutOfMemory;
 
-/// A certificate's refusal: 501 to 503 of its text alone, 503 to 510 of it and a plan.
-/// A node is named by its number in postorder, from 0.
+/// A certificate's refusal: 501 to 503 for its text alone, 503 to 510 for the certificate and a plan. A node is named by its number in
+/// postorder, from 0.
 #[derive(Clone, Copy, Debug, Error)]
 pub enum CertError {
     /// 501: the text is no JSON in UTF-8, or nests more than 127 deep.
     #[error("not JSON")]
     NotJson,
-    /// 502: the JSON is that of no certificate of any version.
+    /// 502: the JSON does not have the form of a certificate of any version.
     #[error("not of the shape of a certificate")]
     Shape,
     /// 503: a certificate of another version than 1 and 2, or of version 1 for a plan that groups.
@@ -66,7 +66,7 @@ impl CertError {
         }
     }
 
-    /// The node that 505 to 510 name.
+    /// The node that 505 to 510 name; `None` for the others.
     pub fn place(&self) -> Option<u64>
         ensures { result ≡ place_of self.now }
     {

@@ -87,7 +87,7 @@ impl InJson for Kept {
     }
 }
 
-/// The rule with this word and this trace; `peers` alone has none.
+/// The rule with this word and this trace; only `peers` has no trace.
 fn rule_of_word(word: &str, trace: Option<u64>) -> Result<Rule, Misread>
     ensures ok { IfOk result (λ r. (word.now ≡ rule_word r) × (trace ≡ rule_trace r)) }
     ensures refused { IfErr result (λ e. (r : SpecRule) → word.now ≡ rule_word r → trace ≢ rule_trace r) }

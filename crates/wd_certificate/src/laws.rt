@@ -1,4 +1,4 @@
-//! Laws over the definitions, and what writing and reading a certificate give together.
+//! Laws over the definitions, and a round trip: a certificate that is written is read back.
 
 ghost use Rattle.std.specs.Prelude.{◌≡◌, IfOk, IfErr};
 ghost use Rattle.wd_certificate.specs.Certificates.{certificate_of};
@@ -26,7 +26,7 @@ pub fn example_texts()
     ensures { HaveExampleTexts }
 {}
 
-/// A certificate that is written and read again comes back, or memory is wanting.
+/// A certificate that is written and read again is unchanged, unless memory runs out.
 pub fn read_back(alloc: Global, certificate: &Certificate) -> Result<Certificate, CertError>
     ensures same { IfOk result (λ c. certificate_of c ≡ certificate_of certificate.now) }
     ensures memory { IfErr result (λ e. e ≡ error.OutOfMemory) }

@@ -53,10 +53,9 @@ fn version_of_number(number: u64) -> Option<Version>
     }
 }
 
-/// The certificate that a text spells. Members may stand in any order, with white space between
-/// them, and the last of equal ones counts, as RFC 8259 leaves open; a number is whole, from 0 to
-/// 2^64 - 1, and written in digits alone. Refused are, in this order, a text that is not JSON (501),
-/// JSON of another shape (502) and another version than 1 and 2 (503).
+/// The certificate that a text spells. Members may appear in any order, with white space between them, and the last of equal ones
+/// counts, as RFC 8259 leaves open; a number is whole, from 0 to 2^64 - 1, and written in digits alone. It refuses, in this order, a
+/// text that is not JSON (501), JSON of another shape (502) and another version than 1 and 2 (503).
 pub fn from_json(alloc: Global, bytes: &[u8]) -> Result<Certificate, CertError>
     ensures ok { IfOk result (λ c. Spells (certificate_of c) bytes.now) }
     ensures refused { IfErr result (λ e. HasCause e bytes.now) }

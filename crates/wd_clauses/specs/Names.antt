@@ -10,13 +10,13 @@ is_name (t.Word text) = true
 is_name (t.Quoted text) = true
 is_name _ = false
 
--- the bytes are that name
+-- whether a token is the name with these bytes
 abbrev pub is_named : List ℕ → TokenKind → Bool
 is_named bytes (t.Word text) = bytes_eq bytes text
 is_named bytes (t.Quoted text) = bytes_eq bytes text
 is_named bytes _ = false
 
--- two names are one: quoted or not, their bytes are the same
+-- whether two tokens are the same name: quoted or not, their bytes are the same
 abbrev pub is_same_name : TokenKind → TokenKind → Bool
 is_same_name (t.Word text) kind = is_named text kind
 is_same_name (t.Quoted text) kind = is_named text kind

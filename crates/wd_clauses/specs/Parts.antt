@@ -15,17 +15,17 @@ abbrev pub with_front : List Token → Parts → Parts
 with_front part None = None
 with_front part (Some parts) = Some (part ∷ parts)
 
--- the tokens behind the first, where there is one
+-- the tokens after the first, if there is one
 abbrev pub past_first : List Token → Option (List Token)
 past_first [] = None
 past_first (first ∷ tokens) = Some tokens
 
--- a part alone, or, where a comma stands behind it, with those behind that
+-- one part alone, or, where a comma follows it, this part and those after the comma
 abbrev pub with_further : (List Token → Parts) → List Token → Option (List Token) → Parts
 with_further further part None = Some (part ∷ [])
 with_further further part (Some tokens) = with_front part (further tokens)
 
--- part {, part}, at most so many
+-- part {, part}, at most the given number of parts
 unfoldable pub parts_at : ℕ → List Token → Parts
 parts_at zero tokens = None
 parts_at (suc more) tokens = with_further (parts_at more) (take (reach Comma tokens) tokens) (past_first (drop (reach Comma tokens) tokens))

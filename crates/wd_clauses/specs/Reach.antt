@@ -35,7 +35,7 @@ ends_items (t.Terminal m.From) = true
 ends_items (t.Terminal m.Distinct) = true
 ends_items _ = false
 
--- what begins a clause behind WHERE
+-- what begins a clause after WHERE
 abbrev pub begins_later : TokenKind → Bool
 begins_later (t.Terminal m.Group) = true
 begins_later (t.Terminal m.Having) = true
@@ -47,7 +47,7 @@ begins_later (t.Terminal m.Offset) = true
 begins_later (t.Terminal m.Fetch) = true
 begins_later _ = false
 
--- a part ends there
+-- whether a part that ends in this way ends at a token
 abbrev pub stops : Stop → TokenKind → Bool
 stops stop.Comma kind = is_comma kind
 stops stop.From kind = ends_items kind
@@ -60,17 +60,18 @@ depth_after depth (t.Terminal m.LeftBracket) = depth + 1
 depth_after depth (t.Terminal m.RightBracket) = depth - 1
 depth_after depth _ = depth
 
--- so many tokens and those that stand before the end of the part; so many brackets are open
+-- `count` tokens and those before the end of the part; `depth` brackets are open
 unfoldable pub reach_from : Stop → ℕ → ℕ → List Token → ℕ
 reach_from stop depth count [] = count
 reach_from stop depth count (token ∷ tokens) =
     if depth == 0 && (ends_level token.kind || stops stop token.kind) then count else reach_from stop (depth_after depth token.kind) (count + 1) tokens
 
--- how many tokens stand before the end of a part that begins with them
+-- how many tokens come before the end of a part that begins with them
 abbrev pub reach : Stop → List Token → ℕ
 reach stop tokens = reach_from stop 0 0 tokens
 
--- the place of the bracket that closes what holds these tokens, of which the first has that place; so many brackets are open
+-- the place of the bracket that closes the level of these tokens, of which the first has the place `place`; `depth` brackets are open
+-- within the level
 unfoldable pub closing_from : ℕ → ℕ → List Token → Option ℕ
 closing_from depth place [] = None
 closing_from depth place (token ∷ tokens) =

@@ -5,20 +5,20 @@ ghost use Rattle.wd_clauses.specs.Reach as spec;
 
 use wd_lex::{Terminal, Token, TokenKind};
 
-/// What ends a part of a query, beside the end of its level.
+/// What ends a part of a query, apart from the end of its level.
 #[derive(Clone, Copy, PartialEq, Eq)]
 pub enum Stop {
     /// A comma.
     Comma,
-    /// FROM or DISTINCT: the items of SELECT end with FROM, and IS DISTINCT FROM is none.
+    /// FROM, with which the items of SELECT end, or DISTINCT, so that they do not end with the FROM of IS DISTINCT FROM.
     From,
-    /// WHERE, or a word that begins a clause behind it: a FROM clause ends there.
+    /// WHERE, or a word that begins a clause after it: a FROM clause ends there.
     Clause,
-    /// A word that begins a clause behind WHERE.
+    /// A word that begins a clause after WHERE.
     Later,
 }
 
-/// Whether a bracket closes, or a semicolon stands there.
+/// Whether a token is a closing bracket or a semicolon.
 fn ends_level(kind: &TokenKind) -> bool
     ensures { result ≡ spec.ends_level kind.now }
 {
@@ -28,7 +28,7 @@ fn ends_level(kind: &TokenKind) -> bool
     )
 }
 
-/// Whether a word begins a clause behind WHERE.
+/// Whether a word begins a clause after WHERE.
 fn begins_later(kind: &TokenKind) -> bool
     ensures { result ≡ spec.begins_later kind.now }
 {
@@ -47,7 +47,7 @@ fn begins_later(kind: &TokenKind) -> bool
     )
 }
 
-/// Whether a part ends there, of those that end so.
+/// Whether a part that ends in this way ends at a token.
 fn stops(stop: Stop, kind: &TokenKind) -> bool
     ensures { result ≡ spec.stops stop kind.now }
 {
@@ -76,7 +76,7 @@ fn depth_after(depth: usize, kind: &TokenKind) -> usize
     }
 }
 
-/// How many tokens stand before the end of a part that begins with them.
+/// How many tokens come before the end of a part that begins with them.
 #[tactic(auto, unfolding(crate::specs::Reach::reach_from))]
 fn reach(stop: Stop, tokens: &[Token]) -> usize
     ensures length { result ≡ spec.reach stop tokens.now }
@@ -96,7 +96,7 @@ fn reach(stop: Stop, tokens: &[Token]) -> usize
     count
 }
 
-/// A part that begins with the tokens, and those behind it.
+/// The part that the tokens begin with, and the tokens after it.
 pub fn split(stop: Stop, tokens: &[Token]) -> (&[Token], &[Token])
     ensures part { result.0.now ≡ take (spec.reach stop tokens.now) tokens.now }
     ensures behind { result.1.now ≡ drop (spec.reach stop tokens.now) tokens.now }

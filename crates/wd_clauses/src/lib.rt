@@ -1,5 +1,5 @@
 //! Parts of queries, token by token, for equations that respell a query: how far a clause reaches (`level`), the parts of a list
-//! between commas (`list`), names (`name`), and tokens that are written behind others (`write`), at most 65,536 in all.
+//! between commas (`list`), names (`name`), and tokens that are appended to those written so far (`write`), at most 65,536 in all.
 #![tactic(auto)]
 
 mod error;

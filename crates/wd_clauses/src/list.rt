@@ -11,7 +11,7 @@ use wd_lex::Token;
 // The most parts of a list.
 const MOST_PARTS: usize = 256;
 
-/// The tokens behind the first, where there is one.
+/// The tokens after the first, if there is one.
 fn past_first(tokens: &[Token]) -> Option<&[Token]>
     ensures { Finds (λ r. r.now) result (spec.past_first tokens.now) }
 {

@@ -12,7 +12,7 @@ pub fn is_name(kind: &TokenKind) -> bool
     matches!(kind, TokenKind::Word(_) | TokenKind::Quoted(_))
 }
 
-/// Whether a token is that name.
+/// Whether a token is the name with these bytes.
 fn is_named(bytes: &[u8], kind: &TokenKind) -> bool
     ensures { result ≡ spec.is_named bytes.now kind.now }
 {
@@ -22,7 +22,7 @@ fn is_named(bytes: &[u8], kind: &TokenKind) -> bool
     }
 }
 
-/// Whether two tokens are one name.
+/// Whether two tokens are the same name.
 pub fn is_same_name(name: &TokenKind, kind: &TokenKind) -> bool
     ensures { result ≡ spec.is_same_name name.now kind.now }
 {

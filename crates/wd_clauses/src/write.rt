@@ -1,4 +1,4 @@
-//! Tokens that are written behind others, at most 65,536 in all.
+//! Appends tokens to those written so far, at most 65,536 in all.
 
 ghost use Rattle.std.specs.Prelude.{◌≡◌, ◌∷◌, [], IfOk};
 ghost use Rattle.wd_clauses.specs.Added as spec;
@@ -38,7 +38,7 @@ pub fn added(terminal: Terminal, word: &Token) -> Token
     }
 }
 
-/// Adds a token, if there is room for it; else the tokens stay as they are.
+/// Adds a token. The error is `TooLong` where there are 65,536 tokens already; the tokens then stay as they are.
 pub fn add(written: &mut Vec<Token>, token: Token) -> Result<(), RespellError>
     ensures { Writes written.old.items written.new.items result (token ∷ []) }
 {
@@ -49,7 +49,7 @@ pub fn add(written: &mut Vec<Token>, token: Token) -> Result<(), RespellError>
     Ok(())
 }
 
-/// Adds copies of tokens, where there is room for all.
+/// Adds copies of tokens. The error is `TooLong` where there is not room for all of them.
 pub fn add_all(written: &mut Vec<Token>, tokens: &[Token]) -> Result<(), RespellError>
     ensures { Writes written.old.items written.new.items result tokens.now }
 {
@@ -61,7 +61,7 @@ pub fn add_all(written: &mut Vec<Token>, tokens: &[Token]) -> Result<(), Respell
     Ok(())
 }
 
-/// Copies of tokens.
+/// Copies of tokens. The error is `TooLong` where there are more than 65,536.
 pub fn copied(alloc: Global, tokens: &[Token]) -> Result<Vec<Token>, RespellError>
     ensures { Makes (λ x. x.items) (λ x. x) result tokens.now }
 {

@@ -6,7 +6,7 @@ use Rattle.wd_step_facts.specs.Facts.{FactList, key_fact}
 use Rattle.wd_sets.specs.Sets.{stands_in}
 use Rattle.wd_close.specs.Closure.{IsClosure, steps_of}
 
--- of rows of four columns: 0 gives 1; 1 gives 2; 2 and 3 give the row
+-- of rows of four columns: 0 determines 1; 1 determines 2; 2 and 3 determine the row
 abbrev pub three_facts : FactList
 three_facts = record {
   columns = 4;
@@ -14,7 +14,7 @@ three_facts = record {
   list = key_fact (Column 1) (0 ∷ []) ∷ key_fact (Column 2) (1 ∷ []) ∷ key_fact Row (2 ∷ 3 ∷ []) ∷ [];
 }
 
--- of a Join's rows, 0 and 1 being the left side's columns and 2 the right side's: 0 gives the left side; 2 gives the right side
+-- of a Join's rows, 0 and 1 being the left side's columns and 2 the right side's: 0 determines the left side; 2 determines the right side
 abbrev pub joined : FactList
 joined = record {
   columns = 3;
@@ -22,7 +22,7 @@ joined = record {
   list = key_fact Left (0 ∷ []) ∷ key_fact Right (2 ∷ []) ∷ [];
 }
 
--- these columns give just these members, in so many steps
+-- these columns determine just these members, in this number of steps
 abbrev pub ComesOut : FactList → List ℕ → List Member → ℕ → Type 0
 ComesOut facts columns members steps = IsClosure facts columns (stands_in members) × (steps_of facts (stands_in members) ≡ steps)
 

@@ -36,7 +36,7 @@ abbrev pub with_sides : Option ℕ → List Member → List Member
 with_sides None q = q
 with_sides (Some split) q = added (added q Left) Right
 
--- what a reached member brings by itself
+-- the queue with what a reached member determines without any fact
 abbrev pub brought : FactList → List Member → Member → List Member
 brought facts q (Column c) = q
 brought facts q Left = with_left facts.split q
@@ -45,7 +45,7 @@ brought facts q Row = with_sides facts.split (all_added q (columns_between 0 fac
 
 -- ---- the counters
 
--- the counters of these facts fall
+-- the counters, with those of these facts decremented
 abbrev pub fallen : List ℕ → List ℕ → List ℕ
 fallen counters [] = counters
 fallen counters (i ∷ is) = fallen (set counters i (get_or counters i 0 - 1)) is
@@ -57,7 +57,7 @@ abbrev pub with_fact : List Member → Option Fact → List Member
 with_fact q None = q
 with_fact q (Some fact) = all_added q fact.to
 
--- a fact whose counter is at 0 gives its right side
+-- a fact whose counter is at 0 adds its right side
 abbrev pub fired_one : List Fact → List ℕ → List Member → ℕ → List Member
 fired_one list counters q i = if is_done counters i then with_fact q (slice_get list i) else q
 
@@ -65,7 +65,7 @@ abbrev pub fired : List Fact → List ℕ → List Member → List ℕ → List 
 fired list counters q [] = q
 fired list counters q (i ∷ is) = fired list counters (fired_one list counters q i) is
 
--- the uses of facts, with this one behind them where it reaches what was not reached yet
+-- the uses of facts, with this one appended where it reaches what was not reached yet
 abbrev pub used_one : List Fact → List ℕ → List Member → List ℕ → ℕ → List ℕ
 used_one list counters q uses i = if nat_lt (length q) (length (fired_one list counters q i)) then uses ++ i ∷ [] else uses
 
@@ -73,7 +73,7 @@ abbrev pub used : List Fact → List ℕ → List Member → List ℕ → List �
 used list counters q uses [] = uses
 used list counters q uses (i ∷ is) = used list counters (fired_one list counters q i) (used_one list counters q uses i) is
 
--- ---- the facts that stand with each member, at its place
+-- ---- the facts that watch each member, at the member's place
 
 abbrev pub is_number : Option ℕ → ℕ → Bool
 is_number None i = false
@@ -85,37 +85,37 @@ is_last list i = is_number (slice_get list (length list - 1)) i
 abbrev pub watched_one : List (List ℕ) → ℕ → Member → List (List ℕ)
 watched_one watchers i m = set watchers (place m) (get_or watchers (place m) [] ++ i ∷ [])
 
--- a fact stands with a member, once: it does already where it came last
+-- a fact watches a member, once: it does already where it is the last of the member's list
 abbrev pub watched_once : List (List ℕ) → ℕ → Member → List (List ℕ)
 watched_once watchers i m = if is_last (get_or watchers (place m) []) i then watchers else watched_one watchers i m
 
--- a fact stands with each of these members
+-- a fact watches each of these members
 abbrev pub watched_each : List (List ℕ) → ℕ → List Member → List (List ℕ)
 watched_each watchers i [] = watchers
 watched_each watchers i (m ∷ ms) = watched_each (watched_once watchers i m) i ms
 
--- with how many it did not yet
+-- how many of the members it did not watch yet
 abbrev pub count_new : List (List ℕ) → ℕ → List Member → ℕ
 count_new watchers i [] = 0
 count_new watchers i (m ∷ ms) = (if is_last (get_or watchers (place m) []) i then 0 else 1) + count_new (watched_once watchers i m) i ms
 
--- each fact, from this number on, stands with the members of its left side
+-- each fact, from this number on, watches the members of its left side
 abbrev pub watched : List (List ℕ) → ℕ → List Fact → List (List ℕ)
 watched watchers i [] = watchers
 watched watchers i (fact ∷ facts) = watched (watched_each watchers i fact.from) (i + 1) facts
 
--- with how many each does
+-- how many members each fact watches
 abbrev pub counted : List (List ℕ) → ℕ → List Fact → List ℕ
 counted watchers i [] = []
 counted watchers i (fact ∷ facts) = count_new watchers i fact.from ∷ counted (watched_each watchers i fact.from) (i + 1) facts
 
--- the facts that stand with the member at a place of the queue
+-- the facts that watch the member at a place of the queue
 abbrev pub watching : List (List ℕ) → List Member → ℕ → List ℕ
 watching watchers q k = get_or watchers (place (get_or q k Row)) []
 
 -- ---- facts made ready
 
--- of facts that name what they may: which stand with each member, how many members each waits for, and which wait for none
+-- for facts that name what they may: which watch each member, how many members each waits for, and which wait for none
 pub record AreReady (facts : FactList) (watchers : List (List ℕ)) (counters ready : List ℕ) : Type 0 where
   pub split : is_split_within facts.split facts.columns ≡ true
   pub named : are_named facts ≡ true

@@ -12,19 +12,18 @@ use wd_facts::Facts;
 use wd_sets::Set;
 use wd_value::OutOfMemory;
 
-/// What columns give, and the facts that show it.
+/// What columns determine, and the facts that show it.
 #[derive(Drop)]
 pub struct Derived {
-    /// What the columns give.
+    /// What the columns determine.
     pub set: Set,
-    /// The numbers of the facts, in the order in which they are used: each one's left side is
-    /// reached by then, and its right side thereby.
+    /// The numbers of the facts, in the order in which they are used: when a fact is used its left side is reached, and its right side
+    /// is reached by the use.
     pub uses: Vec<u64>,
 }
 
-/// What columns give by facts, as `closure` says, and in how many steps. A step is one fall of the
-/// counter of a fact, which counts the different members of its left side that are not reached yet,
-/// or one member taken from the queue of those that are.
+/// What columns determine by facts, as `closure` says, and the number of steps. A step is one decrement of a fact's counter, which
+/// counts the different members of its left side that are not reached yet, or the taking of one reached member from the queue.
 ///
 /// # Errors
 /// Where memory runs out.
@@ -44,8 +43,7 @@ pub fn closure_counted(
     Ok((set, steps))
 }
 
-/// What columns give by facts, as `closure` says, and the facts that show it. None is named that
-/// reaches nothing new.
+/// What columns determine by facts, as `closure` says, and the facts that show it. No fact is named that reaches nothing new.
 ///
 /// # Errors
 /// Where memory runs out.
@@ -65,10 +63,9 @@ pub fn closure_derived(
     Ok(derived)
 }
 
-/// What columns give by facts: each column, each side of a Join and the row that they give in all
-/// rows in which the facts hold. The facts name columns below their number of columns, the sides
-/// only where they have a split, which is at most that number, and the row; the columns handed over
-/// are below it too.
+/// What columns determine by facts: each column, each side of a Join and the row that they determine in all rows in which the facts
+/// hold. The facts name columns below their number of columns, the sides only where they have a split, which is at most that number,
+/// and the row; the columns passed in are below it too.
 ///
 /// # Errors
 /// Where memory runs out.

@@ -12,7 +12,7 @@ use wd_facts::{Given, Member};
 use wd_sets::Set;
 use wd_value::OutOfMemory;
 
-/// The counters of these facts fall.
+/// Decrements the counters of these facts.
 #[tactic(auto, using(std::proofs::lemmas::List::set_past))]
 pub(crate) fn fall(counters: &mut [usize], watchers: &[usize])
     ensures { counters.new ≡ spec.fallen counters.old watchers.now }
@@ -86,7 +86,7 @@ fn use_one(
     Ok(())
 }
 
-/// Those of these facts whose counters are at 0 give their right sides.
+/// Uses those of these facts whose counters are at 0: their right sides are reached.
 pub(crate) fn fire(
     list: &[Given],
     counters: &[usize],

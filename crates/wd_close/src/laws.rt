@@ -2,7 +2,7 @@
 
 ghost use Rattle.wd_close.specs.Examples.{ClosuresComeOut};
 
-/// What some columns give by three facts, and in how many steps.
+/// What some columns determine by three facts, and in how many steps.
 pub fn closures_come_out()
     ensures { ClosuresComeOut }
 {}

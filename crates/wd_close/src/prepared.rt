@@ -19,7 +19,7 @@ use wd_facts::{Facts, Member};
 use wd_sets::Set;
 use wd_value::OutOfMemory;
 
-/// What columns give, the facts that show it, and how many steps it took.
+/// What columns determine, the facts that show it, and how many steps it took.
 #[derive(Drop)]
 pub(crate) struct Closing {
     pub(crate) set: Set,
@@ -27,7 +27,7 @@ pub(crate) struct Closing {
     pub(crate) steps: u128,
 }
 
-/// Takes a member from the queue; how many counters fell.
+/// Takes a member from the queue. Returns how many counters were decremented.
 fn take_one(
     facts: &Facts,
     watchers: &[Vec<usize>],
@@ -58,11 +58,11 @@ fn take_one(
 #[derive(Drop)]
 pub struct Prepared<'a> {
     facts: &'a Facts,
-    /// For each member, the facts in whose left sides it stands.
+    /// For each member, the facts whose left sides have it.
     watchers: Vec<Vec<usize>>,
     /// For each fact, how many members its left side has.
     counters: Vec<usize>,
-    /// The facts whose left sides have none.
+    /// The facts whose left sides are empty.
     ready: Vec<usize>,
 }
 
@@ -75,7 +75,7 @@ impl<'a> Model for Prepared<'a> {
 }
 
 impl<'a> Prepared<'a> {
-    /// Makes facts ready. They name what `closure` says.
+    /// Makes facts ready. They name only what `closure` allows.
     ///
     /// # Errors
     /// Where memory runs out.
@@ -95,7 +95,7 @@ impl<'a> Prepared<'a> {
         })
     }
 
-    /// What the columns give, and the facts that show it, as `closure_derived` says.
+    /// What the columns determine, and the facts that show it, as `closure_derived` says.
     ///
     /// # Errors
     /// Where memory runs out.

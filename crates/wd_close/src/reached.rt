@@ -1,4 +1,4 @@
-//! The queue of reached members, each of which stands in it once, as the bits of a set tell.
+//! The queue of reached members, each of which is in it once; a set tells which are.
 
 ghost use Rattle.std.specs.Prelude.{◌≡◌, IfOk};
 ghost use Rattle.wd_step_facts.specs.Facts.{facts_of, columns_named};
@@ -83,7 +83,7 @@ fn add_row_with(set: &mut Set, queue: &mut Vec<Member>, other: Member) -> Result
     Ok(())
 }
 
-/// Reaches what the left side brings.
+/// Reaches what the left side determines.
 fn add_left(split: Option<u16>, set: &mut Set, queue: &mut Vec<Member>) -> Result<(), OutOfMemory>
     requires mirrors { Mirrors set.old queue.old.items }
     ensures mirrors { IfOk result (λ _. Mirrors set.new queue.new.items) }
@@ -99,7 +99,7 @@ fn add_left(split: Option<u16>, set: &mut Set, queue: &mut Vec<Member>) -> Resul
     }
 }
 
-/// Reaches what the right side brings.
+/// Reaches what the right side determines.
 fn add_right(
     split: Option<u16>,
     columns: u16,
@@ -136,7 +136,7 @@ fn add_sides(split: Option<u16>, set: &mut Set, queue: &mut Vec<Member>) -> Resu
     }
 }
 
-/// Reaches what a reached member brings by itself.
+/// Reaches what a reached member determines without any fact.
 pub(crate) fn bring(
     facts: &Facts,
     set: &mut Set,

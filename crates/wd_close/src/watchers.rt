@@ -1,4 +1,4 @@
-//! For each member, the facts in whose left sides it stands.
+//! For each member, the facts whose left sides have it.
 
 ghost use Rattle.std.specs.Prelude.{◌≡◌, [], map, get_or, replicate, vec_items, IfOk};
 ghost use Rattle.wd_step_facts.specs.Facts.{fact_of};
@@ -10,7 +10,7 @@ use wd_facts::{Given, Member};
 use wd_sets::place;
 use wd_value::OutOfMemory;
 
-/// The facts that stand with a member.
+/// The facts that watch a member.
 pub(crate) fn watchers_of(watchers: &[Vec<usize>], member: Member) -> &[usize]
     ensures { result.now ≡ get_or (map vec_items watchers.now) (place_of member) [] }
 {
@@ -20,7 +20,7 @@ pub(crate) fn watchers_of(watchers: &[Vec<usize>], member: Member) -> &[usize]
     }
 }
 
-/// Whether a fact came last.
+/// Whether a fact is the last of a list.
 fn is_last(list: &[usize], fact: usize) -> bool
     ensures { result ≡ spec.is_last list.now fact }
 {
@@ -30,7 +30,7 @@ fn is_last(list: &[usize], fact: usize) -> bool
     }
 }
 
-/// A fact stands with a member.
+/// Makes a fact watch a member.
 #[tactic(auto, using(std::proofs::lemmas::List::set_past))]
 fn watch(watchers: &mut Vec<Vec<usize>>, fact: usize, member: Member) -> Result<(), OutOfMemory>
     ensures { IfOk result (λ _. map vec_items watchers.new.items ≡ spec.watched_one (map vec_items watchers.old.items) fact member) }
@@ -42,7 +42,7 @@ fn watch(watchers: &mut Vec<Vec<usize>>, fact: usize, member: Member) -> Result<
     Ok(())
 }
 
-/// A fact stands with each of these members, once; with how many it did not yet.
+/// Makes a fact watch each of these members, once. Returns how many it did not watch yet.
 fn watch_each(
     watchers: &mut Vec<Vec<usize>>,
     fact: usize,
@@ -72,7 +72,7 @@ pub(crate) fn empties(alloc: Global, count: usize) -> Result<Vec<Vec<usize>>, Ou
     Ok(list)
 }
 
-/// Each fact stands with the members of its left side; how many these are.
+/// Makes each fact watch the members of its left side. Returns how many members each watches.
 pub(crate) fn watch_all(
     alloc: Global,
     list: &[Given],

@@ -12,11 +12,11 @@ use Rattle.wd_command.specs.declared.words.Request.TheVariants as request
 
 -- ---- the commands, in the words of `clap`
 
--- a positional word that is wanted
+-- a positional word that is required
 abbrev pub wanted : List ℕ → Rule
 wanted id = record (new_rule id) { required = true; value_names = 1 }
 
--- positional words, as many as there are
+-- any number of positional words
 abbrev pub any_number : List ℕ → Rule
 any_number id = record (new_rule id) { range = Some (record { start_inclusive = 0; end_inclusive = usize_max }); value_names = 1 }
 
@@ -40,7 +40,7 @@ tables_command name = with_rule (paths_command name) (any_number (codes "tables"
 abbrev pub with_list : App → App
 with_list command = with_rule command (flag (codes "list"))
 
--- the program's name, where a command is wanted after it
+-- the program's name, after which a command is required
 abbrev pub program : App
 program = on_top (λ top. record top { no_binary_name = true; subcommand_required = true }) (new_app (codes "wdcheck"))
 
@@ -58,11 +58,11 @@ command_line = fold (λ above command. with_subcommand above command.top) progra
 abbrev pub two_paths : List Row → Option (List ℕ × List ℕ)
 two_paths rows = option_and_then (λ schema. option_map (λ query. (schema, query)) (first_of (codes "query") rows)) (first_of (codes "schema") rows)
 
--- these, and the path of one more file
+-- the paths of a schema and a query, and the path of one more file
 abbrev pub three_paths : List Row → Option (List ℕ × List ℕ × List ℕ)
 three_paths rows = option_and_then (λ file. option_map (λ paths. (paths.0, paths.1, file)) (two_paths rows)) (first_of (codes "file") rows)
 
--- the flag `--list` was given
+-- whether the flag `--list` was given
 abbrev pub is_listed : List Row → Bool
 is_listed rows = option_map_or (λ text. bytes_eq text (codes "true")) (one_of (codes "list") rows) false
 
@@ -77,7 +77,7 @@ check_of listed paths = if listed then CheckList paths.0 paths.1 else Check path
 abbrev pub verify_of : Bool → List ℕ × List ℕ × List ℕ → Asked
 verify_of listed paths = if listed then VerifyList paths.0 paths.1 paths.2 else Verify paths.0 paths.1 paths.2
 
--- what is asked for by a command's name and what stands after it
+-- what is asked for by a command's name and what follows it
 abbrev pub asked_after : List ℕ → List Row → Option Asked
 asked_after name rows = if bytes_eq name (codes "check") then option_map (check_of (is_listed rows)) (two_paths rows)
     else (if bytes_eq name (codes "explain") then option_map (λ paths. Explain paths.0 paths.1) (two_paths rows)

@@ -1,4 +1,4 @@
--- What the program's output is, for the words of its command line and the files that it was handed.
+-- What the program's output is, for the words of its command line and the files that were supplied to it.
 use Rattle.std.specs.Prelude.{◌≡◌, ℕ, List, [], ◌∷◌, ◌++◌, map, codes, drop, slice_index_or, Ok, Err}
 use Rattle.wd_value.specs.Rows.{Row}
 use Rattle.wd_value.specs.declared.value.Fault.{Fault}
@@ -19,7 +19,7 @@ use Rattle.wd_command.specs.CommandLine.{AskFor}
 use Rattle.wd_command.specs.Files.{File}
 use Rattle.wd_command.specs.Words.{Task, Check, CheckList, Explain, Verify, VerifyList, Refute, Run, paths_of}
 
--- the forms of the command line, one a line
+-- the forms of the command line, one on each line
 abbrev pub usage_text : List ℕ
 usage_text = line (codes "wdcheck check [--list] SCHEMA QUERY") ++ line (codes "wdcheck explain SCHEMA QUERY")
     ++ line (codes "wdcheck verify [--list] SCHEMA QUERY CERT") ++ line (codes "wdcheck refute SCHEMA QUERY WITNESS")
@@ -37,7 +37,7 @@ data_in (t ∷ tables) (f ∷ files) = (t.0, f.1) ∷ data_in tables files
 
 -- ---- answers
 
--- the text of an answer to a query over data
+-- the text is that of an answer to a query over data
 pub record IsAnswerText (schema query : List ℕ) (given : List (List ℕ × List ℕ)) (text : List ℕ) : Type 0 where
   pub names : List (List ℕ)
   pub rows : List Row
@@ -53,11 +53,11 @@ pub record HasFault (schema query : List ℕ) (given : List (List ℕ × List �
 abbrev pub AnswersCheck : List File → List ℕ → ℕ → Type 0
 AnswersCheck files text status = (verdict : Verdict) × IsVerdict (text_at files 0) (text_at files 1) verdict × (text ≡ verdict_text verdict) × (status ≡ verdict_status verdict)
 
--- and what `check --list` prints
+-- what `check --list` prints for the files of a schema and a query, and its exit status
 abbrev pub AnswersCheckList : List File → List ℕ → ℕ → Type 0
 AnswersCheckList files text status = (verdict : ListVerdict) × IsListVerdict (text_at files 0) (text_at files 1) verdict × (text ≡ list_text verdict) × (status ≡ list_status verdict)
 
--- what `explain` prints for them
+-- what `explain` prints for the files of a schema and a query
 abbrev pub AnswersExplain : List File → List ℕ → ℕ → Type 0
 AnswersExplain files text status = (examined : Examined) × IsExamined (text_at files 0) (text_at files 1) examined × Explains examined text status
 
@@ -65,7 +65,7 @@ AnswersExplain files text status = (examined : Examined) × IsExamined (text_at 
 abbrev pub AnswersVerify : List File → List ℕ → ℕ → Type 0
 AnswersVerify files text status = IsAccepted (text_at files 0) (text_at files 1) (text_at files 2) × (text ≡ line (codes "ACCEPTED")) × (status ≡ 0)
 
--- and what `verify --list` prints
+-- what `verify --list` prints for these files
 abbrev pub AnswersVerifyList : List File → List ℕ → ℕ → Type 0
 AnswersVerifyList files text status = IsListAccepted (text_at files 0) (text_at files 1) (text_at files 2) × (text ≡ line (codes "ACCEPTED")) × (status ≡ 0)
 
@@ -89,14 +89,14 @@ HasAnswer (Run schema query tables) files text status = AnswersRun tables files 
 
 -- ---- outputs
 
--- the output for the words of a task, when these files were handed over
+-- the output for the words of a task, when these files were supplied
 pub record IsTaskOutput (words : List (List ℕ)) (files : List File) (text : List ℕ) (status : ℕ) : Type 0 where
   pub task : Task
   pub asked : AskFor words task
   pub named : map (λ f. f.0) files ≡ paths_of task
   pub answered : HasAnswer task files text status
 
--- the output for the words, when these files were handed over: without words the forms of the command line
+-- the output for the words, when these files were supplied; without words it is the forms of the command line
 abbrev pub IsOutput : List (List ℕ) → List File → List ℕ → ℕ → Type 0
 IsOutput [] files text status = (files ≡ []) × (text ≡ usage_text) × (status ≡ 0)
 IsOutput (word ∷ words) files text status = IsTaskOutput (word ∷ words) files text status

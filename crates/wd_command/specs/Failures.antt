@@ -1,4 +1,4 @@
--- Why the program ends without its output: the exit status, the line on standard error, and what stands after it.
+-- Why the program ends without its output: the exit status, the line on standard error, and what holds after a failure.
 use Rattle.std.specs.Prelude.{◌≡◌, ◌≢◌, ℕ, ⊤, List, [], ◌++◌, codes, drop, map, Any, Option, Some, None, IfSome}
 use Rattle.std.specs.Fmt.{decimal}
 use Rattle.clap.specs.Values.{kind_of}
@@ -70,7 +70,7 @@ abbrev pub fault_line : QueryFault → List ℕ
 fault_line DivisionByZero = line (codes "fault F1: division by zero")
 fault_line OutOfRange = line (codes "fault F2: out of range")
 
--- the line on standard error; a fault of the command line has the text of `clap` in its place
+-- the line on standard error; a fault of the command line has the text of `clap` instead
 abbrev pub line_of : Failure → Option (List ℕ)
 line_of (CommandLine error) = None
 line_of NotText = Some (line (codes "error: invalid UTF-8 was detected in one or more arguments"))
@@ -87,7 +87,7 @@ Shows err err_after failure = IfSome (line_of failure) (AppendsPart err err_afte
 
 -- ---- refusals
 
--- what a refusal says: the input that it is about, its number and its place; without a number memory is wanting
+-- what a refusal says: the input that it is about, its number and its place; without a number memory runs out
 abbrev pub Says : Input → Option ℕ → Option ℕ → Failure → Type 0
 Says input number place (Refused refusal) = (refusal.input ≡ input) × (Some refusal.number ≡ number) × (refusal.place ≡ place)
 Says input number place OutOfMemory = ⊤
@@ -98,7 +98,7 @@ abbrev pub text_input : TextError → Input
 text_input (text.Schema error) = input.Schema
 text_input (text.Query error) = input.Query
 
--- or a run's refusal
+-- the input that a run's refusal is about
 abbrev pub run_input : RunError → Input
 run_input (run.Texts error) = text_input error
 run_input (run.Given name) = input.Data name
@@ -106,19 +106,19 @@ run_input (run.Data name error) = input.Data name
 run_input (run.Evaluation error) = input.Run
 run_input run.OutOfMemory = input.Run
 
--- or that of a certificate
+-- the input that a refusal of a certificate is about
 abbrev pub verify_input : VerifyError → Input
 verify_input (verify.Texts error) = text_input error
 verify_input (verify.Certificate error) = input.Certificate
 verify_input verify.Unlisted = input.Certificate
 
--- or that of a witness; 802 is about the run
+-- the input that a refusal of a witness is about; 802 is about the run
 abbrev pub witness_input : WitnessError → Input
 witness_input (refute.Texts error) = text_input error
 witness_input (refute.Witness witness_refusal.TooManyRows) = input.Run
 witness_input (refute.Witness refusal) = input.Witness
 
--- or a refusal of `check` and `explain`
+-- the input that a refusal of `check` and `explain` is about
 abbrev pub decide_input : DecideError → Input
 decide_input (decide.Texts error) = text_input error
 decide_input decide.OutOfMemory = input.Run
@@ -127,45 +127,45 @@ decide_input decide.OutOfMemory = input.Run
 abbrev pub IsDecideRefusal : DecideError → Failure → Type 0
 IsDecideRefusal error failure = Says (decide_input error) (verdicts.decide_number error) (verdicts.decide_place error) failure
 
--- or of a run
+-- the failure is that of a refusal of a run
 abbrev pub IsRunRefusal : RunError → Failure → Type 0
 IsRunRefusal error failure = Says (run_input error) (runs.run_number error) (runs.run_place error) failure
 
--- or of a certificate
+-- the failure is that of a refusal of a certificate
 abbrev pub IsVerifyRefusal : VerifyError → Failure → Type 0
 IsVerifyRefusal error failure = Says (verify_input error) (acceptance.verify_number error) (acceptance.verify_place error) failure
 
--- or of a witness
+-- the failure is that of a refusal of a witness
 abbrev pub IsWitnessRefusal : WitnessError → Failure → Type 0
 IsWitnessRefusal error failure = Says (witness_input error) (refutation.number_of error) (refutation.place_of error) failure
 
--- ---- what stands after a failure
+-- ---- what holds after a failure
 
--- `clap` refuses the words, or memory is wanting
+-- `clap` refuses the words, or memory runs out
 abbrev pub IsFaultOfWords : Error → Failure → Type 0
 IsFaultOfWords fault (CommandLine error) = kind_of fault ≢ kind.OutOfMemory
 IsFaultOfWords fault OutOfMemory = ⊤
 IsFaultOfWords fault failure = ⊥
 
--- a word is no text, or memory is wanting
+-- a word is no text, or memory runs out
 abbrev pub IsOfArguments : Failure → Type 0
 IsOfArguments NotText = ⊤
 IsOfArguments OutOfMemory = ⊤
 IsOfArguments failure = ⊥
 
--- one of the words has no `=`, or memory is wanting
+-- one of the words has no `=`, or memory runs out
 abbrev pub IsUncut : List (List ℕ) → Failure → Type 0
 IsUncut words (Unassigned word) = HasNoEquals word.now × Any (λ w. w ≡ word.now) words
 IsUncut words OutOfMemory = ⊤
 IsUncut words failure = ⊥
 
--- one read failed, of a path that comes next so after the files that were handed over, or memory is wanting
+-- one read failed, of a path that comes next after the files that were supplied, or memory runs out
 abbrev pub IsUnread : (List File → List ℕ → Type 0) → Reads → Reads → Failure → Type 0
 IsUnread IsNext before after (CannotRead path) = StopsAt IsNext before after path.now
 IsUnread IsNext before after OutOfMemory = ⊤
 IsUnread IsNext before after failure = ⊥
 
--- there is a refusal, for a cause that stands in the files, or memory is wanting
+-- there is a refusal, for a cause that the files have, or memory runs out
 abbrev pub IsRefusalBy : {E : Type 0} → (E → Type 0) → (E → Failure → Type 0) → Failure → Type 0
 IsRefusalBy {E = E} HasCause IsRefusal (Refused refusal) = (error : E) × HasCause error × IsRefusal error (Refused refusal)
 IsRefusalBy HasCause IsRefusal OutOfMemory = ⊤
@@ -179,7 +179,7 @@ FailsDecide files failure = IsRefusalBy (verdicts.HasCause (text_at files 0) (te
 abbrev pub FailsVerify : List File → Failure → Type 0
 FailsVerify files failure = IsRefusalBy (acceptance.HasCause (text_at files 0) (text_at files 1) (text_at files 2)) IsVerifyRefusal failure
 
--- and `verify --list` over them
+-- `verify --list` over these files is refused
 abbrev pub FailsVerifyList : List File → Failure → Type 0
 FailsVerifyList files failure = IsRefusalBy (lists.HasListCause (text_at files 0) (text_at files 1) (text_at files 2)) IsVerifyRefusal failure
 
@@ -202,7 +202,7 @@ IsUnanswered (VerifyList schema query certificate) files failure = FailsVerifyLi
 IsUnanswered (Refute schema query witness) files failure = FailsRefute files failure
 IsUnanswered (Run schema query tables) files failure = FailsRun tables files failure
 
--- the files that the words ask for were read, and the failure comes of them
+-- the files that the words ask for were read, and the failure is about their contents
 pub record ComesOfFiles (words : List (List ℕ)) (before after : Reads) (failure : Failure) : Type 0 where
   pub task : Task
   pub files : List File
@@ -215,13 +215,13 @@ pub record ComesOfFiles (words : List (List ℕ)) (before after : Reads) (failur
 abbrev pub AskNext : List (List ℕ) → List File → List ℕ → Type 0
 AskNext words files path = (task : Task) × AskFor words task × StandsNext (paths_of task) files path
 
--- the word stands in the place of NAME=PATH in the words of `run`
+-- the word has the place of NAME=PATH in the words of `run`
 abbrev pub IsTableWord : List (List ℕ) → List ℕ → Type 0
 IsTableWord words word = (schema query : List ℕ) × (tables : List (List ℕ)) × AreWordsOf words (Run schema query tables) × Any (λ w. w ≡ word) tables
 
--- The reason of a failure to make the output. A fault of the command line and a word without an `=` come before any file is read. A file cannot be read only
--- where one read failed, of a path that the words ask for; what was handed over is what the words before that one ask for. A refusal and a fault come of the
--- files.
+-- The reason of a failure to make the output. A fault of the command line and a word without an `=` come before any file is read.
+-- `CannotRead` means that one read failed, of a path that the words ask for, and that exactly the files that the words ask for before
+-- that one were supplied. A refusal or a fault is about the files' contents.
 abbrev pub HasReason : List (List ℕ) → Reads → Reads → Failure → Type 0
 HasReason words before after (CommandLine error) = AreOtherWords words × ReadsNothing before after
 HasReason words before after NotText = ⊥

@@ -14,7 +14,7 @@ file_at files i = slice_index_or files i ([], [])
 abbrev pub failures_of : MemoryFiles → ℕ
 failures_of files = files.failures
 
--- the files that were handed over, in their order
+-- the files that were supplied, in their order
 abbrev pub handed_of : MemoryFiles → List File
 handed_of files = map (file_at (data_of files.files.now)) files.handed.items
 
@@ -26,6 +26,6 @@ files_of files = data_of files.files.now
 abbrev pub reads_left : MemoryFiles → Option ℕ
 reads_left files = files.until_failure
 
--- the number of the first file at the path that is no longer than may be read
+-- the number of the first file at the path that is not longer than `MOST_BYTES`
 abbrev pub first_at : List ℕ → List (Bor (List ℕ) × Bor (List ℕ)) → Option ℕ
 first_at path given = position (λ g. bytes_eq g.0.now path && nat_le (length g.1.now) MOST_BYTES) given

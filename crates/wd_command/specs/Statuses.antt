@@ -8,7 +8,7 @@ use Rattle.wd_command.specs.Streams.{AppendsPart}
 use Rattle.wd_command.specs.declared.failure.Failure.{Failure}
 use Rattle.wd_command.specs.declared.failure.Failure.TheVariants.{CannotWrite}
 
--- the world of the program: what was read, and what stands on standard output and on standard error, each where it is told
+-- the world of the program: what was read, and what was written on standard output and on standard error, each where it is known
 pub record World : Type 0 where
   pub reads : Reads
   pub out : Option (List ℕ)
@@ -17,7 +17,7 @@ pub record World : Type 0 where
 abbrev pub world : Option (List File) → ℕ → Option (List ℕ) → Option (List ℕ) → World
 world handed failures out err = record { reads = record { handed = handed; failures = failures }; out = out; err = err }
 
--- the output of the words, over the files that were handed over, of which this was written
+-- the output of the words, over the files that were supplied, was made, and this part of it was written
 pub record Writes (words : List (List ℕ)) (before after : Reads) (IsWritten : List ℕ → Type 0) (status : ℕ) : Type 0 where
   pub files : List File
   pub text : List ℕ
@@ -38,7 +38,7 @@ abbrev pub IsEnding : List (List ℕ) → Reads → Reads → Option (List ℕ) 
 IsEnding words before after out out_after CannotWrite = (status : ℕ) × Writes words before after (AppendsPart out out_after) status
 IsEnding words before after out out_after failure = HasReason words before after failure × Keeps out out_after
 
--- the program ended with the status of a failure, whose line stands on standard error
+-- the program ended with the status of a failure, whose line is on standard error
 pub record Fails (words : List (List ℕ)) (before after : World) (status : ℕ) : Type 0 where
   pub failure : Failure
   pub ends : status ≡ status_of failure

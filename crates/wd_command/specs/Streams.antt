@@ -1,4 +1,4 @@
--- What stands on a stream after a write that may have failed.
+-- What is on a stream after a write that may have failed.
 use Rattle.std.specs.Prelude.{ℕ, List, take, Option}
 use Rattle.std.specs.Fmt.{decimal}
 use Rattle.std.specs.Io.KnownBytes.{Appends}

@@ -12,7 +12,7 @@ IsPlain (byte ∷ rest) = byte ≢ 45
 abbrev pub word_of : List ℕ → List ℕ → List ℕ
 word_of name path = name ++ 61 ∷ path
 
--- the text has no `=`, so that it is what stands before the first one
+-- the text has no `=`, as what comes before the first `=` of a word
 abbrev pub HasNoEquals : List ℕ → Type 0
 HasNoEquals text = ¬ (Contains text 61)
 
@@ -23,7 +23,7 @@ pub record AreCut (words : List (List ℕ)) (assignments : List Assignment) : Ty
 
 -- ---- tasks
 
--- what is asked of the program: a command and the paths that it names; at `run` also tables, each told as a T
+-- what is asked of the program: a command and the paths that it names; at `run` also tables, each given as a T
 pub data TaskOf (T : Type 0) : Type 0 where
   Check : (schema query : List ℕ) → TaskOf T
   CheckList : (schema query : List ℕ) → TaskOf T
@@ -33,20 +33,20 @@ pub data TaskOf (T : Type 0) : Type 0 where
   Refute : (schema query witness : List ℕ) → TaskOf T
   Run : (schema query : List ℕ) (tables : List T) → TaskOf T
 
--- as the words ask for it: a table is a word NAME=PATH
+-- a task as the words ask for it: a table is a word NAME=PATH
 abbrev pub Asked : Type 0
 Asked = TaskOf (List ℕ)
 
--- as it is done: a table is a name with a path
+-- a task as it is done: a table is a name with a path
 abbrev pub Task : Type 0
 Task = TaskOf (List ℕ × List ℕ)
 
--- the tables
+-- the tables of a task
 abbrev pub tables_of : {T : Type 0} → TaskOf T → List T
 tables_of (Run schema query tables) = tables
 tables_of task = []
 
--- the same, with each table told otherwise
+-- a task with each table mapped by f
 abbrev pub with_tables : {T U : Type 0} → (T → U) → TaskOf T → TaskOf U
 with_tables f (Check schema query) = Check schema query
 with_tables f (CheckList schema query) = CheckList schema query
@@ -56,17 +56,17 @@ with_tables f (VerifyList schema query certificate) = VerifyList schema query ce
 with_tables f (Refute schema query witness) = Refute schema query witness
 with_tables f (Run schema query tables) = Run schema query (map f tables)
 
--- the words for it
+-- the request of a task
 abbrev pub asked_of : Task → Asked
 asked_of task = with_tables (λ t. word_of t.0 t.1) task
 
--- each word NAME=PATH is cut at its first `=`
+-- each word NAME=PATH of a task is cut at its first `=`
 abbrev pub IsCut : Task → Type 0
 IsCut task = All (λ t. HasNoEquals t.0) (tables_of task)
 
--- ---- their words
+-- ---- the words of tasks
 
--- the name of the command, and the flag behind it
+-- the name of the command, and the flag after it
 abbrev pub head_of : Asked → List (List ℕ)
 head_of (Check schema query) = codes "check" ∷ []
 head_of (CheckList schema query) = codes "check" ∷ codes "--list" ∷ []
@@ -76,7 +76,7 @@ head_of (VerifyList schema query certificate) = codes "verify" ∷ codes "--list
 head_of (Refute schema query witness) = codes "refute" ∷ []
 head_of (Run schema query tables) = codes "run" ∷ []
 
--- what stands behind these
+-- what follows the name of the command and the flag
 abbrev pub arguments_of : Asked → List (List ℕ)
 arguments_of (Check schema query) = schema ∷ query ∷ []
 arguments_of (CheckList schema query) = schema ∷ query ∷ []
@@ -86,19 +86,19 @@ arguments_of (VerifyList schema query certificate) = schema ∷ query ∷ certif
 arguments_of (Refute schema query witness) = schema ∷ query ∷ witness ∷ []
 arguments_of (Run schema query tables) = schema ∷ query ∷ tables
 
--- the words that ask for it
+-- the words of a request
 abbrev pub words_of : Asked → List (List ℕ)
 words_of asked = head_of asked ++ arguments_of asked
 
--- the paths that it names, in the order of its words
+-- the paths that a task names, in the order of its words
 abbrev pub paths_of : Task → List (List ℕ)
 paths_of task = arguments_of (with_tables (λ t. t.1) task)
 
--- the words without a flag `--list` right behind the first one
+-- the words without a flag `--list` right after the first word
 abbrev pub without_flag : List (List ℕ) → List (List ℕ)
 without_flag (name ∷ word ∷ words) = if bytes_eq word (codes "--list") then name ∷ words else name ∷ word ∷ words
 without_flag words = words
 
--- none begins with a hyphen, but for that flag
+-- no word begins with a hyphen, except that flag
 abbrev pub ArePlain : List (List ℕ) → Type 0
 ArePlain words = All IsPlain (without_flag words)

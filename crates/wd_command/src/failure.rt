@@ -26,7 +26,7 @@ pub enum Failure<'a> {
     CommandLine(clap::Error),
     /// A word of the command line isn't UTF-8.
     NotText,
-    /// The word stands in the place of NAME=PATH and has no `=`.
+    /// This word has the place of NAME=PATH and has no `=`.
     Unassigned(&'a str),
     /// An input is refused.
     Refused(Refusal),
@@ -41,7 +41,7 @@ pub enum Failure<'a> {
 pub struct Refusal {
     pub input: Input,
     pub number: u32,
-    /// The byte, the token, the node or the record that it is about.
+    /// The byte, the token, the node or the record that it is about, if any.
     pub place: Option<u64>,
 }
 
@@ -141,7 +141,7 @@ impl From<WitnessError> for Failure<'_> {
     }
 }
 
-// A refusal, or out of memory where it has no number.
+// A refusal; running out of memory where there is no number.
 fn refused<'a>(input: Input, number: Option<u32>, place: Option<u64>) -> Failure<'a>
     ensures { Says input number place result }
 {
@@ -202,7 +202,7 @@ fn witness_input(error: &WitnessError) -> Input
     }
 }
 
-/// Prints the failure's line, and gives the exit status whether or not that succeeds.
+/// Prints the failure's line, and returns the exit status whether or not printing succeeds.
 pub fn report<E: Write>(failure: &Failure<'_>, err: &mut E) -> u8
     ensures status { result ≡ status_of failure.now }
     ensures shown { Shows (E.contents err.old) (E.contents err.new) failure.now }
@@ -211,7 +211,7 @@ pub fn report<E: Write>(failure: &Failure<'_>, err: &mut E) -> u8
     failure.status()
 }
 
-// Writes the line for standard error; for a fault of the command line the text of `clap`.
+// Writes the line for standard error; for a fault of the command line it is the text of `clap`.
 fn write_line<E: Write>(failure: &Failure<'_>, err: &mut E) -> io::Result<()>
     ensures whole { OnOk result (IfSome (line_of failure.now) (Appends (E.contents err.old) (E.contents err.new))) }
     ensures part { Shows (E.contents err.old) (E.contents err.new) failure.now }

@@ -1,7 +1,7 @@
 //! Where the program's files come from.
 //!
-//! `Files` tells what it handed over as an `Option`, as std's `Read` tells its bytes: an implementation that doesn't keep it, as the
-//! one over the machine's files, promises nothing.
+//! `Files` tells what it supplied as an `Option`, as std's `Read` does for its bytes: an implementation that doesn't keep track of it,
+//! like the one over the machine's files, promises nothing.
 
 ghost use Rattle.std.specs.Prelude.{◌≡◌, ◌↔◌, ◌+◌, ◌-◌, ◌^◌, ◌<◌, ◌≤◌, ℕ, List, [], ◌∷◌, length, Option, None, IfErr, IfOk, IfSome, MatchResult};
 ghost use Rattle.wd_command.specs.Files.{File, HandsOver, IsOwnShortage, failed_reads};
@@ -11,7 +11,7 @@ use std::alloc::Global;
 use std::io::Read;
 use std::{fs, io, rt};
 
-/// Why a file was not handed over.
+/// Why a file was not supplied.
 #[derive(Clone, Copy)]
 pub enum ReadFault {
     /// There is no such file, it can't be read, or it has more than `MOST_BYTES` bytes.
@@ -28,7 +28,7 @@ pub trait Files {
     /// How many reads have failed.
     ghost failures: { Self → ℕ };
 
-    /// The files that were handed over so far, in their order. None claims nothing.
+    /// The files that were supplied so far, in their order. `None` promises nothing.
     ghost handed: { Self → Option (List File) } = { λ _. None };
 
     /// The bytes of the file at a path.
@@ -66,7 +66,7 @@ impl<R: rt::Files> Files for MachineFiles<'_, R> {
     }
 }
 
-// What an opened file holds, from its beginning to its end; a failure is counted.
+// The content of an opened file, from its beginning to its end; a failure is counted.
 fn read_counted<R: Read + Drop>(
     alloc: Global,
     opened: io::Result<R>,
@@ -85,7 +85,7 @@ fn read_counted<R: Read + Drop>(
     bytes
 }
 
-// What an opened file holds.
+// The content of an opened file.
 fn read_opened<R: Read + Drop>(alloc: Global, opened: io::Result<R>) -> Result<Vec<u8>, ReadFault>
     ensures whole { IfOk result (λ bytes. MatchResult opened (λ file. IfSome (R.remaining file) (λ rest. bytes.items ≡ rest)) (λ _. ⊥)) }
     ensures opened { IfErr opened (λ error. IfErr result (λ f. (f ≡ fault.OutOfMemory) ↔ IsOwnShortage error)) }
@@ -97,7 +97,7 @@ fn read_opened<R: Read + Drop>(alloc: Global, opened: io::Result<R>) -> Result<V
     }
 }
 
-// Reads to the end, and no further than one byte past the most.
+// Reads to the end, but at most one byte more than a file may have.
 fn read_whole<R: Read + Drop>(alloc: Global, reader: R) -> Result<Vec<u8>, ReadFault>
     ensures bounded { IfOk result (λ bytes. length bytes.items ≤ MOST_BYTES) }
     ensures whole { IfOk result (λ bytes. IfSome (R.remaining reader) (λ rest. bytes.items ≡ rest)) }
@@ -113,7 +113,7 @@ fn read_whole<R: Read + Drop>(alloc: Global, reader: R) -> Result<Vec<u8>, ReadF
     Ok(bytes)
 }
 
-// Out of memory in the system's own answer is a failure of the file.
+// Out of memory reported by the operating system is a failure of the file.
 fn fault_of(error: io::Error) -> ReadFault
     ensures { (result ≡ fault.OutOfMemory) ↔ IsOwnShortage error }
 {

@@ -2,7 +2,7 @@
 
 ghost use Rattle.wd_command.specs.Laws.{PlainLinesAreTaken, PlainTasksAreJudged, PlainWordsAreLines};
 
-/// Plain words ask for nothing but what they say.
+/// Plain words ask only for what they say.
 pub fn plain_words_are_lines()
     ensures { PlainWordsAreLines }
 {}
@@ -12,7 +12,7 @@ pub fn plain_lines_are_taken()
     ensures { PlainLinesAreTaken }
 {}
 
-/// They are never refused themselves.
+/// The words of a plain task are never the reason of a failure.
 pub fn plain_tasks_are_judged()
     ensures { PlainTasksAreJudged }
 {}

@@ -1,4 +1,9 @@
-//! The program over its words, files and streams.
+//! The program `wdcheck` over its words, files and streams.
+//!
+//! `machine` takes the process's arguments; `program` makes the whole output before it writes any of it: `words` reads the command line
+//! with `clap`, `inputs` reads the files that the words name, and each command's answer comes from a crate of its own (wd_decide,
+//! wd_accept, wd_refute, wd_run). `files` is the interface to files, `memory` an implementation for tests; `streams` writes, and
+//! `failure` has the exit statuses and the lines on standard error.
 #![tactic(auto)]
 
 mod failure;

@@ -11,8 +11,9 @@ use crate::program::command;
 use std::alloc::Global;
 use std::io::Write;
 
-/// Runs the program on its arguments after its own name, and gives its exit status: what `command` does on these words; where there
-/// are no words, for one that is no text or for want of memory, the failure's line on standard error and its status.
+/// Runs the program on its arguments after its own name, and returns its exit status. On these words it does what `command` does; where
+/// the words could not be had, because one is no text or memory runs out, it writes the failure's line on standard error and returns
+/// the failure's status.
 pub fn run_on<F: Files, O: Write, E: Write>(
     alloc: Global,
     arguments: Result<Vec<String>, Failure<'static>>,
@@ -37,7 +38,7 @@ pub fn run_on<F: Files, O: Write, E: Write>(
     }
 }
 
-// Runs the program on words of its own.
+// Runs the program on words that it owns.
 fn run_words<F: Files, O: Write, E: Write>(
     alloc: Global,
     words: &[String],

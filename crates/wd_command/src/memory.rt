@@ -11,7 +11,7 @@ use std::alloc::Global;
 #[derive(Drop)]
 pub struct MemoryFiles<'a> {
     files: &'a [(&'a str, &'a [u8])],
-    // The numbers of the files that were handed over.
+    // The numbers of the files that were supplied.
     handed: Vec<usize>,
     failures: u64,
     // How many reads are left until one fails.
@@ -33,7 +33,7 @@ impl<'a> MemoryFiles<'a> {
         }
     }
 
-    /// These files, whose reads fail once so many were made.
+    /// These files, whose reads fail after `reads` reads.
     pub fn failing_after(mut self, reads: u64) -> MemoryFiles<'a>
         ensures files { files_of result ≡ files_of self.entry }
         ensures failures { failures_of result ≡ failures_of self.entry }
@@ -83,7 +83,7 @@ impl Files for MemoryFiles<'_> {
     }
 }
 
-// The number of the first file at the path that may be handed over.
+// The number of the first file at the path that is not too long to be supplied.
 fn position(files: &[(&str, &[u8])], path: &str) -> Option<usize>
     ensures { result ≡ first_at path.now files.now }
 {

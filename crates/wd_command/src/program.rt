@@ -31,9 +31,9 @@ wdcheck refute SCHEMA QUERY WITNESS
 wdcheck run SCHEMA QUERY [NAME=PATH]...
 ";
 
-/// Runs the program on the words after its own name, and gives its exit status. The words are judged
-/// before any file is read, the files are read in the order of the words, up to one that fails,
-/// before any of them is judged, and the output is made whole before it is written.
+/// Runs the program on the words after its own name, and returns its exit status. The words are checked before any file is read; the
+/// files are read in the order of the words, up to the first that fails, before any of them is checked; and the whole output is made
+/// before any of it is written.
 pub fn command<F: Files, O: Write, E: Write>(
     alloc: Global,
     words: &[&str],
@@ -55,7 +55,7 @@ pub fn command<F: Files, O: Write, E: Write>(
     }
 }
 
-// Writes the output for the words, and gives its exit status.
+// Writes the output for the words, and returns the exit status.
 fn write_output<'a, F: Files, O: Write>(
     alloc: Global,
     words: &'a [&'a str],

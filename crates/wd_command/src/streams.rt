@@ -1,4 +1,4 @@
-//! Texts onto streams.
+//! Writing texts to streams.
 
 ghost use Rattle.std.specs.Prelude.{◌≡◌, ℕ, flat_map, OnOk};
 ghost use Rattle.std.specs.Fmt.{decimal};

@@ -68,7 +68,7 @@ pub fn read_words<'a>(alloc: Global, words: &'a [&'a str]) -> Result<Request<'a>
     }
 }
 
-// What stands below the commands in the program's help.
+// What the program's help says below the commands.
 const STATUSES: &str = "Exit status:
   0  DETERMINISTIC, LISTED, ACCEPTED, or the rows of the answer
   1  DEPENDS or REFUTED: two orders of rows that tie give two answers
@@ -90,7 +90,7 @@ fn command_line<'a>(alloc: Global) -> Result<Command<'a>, AllocError>
     Ok(command)
 }
 
-// The program's name, after which a command is wanted.
+// The program's name, after which a command is required.
 fn program<'a>(alloc: Global) -> Result<Command<'a>, AllocError>
     ensures { IfOk result (λ command. app_of command ≡ spec.program) }
 {
@@ -171,7 +171,7 @@ fn paths_command<'a>(alloc: Global, name: &'a str) -> Result<Command<'a>, AllocE
     Command::new(alloc, name).arg(schema)?.arg(query)
 }
 
-// One more path, behind the words `NAME SCHEMA QUERY`.
+// One more path, after the words `NAME SCHEMA QUERY`.
 fn file_word<'a>(alloc: Global, value_name: &'a str) -> Arg<'a>
     ensures rule { rule_of result ≡ spec.wanted (codes "file") }
     ensures local { result.global ≡ false }
@@ -192,7 +192,7 @@ fn list_flag<'a>(alloc: Global) -> Arg<'a>
         .help("Asks for one list of rows: their order must be fixed too")
 }
 
-// What a parse has found.
+// The request in what a parse has found, if any.
 fn found<'a>(alloc: Global, matches: &ArgMatches<'a>) -> Result<Option<Request<'a>>, AllocError>
     ensures { IfOk result (λ request. option_map asked_by request ≡ asked_in (subcommand_rows_of matches.now)) }
 {
@@ -221,7 +221,7 @@ fn two_paths<'a>(given: &ArgMatches<'a>) -> Option<(&'a str, &'a str)>
     Some((given.get_str("schema")?, given.get_str("query")?))
 }
 
-// These, and the path of one more file.
+// The paths of the schema and the query, and the path of one more file.
 fn three_paths<'a>(given: &ArgMatches<'a>) -> Option<(&'a str, &'a str, &'a str)>
     ensures { option_map {U = List ℕ × List ℕ × List ℕ} (λ paths. (paths.0.now, paths.1.now, paths.2.now)) result
         ≡ spec.three_paths (rows_of (found_of given.now)) }
@@ -231,8 +231,8 @@ fn three_paths<'a>(given: &ArgMatches<'a>) -> Option<(&'a str, &'a str, &'a str)
     Some((schema, query, file))
 }
 
-// Whether the flag `--list` was given. `get_flag` reads it so too, but what it makes of a text that is
-// neither `true` nor `false` its clauses leave open.
+// Whether the flag `--list` was given. `get_flag` does the same, but its contract does not say what it makes of a text that is neither
+// `true` nor `false`.
 fn is_listed(given: &ArgMatches<'_>) -> bool
     ensures { result ≡ spec.is_listed (rows_of (found_of given.now)) }
 {

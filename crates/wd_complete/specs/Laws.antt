@@ -1,4 +1,4 @@
--- The plain class: where no rule justifies the call, two answers are shown.
+-- The plain class: where no rule justifies the call, two answers are found.
 use Rattle.std.specs.Prelude.{◌≡◌, ℕ, true, List, [], ◌∷◌, None, ⊤}
 use Rattle.wd_value.specs.Rows.{Instance}
 use Rattle.wd_schema.specs.Tables.{TableRule}
@@ -30,12 +30,12 @@ abbrev pub IsOpen : Analysis → Type 0
 IsOpen (Certified certificate) = ⊥
 IsOpen (Open reasons marks) = ⊤
 
--- where no rule justifies its call, that table is a true witness, under the order of its rows and the other one
+-- where no rule justifies the call of a plain plan, the table of two rows is a true witness, under the two orders of its rows
 abbrev pub OpenShowsTwo : Type 0
 OpenShowsTwo = (tables : List TableRule) (p : PlainPlan) (analysis : Analysis) → IsPlainOver tables p → IsAnswer tables (plan_by p) analysis → IsOpen analysis
     → IsTrueWitness tables (plan_by p) (two_rows tables p) ((0 ∷ 1 ∷ []) ∷ []) ((1 ∷ 0 ∷ []) ∷ [])
 
--- and the search for a witness finds one
+-- where no rule justifies the call of a plain plan, the search for a witness finds one
 abbrev pub OpenIsFound : Type 0
 OpenIsFound = (tables : List TableRule) (p : PlainPlan) (analysis : Analysis) (end : ℕ) → IsPlainOver tables p → IsAnswer tables (plan_by p) analysis → IsOpen analysis
     → IsSought Reversed tables (plan_by p) (to_try tables (plan_by p) (reasons_of analysis)) 0 None end → ⊥

@@ -17,7 +17,7 @@ pub record PlainPlan : Type 0 where
   -- the window, over the columns that are read
   pub class : ClassRule
   pub frame : Frame
-  -- what is selected: columns that are read, and the number, which stands behind them
+  -- what is selected: columns that are read, and the row number, which follows them
   pub shown : List ℕ
 
 -- ROW_NUMBER of the Window's one class
@@ -35,7 +35,7 @@ input_of p = Map (map Column p.read) (Scan p.table p.columns)
 abbrev pub plan_by : PlainPlan → PlanTree
 plan_by p = Map (map Column p.shown) (Window (window_rule p) (input_of p))
 
--- each column is read once, the number is selected, and a column is read since the window or the select list asks for it
+-- each column is read once, the number is selected, and each column that is read is used by the window or the select list
 pub record IsPlain (p : PlainPlan) : Type 0 where
   pub once : AllPairs (λ a b. a ≢ b) p.read
   pub number : Contains p.shown (length p.read)

@@ -1,5 +1,5 @@
--- Queries of the plain class: FROM names one table; the select list has plain columns, `*`, and one ROW_NUMBER over a window of
--- plain columns; besides there is at most a WINDOW clause, and no DISTINCT. It is not grouped: no aggregate stands in it.
+-- Queries of the plain class: FROM names one table; the select list has plain columns, `*`, and one ROW_NUMBER over a window of plain
+-- columns; otherwise there is at most a WINDOW clause, and no DISTINCT. It is not grouped: it has no aggregate.
 use Rattle.std.specs.Prelude.{◌≡◌, Bool, false, List, [], ◌∷◌, ◌++◌, Option, Some, None, Ok, Err, ⊤}
 use Rattle.std.specs.List.{AllByRecursion}
 use Rattle.wd_read_cursor.specs.declared.name.Name.{Name}
@@ -34,7 +34,7 @@ abbrev pub IsColumn : RowFormula → Type 0
 IsColumn (Leaf (column c)) = ⊤
 IsColumn f = ⊥
 
--- its partition and its order are columns
+-- a window's partition and its order are columns
 pub record IsPlainWindow (w : WindowMeaning) : Type 0 where
   pub partition : AllByRecursion IsColumn w.partition
   pub order : AllByRecursion (λ (key : KeyMeaning). IsColumn key.expression) w.order

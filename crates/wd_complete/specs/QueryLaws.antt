@@ -6,12 +6,12 @@ use Rattle.wd_resolve.specs.Answers.{Answer, answer}
 use Rattle.wd_complete.specs.Plain.{IsPlain, PlainPlan, plan_by}
 use Rattle.wd_complete.specs.Queries.{IsPlainQuery}
 
--- the plan of a query is a plain one
+-- the plan of a query is a plain plan
 pub record HasPlainPlan (a : Answer) : Type 0 where
   pub plan : PlainPlan
   pub is : a.plan ≡ plan_by plan
   pub plain : IsPlain plan
 
--- a query of the plain class that has a plan has a plain one
+-- a query of the plain class that has a plan has a plain plan
 abbrev pub QueriesArePlain : Type 0
 QueriesArePlain = (tables : List TableRule) (q : QueryTree) (a : Answer) → IsPlainQuery tables q → answer tables q ≡ Ok a → HasPlainPlan a

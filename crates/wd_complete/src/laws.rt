@@ -4,7 +4,7 @@ ghost use Rattle.wd_complete.specs.Examples.{ExampleIsPlain};
 ghost use Rattle.wd_complete.specs.Laws.{OpenIsFound, OpenShowsTwo};
 ghost use Rattle.wd_complete.specs.QueryLaws.{QueriesArePlain};
 
-/// A query of the plain class that has a plan has a plain one.
+/// A query of the plain class that has a plan has a plain plan.
 pub fn queries_are_plain()
     ensures { QueriesArePlain }
 {}
@@ -14,7 +14,7 @@ pub fn open_shows_two()
     ensures { OpenShowsTwo }
 {}
 
-/// And the search for a witness finds one.
+/// Where no rule justifies the call of a plain plan, the search for a witness finds one.
 pub fn open_is_found()
     ensures { OpenIsFound }
 {}

@@ -1,4 +1,4 @@
--- What a reported certificate is worth, and a reported witness.
+-- What the report of a certificate means, and that of a witness.
 use Rattle.std.specs.Prelude.{◌≡◌, ℕ, List, IsSome, None}
 use Rattle.wd_certificate.specs.Certificates.{certificate_of}
 use Rattle.wd_certificate.specs.Json as certificates
@@ -24,18 +24,18 @@ pub record IsSound (schema query : List ℕ) (certificate : Certificate) : Type 
   pub valid : ForReading schema query (λ tables plan. IsValidCertificate tables plan (certificate_of certificate))
   pub accepted : (text : List ℕ) → certificates.Spells (certificate_of certificate) text → IsAccepted schema query text
 
--- each certificate that is reported is so
+-- each certificate that is reported is sound
 abbrev pub ReportedAreSound : Type 0
 ReportedAreSound = (schema query : List ℕ) (certificate : Certificate) → IsVerdict schema query (Deterministic certificate) → IsSound schema query certificate
 
--- a witness is true of the plan that reads the texts, with no step too large, and a text that spells it refutes the query; nothing
--- there refuses that text by a number
+-- a witness is true of the plan that reads the texts, with no step too large, and a text that spells it refutes the query; that text is
+-- refused with no number
 pub record IsTrueOf (schema query : List ℕ) (witness : Witness) : Type 0 where
   pub shown : ForReading schema query (λ tables plan. IsShown tables plan (witness_of witness))
   pub refuted : (text : List ℕ) → witnesses.Spells (witness_of witness) text → IsRefuted schema query text
   pub unrefused : (text : List ℕ) → witnesses.Spells (witness_of witness) text → (refusal : Refusal) → IsSome (refusal_number refusal) → ForReading schema query (RefusesText refusal text) → ⊥
 
--- each witness that is reported is so
+-- each witness that is reported is true
 abbrev pub ReportedAreTrue : Type 0
 ReportedAreTrue = (schema query : List ℕ) (witness : Witness) → IsVerdict schema query (Depends witness) → IsTrueOf schema query witness
 

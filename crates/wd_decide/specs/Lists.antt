@@ -23,7 +23,7 @@ use Rattle.wd_decide.specs.declared.list.ListVerdict.TheVariants as list
 use Rattle.wd_decide.specs.declared.verdict.Verdict.{Verdict}
 use Rattle.wd_decide.specs.declared.verdict.Verdict.TheVariants.{Deterministic, Depends, Unknown}
 
--- why a certificate shows no order of the answer's rows: there is no answer's Limit, or its sort keys do not give this column, the
+-- why a certificate shows no order of the answer's rows: there is no answer's Limit, or its sort keys do not determine this column, the
 -- least such, by the facts that the analysis keeps
 abbrev pub IsListReason : List TableRule → Answer → ListReason → Type 0
 IsListReason tables read reason.NoOrder = answer_limit read ≡ None
@@ -50,7 +50,7 @@ IsOfVerdict tables read (Unknown found) (list.Unlisted r) = ⊥
 IsOfVerdict tables read (Unknown found) (list.Depends witness) = ⊥
 IsOfVerdict tables read (Unknown found) (list.Unknown reasons) = found ≡ reasons
 
--- an analysis of the plan gives a verdict, and that the verdict on the list
+-- an analysis of the plan gives a verdict, and the verdict gives the verdict on the list
 pub record IsListVerdictOf (tables : List TableRule) (read : Answer) (listed : ListVerdict) : Type 0 where
   pub analysis : Analysis
   pub verdict : Verdict
@@ -58,11 +58,11 @@ pub record IsListVerdictOf (tables : List TableRule) (read : Answer) (listed : L
   pub of_analysis : IsVerdictOf tables read.plan analysis verdict
   pub of_verdict : IsOfVerdict tables read verdict listed
 
--- it is that of the plan that reads the two texts
+-- the verdict on the list is that of the plan that reads the two texts
 abbrev pub IsListVerdict : List ℕ → List ℕ → ListVerdict → Type 0
 IsListVerdict schema query listed = ForAnswer schema query (λ tables read. IsListVerdictOf tables read listed)
 
--- ---- what a reported certificate is worth, and a reported witness
+-- ---- what the report of a certificate means, and that of a witness
 
 -- a certificate that is reported is a verdict's, and a text that spells it is accepted for the list, so that `verify_list` takes it
 pub record IsListSound (schema query : List ℕ) (certificate : Certificate) : Type 0 where
@@ -72,7 +72,7 @@ pub record IsListSound (schema query : List ℕ) (certificate : Certificate) : T
 abbrev pub ListedAreSound : Type 0
 ListedAreSound = (schema query : List ℕ) (certificate : Certificate) → IsListVerdict schema query (list.Listed certificate) → IsListSound schema query certificate
 
--- other reports are the verdict's
+-- witnesses and reasons that are reported are those of the verdict on the query
 pub record OthersAreVerdicts : Type 0 where
   pub depends : (schema query : List ℕ) (witness : Witness) → IsListVerdict schema query (list.Depends witness) → IsVerdict schema query (Depends witness)
   pub unknown : (schema query : List ℕ) (reasons : Vec Reason Global) → IsListVerdict schema query (list.Unknown reasons) → IsVerdict schema query (Unknown reasons)

@@ -28,7 +28,7 @@ pub record IsExamined (schema query : List ℕ) (examined : Examined) : Type 0 w
   pub fits : fits (schema_of examined.planned.schema) (plan_of examined.planned.resolved.plan) ≡ true
   pub analysed : IsAnswer (schema_of examined.planned.schema) (plan_of examined.planned.resolved.plan) examined.analysis
 
--- the search for a witness, through the candidates for these reasons, ends so
+-- the search for a witness, through the candidates for these reasons, ends with this witness or none
 abbrev pub EndsWith : List TableRule → PlanTree → List Reason → Option Witness → Type 0
 EndsWith tables plan reasons found = (n : ℕ) × IsSought Reversed tables plan (to_try tables plan reasons) 0 found n
 
@@ -41,7 +41,7 @@ IsVerdictOf tables plan (Open found marks) (Deterministic reported) = ⊥
 IsVerdictOf tables plan (Open found marks) (Depends witness) = EndsWith tables plan found.items (Some witness)
 IsVerdictOf tables plan (Open found marks) (Unknown reasons) = (found ≡ reasons) × EndsWith tables plan found.items None
 
--- it is that of the analysis of the plan that reads the two texts
+-- the verdict is that of the analysis of the plan that reads the two texts
 abbrev pub IsVerdict : List ℕ → List ℕ → Verdict → Type 0
 IsVerdict schema query verdict = ForReading schema query (λ tables plan. (analysis : Analysis) × IsAnswer tables plan analysis × IsVerdictOf tables plan analysis verdict)
 
@@ -51,11 +51,11 @@ IsDecided (Deterministic certificate) = ⊤
 IsDecided (Depends witness) = ⊤
 IsDecided (Unknown reasons) = ⊥
 
--- where a plan reads the two texts and the query is of the plain class, one is
+-- where a plan reads the two texts and the query is of the plain class, a certificate or a witness is reported
 abbrev pub IsDecidedIfPlain : List ℕ → List ℕ → Verdict → Type 0
 IsDecidedIfPlain schema query verdict = (read : Answer) (reads : Reads schema query read) → IsPlainQuery reads.tables reads.tree → IsDecided verdict
 
--- ---- why there is none
+-- ---- why there is no verdict
 
 abbrev pub HasCause : List ℕ → List ℕ → DecideError → Type 0
 HasCause schema query (Texts error) = HasTextCause schema query error

@@ -19,7 +19,7 @@ pub enum DecideError {
 }
 
 impl DecideError {
-    /// The refusal's number, and None where memory runs out.
+    /// The refusal's number; `None` where memory runs out.
     pub fn number(&self) -> Option<u32>
         ensures { result ≡ decide_number self.now }
     {
@@ -29,7 +29,7 @@ impl DecideError {
         }
     }
 
-    /// The byte or the token that the refusal is about.
+    /// The byte or the token that the refusal is about; `None` where it is about none.
     pub fn place(&self) -> Option<u64>
         ensures { result ≡ decide_place self.now }
     {

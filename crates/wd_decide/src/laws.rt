@@ -9,7 +9,7 @@ use wd_refute::laws::shown_is_not_refused;
 use wd_resolve::laws::plans_fit;
 use wd_schema::laws::one_meaning;
 
-/// A certificate that is reported is valid, and its text is accepted.
+/// A certificate that is reported is valid for the plan, and its text is accepted.
 pub fn reported_are_sound()
     ensures { ReportedAreSound }
 {}
@@ -28,8 +28,8 @@ pub fn listed_are_sound()
     ensures { ListedAreSound }
 {}
 
-/// A witness, or reasons, that a verdict on a list reports are the verdict's; where the order is open
-/// the verdict is a certificate.
+/// A witness or reasons that a verdict on a list reports are those of the verdict on the query; where the order is open the verdict is
+/// a certificate.
 pub fn others_are_verdicts()
     ensures { OthersAreVerdicts }
 {}
@@ -45,7 +45,7 @@ pub fn plain_are_decided()
     queries_are_plain();
 }
 
-/// `refute` refuses the text of no witness that is reported, but where memory runs out.
+/// `refute` accepts the text of each witness that is reported, unless memory runs out.
 pub fn witnesses_are_taken()
     ensures { WitnessesAreTaken }
 {

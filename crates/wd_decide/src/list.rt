@@ -30,7 +30,7 @@ use wd_witness_text::Witness;
 pub enum ListReason {
     /// The outermost select has no ORDER BY.
     NoOrder,
-    /// The sort keys of the Limit with this number do not give this column, the least such.
+    /// The sort keys of the Limit with this number do not determine this column, the least such.
     Column { node: u64, column: u16 },
 }
 
@@ -44,15 +44,15 @@ pub enum ListVerdict {
     Unlisted(ListReason),
     /// It has not even one answer: the witness shows two.
     Depends(Witness),
-    /// As `Verdict` has it.
+    /// As for `Verdict`.
     Unknown(Vec<Reason>),
 }
 
-/// Whether the query of a text has one list of rows over the schema of a text. The verdict is that
-/// of `decide`, but for a query with a certificate: where the answer's Limit goes by `keys` there,
-/// `verify_list` accepts the certificate's text; else the reason is told.
+/// Whether the query of a text has one list of rows over the schema of a text. The verdict is that of `decide`, except for a query with
+/// a certificate: where the answer's Limit goes by `keys` in the certificate, `verify_list` accepts the certificate's text; otherwise
+/// the reason is given.
 ///
-/// Each refusal comes only where its cause stands, as `examine` says.
+/// Each refusal occurs only where its cause holds, as `examine` says.
 pub fn decide_list(alloc: Global, schema: &[u8], query: &[u8]) -> Result<ListVerdict, DecideError>
     ensures verdict { IfOk result (IsListVerdict schema.now query.now) }
 
@@ -100,7 +100,7 @@ fn listed(
     Ok(ListVerdict::Unlisted(reason_of(limit, lack)))
 }
 
-/// The reason, by the answer's Limit and what its sort keys lack.
+/// The reason why a certificate shows no list, by the answer's Limit and the column that its sort keys lack.
 fn reason_of(limit: Option<u64>, lack: Option<u16>) -> ListReason
     ensures { result ≡ spec.reason_of limit lack }
 {

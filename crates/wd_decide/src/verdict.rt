@@ -34,14 +34,14 @@ pub enum Verdict {
     Deterministic(Certificate),
     /// It has not: the witness shows two answers.
     Depends(Witness),
-    /// For these calls and limits no rule is known that justifies them, and no candidate shows two answers.
+    /// No rule is known that justifies these calls and limits, and no candidate shows two answers.
     Unknown(Vec<Reason>),
 }
 
 /// The plan of a schema's text and a query's text, and which rules justify its calls and limits. The schema is read first.
 ///
-/// Each refusal comes only where its cause stands: 101 to 107 and 301 to 309 of the schema; 101 to 107, 201, 202 and 401 to 415 of
-/// the query.
+/// Each refusal occurs only where its cause holds: 101 to 107 and 301 to 309 of the schema; 101 to 107, 201, 202 and 401 to 415 of the
+/// query.
 pub fn examine(alloc: Global, schema: &[u8], query: &[u8]) -> Result<Examined, DecideError>
     ensures examined { IfOk result (IsExamined schema.now query.now) }
     ensures refused { IfErr result (HasCause schema.now query.now) }
@@ -55,11 +55,11 @@ pub fn examine(alloc: Global, schema: &[u8], query: &[u8]) -> Result<Examined, D
 }
 
 /// Whether the query of a text has one answer over the schema of a text. A certificate that is reported is valid for the plan that
-/// reads the texts, and `verify` accepts its text. A witness that is reported is true of that plan: the two outcomes are not one,
-/// and `refute` refuses its text by none of 601 to 604 and 802. Else there is a reason at least, each being that of a call or a
-/// limit for which no rule is known, in postorder, and there is no witness among the candidates that are tried.
+/// reads the texts, and `verify` accepts its text. A witness that is reported is true of that plan: the two outcomes are not one, and
+/// `refute` refuses its text with none of 601 to 604 and 802. Otherwise there is at least one reason, each for a call or a limit for
+/// which no rule is known, in postorder, and there is no witness among the candidates that are tried.
 ///
-/// Each refusal comes only where its cause stands, as `examine` says.
+/// Each refusal occurs only where its cause holds, as `examine` says.
 pub fn decide(alloc: Global, schema: &[u8], query: &[u8]) -> Result<Verdict, DecideError>
     ensures verdict { IfOk result (IsVerdict schema.now query.now) }
 
@@ -87,7 +87,7 @@ impl Examined {
     }
 }
 
-/// The verdict where the search for a witness ends so.
+/// The verdict by how the search for a witness ends.
 pub(crate) fn verdict_of(analysis: Analysis, witness: Option<Witness>) -> Verdict
     ensures { (tables : List TableRule) → (plan : PlanTree) → EndsWith tables plan (reasons_of analysis) witness → IsVerdictOf tables plan analysis result }
 {

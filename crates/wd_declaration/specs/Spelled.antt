@@ -30,7 +30,7 @@ type_word BigInt = codes "bigint"
 type_word Text = codes "text"
 type_word Boolean = codes "boolean"
 
--- NOT NULL, where the column says so
+-- NOT NULL, if the column is declared so
 abbrev pub rules_of : Bool → List ColumnRule
 rules_of true = record { constraint = None; rule = rule.NotNull } ∷ []
 rules_of false = []
@@ -54,8 +54,8 @@ tables_of tables = map table_of tables
 abbrev pub schema_of : List Declaration → SchemaTree
 schema_of tables = record { tables = tables_of tables; ended = false }
 
--- The text spells the declarations: its tokens are those of their tree. So where the tree is refused for nothing, the text
--- declares just the tables that the tree declares.
+-- The text spells the declarations: its tokens are those of their tree. So where nothing refuses the tree, the text declares just the
+-- tables that the tree declares.
 pub record Spells (text : List ℕ) (tables : List Declaration) : Type 0 where
   pub whole : IsSchema (schema_of tables)
   pub spelled : HasTokens text (spell_schema (schema_of tables))

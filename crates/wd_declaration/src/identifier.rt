@@ -13,7 +13,7 @@ pub struct Identifier {
 }
 
 impl Identifier {
-    /// The name of these bytes, where there are any.
+    /// The name with these bytes, if there are any.
     pub fn new(text: Text) -> Option<Identifier>
         ensures found { IfSome result (λ name. name.text ≡ text) }
         ensures none { IfNone result (text ≡ []) }

@@ -19,7 +19,7 @@ const MOST_BYTES: usize = 65536;
 /// Why declarations have no text.
 #[derive(Clone, Copy, Debug, PartialEq, Eq)]
 pub enum TextError {
-    /// Their text would be longer than the profile's texts are.
+    /// The text would be longer than 65,536 bytes.
     TooLong,
     OutOfMemory,
 }

@@ -16,17 +16,17 @@ use wd_print::{push_name, push_terminal, push_word};
 use wd_read_statements::{KeyWords, Nulls};
 use wd_value::ColumnType;
 
-/// What has a spelling in tokens.
+/// A value that has a spelling in tokens.
 pub trait Written {
-    /// It, without where it lies in memory.
+    /// The value as pure data, wherever it lies in memory.
     ghost Tree: { Type 0 };
 
     ghost tree: { Self → Tree };
 
-    /// Its tokens, before others.
+    /// The value's tokens, before others.
     ghost spell: { Tree → Kinds → Kinds };
 
-    /// Prints its tokens.
+    /// Prints the value's tokens.
     fn write(&self, text: &mut String) -> Result<(), AllocError>
         ensures { OnOk result ((rest : Kinds) → string_bytes text.new ++ printed rest ≡ string_bytes text.old ++ printed (spell (tree self.now) rest)) };
 }
@@ -47,7 +47,7 @@ fn write_word(text: &mut String, word: &str) -> Result<(), AllocError>
     Ok(())
 }
 
-/// Prints a terminal, where more is to follow.
+/// Prints a terminal, if `more` says that something follows.
 fn write_separator(text: &mut String, separator: Terminal, more: bool) -> Result<(), AllocError>
     ensures { OnOk result ((rest : Kinds) → string_bytes text.new ++ printed rest ≡ string_bytes text.old ++ printed (if more then separator ▸ rest else rest)) }
 {
@@ -57,7 +57,7 @@ fn write_separator(text: &mut String, separator: Terminal, more: bool) -> Result
     Ok(())
 }
 
-/// Prints things with a terminal between them.
+/// Prints a list with a terminal between its elements.
 pub fn write_list<W: Written>(
     text: &mut String,
     items: &[W],
@@ -104,7 +104,7 @@ fn type_word(kind: ColumnType) -> &'static str
     }
 }
 
-/// Prints NOT NULL, where a column says so.
+/// Prints NOT NULL, if the column is declared so.
 fn write_rules(text: &mut String, not_null: bool) -> Result<(), AllocError>
     ensures { OnOk result ((rest : Kinds) → string_bytes text.new ++ printed rest ≡ string_bytes text.old ++ printed (spell_rules (rules_of not_null) rest)) }
 {

@@ -1,6 +1,7 @@
--- How the tokens of a schema are read, as PostgreSQL's tools write it. Tables are read, and what is added to them. What else a
--- declaration says is passed over: all tokens up to the next comma outside brackets, or to what ends the declaration. So is a
--- statement, and a change of a table, that begins with words after which all that is read still holds; no other is read.
+-- How the tokens of a schema are read, as PostgreSQL's tools write it. Tables are read, and what is added to them. Everything else in a
+-- declaration is passed over: all tokens up to the next comma outside brackets, or to the end of the declaration. A statement or a
+-- change of a table is passed over too if it begins with words after which everything that was read still holds; all others are
+-- refused.
 use Rattle.std.specs.Str.{bytes_eq}
 use Rattle.std.specs.Prelude.{ℕ, ◌||◌, ◌&&◌, ◌==◌, if◌then◌else◌, codes, List, [], ◌∷◌, ◌++◌, length, Bool, true, false, Option, Some, None, is_some, Result, Ok, Err}
 use Rattle.wd_lex.specs.declared.token.Terminal.TheVariants as m
@@ -25,7 +26,7 @@ use Rattle.wd_dialect_read.specs.Kept.{alter_words, change_words, column_words, 
 
 -- ---- single words
 
--- the tokens after a word of that spelling, where it stands first
+-- the tokens after this word, if they begin with it
 unfoldable pub eat_text : List ℕ → Kinds → Option Kinds
 eat_text word [] = None
 eat_text word (y ∷ kinds) = if is_text word y then Some kinds else None
@@ -37,12 +38,12 @@ expect_text word kinds = some_or_unexpected (length kinds) (eat_text word kinds)
 unfoldable pub identifier_at : Parser (List ℕ)
 identifier_at kinds = name_at kinds >>= λ name. if length name.0.text == 0 then Err (Unexpected (length kinds)) else Ok (name.0.text, name.1)
 
--- the tokens after the words of a list that stand first
+-- the tokens after the words of a list at the start
 unfoldable pub past_words : List (List ℕ) → Kinds → Kinds
 past_words words [] = []
 past_words words (y ∷ kinds) = if is_among words y then past_words words kinds else y ∷ kinds
 
--- a word of a list stands first
+-- whether tokens begin with a word of a list
 unfoldable pub begins_among : List (List ℕ) → Kinds → Bool
 begins_among words [] = false
 begins_among words (y ∷ kinds) = is_among words y
@@ -86,7 +87,7 @@ type_at kinds =
     qualified_at kinds >>= λ name. modifier_at (past_words type_words name.1) >>= λ modifier. array_at (past_zone modifier.1)
     >>= λ array. Ok (with_array array.0 (with_modifier (kind_named name.0) modifier.0), array.1)
 
--- ---- what stands after it
+-- ---- what comes after the type
 
 abbrev pub with_marks : List Mark → List Mark × Kinds → List Mark × Kinds
 with_marks marks read = (marks ++ read.0, read.1)
@@ -95,12 +96,12 @@ with_marks marks read = (marks ++ read.0, read.1)
 abbrev pub marks_at : ℕ → TokenKind → List Mark
 marks_at depth y = if depth == 0 then mark_of y ∷ [] else []
 
--- what the tokens outside brackets say, up to a comma, a closing bracket or a semicolon; so many brackets are open
+-- what the tokens outside brackets say, up to a comma, a closing bracket or a semicolon; `depth` brackets are open
 unfoldable pub tail_from : ℕ → Kinds → List Mark × Kinds
 tail_from depth [] = ([], [])
 tail_from depth (y ∷ kinds) = if depth == 0 && ends_item y then ([], y ∷ kinds) else with_marks (marks_at depth y) (tail_from (depth_after depth y) kinds)
 
--- a rule begins here, or the column ends
+-- whether a rule begins here, or the column ends
 unfoldable pub begins_tail : Kinds → Bool
 begins_tail [] = true
 begins_tail (y ∷ kinds) = ends_item y || begins_rule (mark_of y)
@@ -139,13 +140,13 @@ key_at kinds =
 unfoldable pub begins_key : Kinds → Bool
 begins_key kinds = is_some (eat m.Primary kinds) || is_some (eat m.Unique kinds)
 
--- ---- what stands between two commas
+-- ---- entries between two commas
 
--- EXCLUDE [USING ..] ( .. ), before which no column of that name stands
+-- EXCLUDE [USING ..] ( .. ), which is not the name of a column
 unfoldable pub exclude_note : Kinds → Option Note
 exclude_note kinds = if is_some (eat m.Using kinds) || is_some (eat m.LeftBracket kinds) then Some note.Exclude else None
 
--- what is passed over, by its first word
+-- the note for what is passed over, by its first word
 unfoldable pub note_at : Kinds → Option Note
 note_at (t.Word word ∷ kinds) = if bytes_eq word (codes "exclude") then exclude_note kinds else note_in table_notes word
 note_at _ = None
@@ -169,11 +170,11 @@ item_at kinds =
 abbrev pub refused : {A : Type 0} → Parser A
 refused kinds = Err (Unexpected (length kinds))
 
--- a change that is passed over where it begins with one of these words
+-- a change that is passed over if it begins with one of these words
 unfoldable pub kept_change : List (List ℕ) → Parser ItemSaid
 kept_change words kinds = if begins_among words kinds then pass kinds (Some note.Statement) else refused kinds
 
--- what is set of a table or a column: neither its schema nor its type
+-- what is set for a table or a column: neither its schema nor its type
 unfoldable pub set_at : Parser ItemSaid
 set_at kinds = if begins_among set_words kinds then refused kinds else pass kinds (Some note.Statement)
 
@@ -212,7 +213,7 @@ end_at (y ∷ kinds) = expect m.Semicolon (y ∷ kinds)
 unfoldable pub passed_at : Parser StatementSaid
 passed_at kinds = Ok (Other note.Statement, past_statement kinds)
 
--- a statement that is passed over where it goes on with one of these words
+-- a statement that is passed over if it continues with one of these words
 unfoldable pub kept_statement : List (List ℕ) → Parser StatementSaid
 kept_statement words kinds = if begins_among words kinds then passed_at kinds else refused kinds
 
@@ -220,7 +221,7 @@ kept_statement words kinds = if begins_among words kinds then passed_at kinds el
 unfoldable pub items_at : Parser (List ItemSaid)
 items_at kinds = expect m.LeftBracket kinds >>= λ inside. list_at m.Comma item_at inside >>= λ items. expect m.RightBracket items.1 >>= λ rest. Ok (items.0, rest)
 
--- what follows the brackets of a table: not INHERITS, by which its rows are those of another table too
+-- what follows the brackets of a table: not INHERITS, since rows of such a table are rows of another table too
 unfoldable pub table_end : Kinds → Result Kinds Fault
 table_end kinds = if is_some (eat_text (codes "inherits") kinds) then Err (Unexpected (length kinds)) else Ok (past_statement kinds)
 

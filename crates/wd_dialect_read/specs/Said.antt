@@ -1,4 +1,4 @@
--- Statements as they are read, without where they lie in memory.
+-- Statements as they are read, as pure data.
 use Rattle.std.specs.Prelude.{ℕ, List, map}
 use Rattle.wd_declaration.specs.declared.identifier.Identifier.{Identifier}
 use Rattle.wd_read_statements.specs.declared.syntax.KeyWords.{KeyWords}
@@ -12,13 +12,13 @@ use Rattle.wd_dialect_read.specs.declared.said.Item.TheVariants as i
 use Rattle.wd_dialect_read.specs.declared.said.Statement.{Statement}
 use Rattle.wd_dialect_read.specs.declared.said.Statement.TheVariants as s
 
--- a column: its name, what its values are, and what stands after its type
+-- a column: its name, its kind, and what comes after its type
 pub record ColumnSaid : Type 0 where
   pub name : List ℕ
   pub kind : ColumnKind
   pub marks : List Mark
 
--- a key: its words, the names of its columns, and what stands after them
+-- a key: its words, the names of its columns, and what comes after them
 pub record KeySaid : Type 0 where
   pub words : KeyWords
   pub columns : List (List ℕ)

@@ -55,7 +55,7 @@ kinds =
     ∷ (codes "macaddr", kind.Opaque)
     ∷ []
 
--- the kind that a table has for a name; of other types equal values may look different
+-- the kind that a table has for a name; for other types, a kind whose equal values may look different
 abbrev pub kind_in : List (List ℕ × ColumnKind) → List ℕ → ColumnKind
 kind_in [] name = kind.Loose
 kind_in (entry ∷ entries) name = if bytes_eq entry.0 name then entry.1 else kind_in entries name
@@ -63,8 +63,8 @@ kind_in (entry ∷ entries) name = if bytes_eq entry.0 name then entry.1 else ki
 unfoldable pub kind_named : List ℕ → ColumnKind
 kind_named name = kind_in kinds name
 
--- the kind of a type, by the one number in the brackets after its name: of a decimal it counts the digits, of a text the
--- characters; of others it is the length of an array
+-- the kind of a type, with one number in the brackets after its name: for a decimal it is the number of digits, for a text that of
+-- characters; for others it is the length of an array
 abbrev pub with_one : ColumnKind → ColumnKind
 with_one (kind.Decimal scale) = kind.Decimal (Some 0)
 with_one kind.Text = kind.Text
@@ -73,24 +73,24 @@ with_one kind.Float = kind.Float
 with_one kind.Loose = kind.Loose
 with_one _ = kind.Opaque
 
--- the same by two: of a decimal the second is its scale
+-- the kind of a type with two numbers in the brackets: for a decimal the second is its scale
 abbrev pub with_two : ℕ → ColumnKind → ColumnKind
 with_two scale (kind.Decimal other) = kind.Decimal (Some scale)
 with_two scale _ = kind.Opaque
 
--- the kind of a type, by what stands in brackets after its name
+-- the kind of a type, by what is in brackets after its name
 abbrev pub with_modifier : ColumnKind → Modifier → ColumnKind
 with_modifier found Nothing = found
 with_modifier found (One number) = with_one found
 with_modifier found (Two number scale) = with_two scale found
 with_modifier found Array = kind.Opaque
 
--- an array has values that may only be compared and sorted
+-- an array has values that are only compared and sorted
 abbrev pub with_array : Bool → ColumnKind → ColumnKind
 with_array true found = kind.Opaque
 with_array false found = found
 
--- a word of that spelling
+-- whether a token is this word
 abbrev pub is_text : List ℕ → TokenKind → Bool
 is_text word (t.Word text) = bytes_eq text word
 is_text word _ = false
@@ -107,12 +107,12 @@ abbrev pub has_word : List (List ℕ) → List ℕ → Bool
 has_word [] text = false
 has_word (word ∷ words) text = if bytes_eq word text then true else has_word words text
 
--- a word that is one of these
+-- whether a token is one of these words
 abbrev pub is_among : List (List ℕ) → TokenKind → Bool
 is_among words (t.Word text) = has_word words text
 is_among words _ = false
 
--- a comma, a closing bracket or a semicolon ends what stands between two commas
+-- whether a token ends an entry between two commas: a comma, a closing bracket or a semicolon
 abbrev pub ends_item : TokenKind → Bool
 ends_item (t.Terminal m.Comma) = true
 ends_item (t.Terminal m.RightBracket) = true
@@ -167,7 +167,7 @@ mark_of (t.Terminal m.Constraint) = mark.Constraint
 mark_of (t.Word word) = mark_of_word word
 mark_of _ = mark.Other
 
--- a rule of a column begins so
+-- whether a rule of a column begins with this mark
 abbrev pub begins_rule : Mark → Bool
 begins_rule mark.Not = true
 begins_rule mark.Null = true

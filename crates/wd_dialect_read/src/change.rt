@@ -1,5 +1,5 @@
-//! Changes of a table. Some add columns and keys, some are passed over, and all others are refused: after those, something that
-//! was read may not hold.
+//! Changes of a table. Some add columns and keys, some are passed over, and all others are refused, since after them something that was
+//! read may no longer hold.
 
 ghost use Rattle.std.specs.Prelude.{◌≡◌, Some, if◌then◌else◌};
 ghost use Rattle.wd_lex.specs.Lexed.{kinds_of};
@@ -17,7 +17,7 @@ use std::alloc::Global;
 use wd_lex::{Terminal, Token};
 use wd_read_cursor::{Reader, Refusal, expect, unexpected};
 
-/// A change that is passed over, where all that is read holds after it. Else its first token is refused.
+/// Passes over a change if everything that was read holds after it; else refuses its first token.
 fn read_kept(alloc: Global, is_kept: bool, tokens: &[Token]) -> Result<(Item, &[Token]), Refusal>
     ensures { Gives (λ x. (item_said x.0, kinds_of x.1.now)) result (if is_kept then pass (kinds_of tokens.now) (Some note.Statement) else refused (kinds_of tokens.now)) }
 {
@@ -28,7 +28,7 @@ fn read_kept(alloc: Global, is_kept: bool, tokens: &[Token]) -> Result<(Item, &[
     Ok((Item::Passed(Note::Statement), rest))
 }
 
-/// What is set of a table or a column, after SET.
+/// What is set for a table or a column, after SET.
 #[tactic(auto, unfolding(crate::specs::Reading::set_at))]
 fn read_set(alloc: Global, tokens: &[Token]) -> Result<(Item, &[Token]), Refusal>
     ensures { Gives (λ x. (item_said x.0, kinds_of x.1.now)) result (set_at (kinds_of tokens.now)) }

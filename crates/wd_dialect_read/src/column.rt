@@ -54,7 +54,7 @@ fn read_numbers(tokens: &[Token]) -> Result<(Modifier, &[Token]), Refusal>
     }
 }
 
-/// What stands in brackets after the name of a type.
+/// What is in brackets after the name of a type.
 #[tactic(auto, unfolding(crate::specs::Reading::modifier_at))]
 fn read_modifier(tokens: &[Token]) -> Result<(Modifier, &[Token]), Refusal>
     ensures { Gives (λ x. (x.0, kinds_of x.1.now)) result (modifier_at (kinds_of tokens.now)) }
@@ -71,7 +71,7 @@ fn read_modifier(tokens: &[Token]) -> Result<(Modifier, &[Token]), Refusal>
     }
 }
 
-/// Whether the empty brackets of an array stand first.
+/// Whether the empty brackets of an array come next, and the tokens after them.
 #[tactic(auto, unfolding(crate::specs::Reading::array_at))]
 fn read_array(tokens: &[Token]) -> Result<(bool, &[Token]), Refusal>
     ensures { Gives (λ x. (x.0, kinds_of x.1.now)) result (array_at (kinds_of tokens.now)) }
@@ -82,7 +82,7 @@ fn read_array(tokens: &[Token]) -> Result<(bool, &[Token]), Refusal>
     }
 }
 
-/// The tokens after the words that may stand after a type's brackets, as WITH TIME ZONE.
+/// The tokens after the words that may follow a type's brackets, such as WITH TIME ZONE.
 #[tactic(auto, unfolding(crate::specs::Reading::past_zone))]
 fn past_zone(tokens: &[Token]) -> &[Token]
     ensures { kinds_of result.now ≡ past_zone (kinds_of tokens.now) }
@@ -93,7 +93,7 @@ fn past_zone(tokens: &[Token]) -> &[Token]
     }
 }
 
-/// The kind of an array, or of what is none.
+/// The kind of an array of a kind, or the kind itself.
 fn with_array(is_array: bool, kind: ColumnKind) -> ColumnKind
     ensures { result ≡ with_array is_array kind }
 {

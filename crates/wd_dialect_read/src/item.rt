@@ -1,4 +1,4 @@
-//! What stands between two commas of a table's declaration.
+//! What is between two commas of a table's declaration.
 
 ghost use Rattle.std.specs.Prelude.{◌≡◌, ◌<◌, length, map, IfOk};
 ghost use Rattle.wd_lex.specs.Lexed.{kinds_of};
@@ -92,7 +92,7 @@ fn read_names(alloc: Global, tokens: &[Token]) -> Result<(Vec<Identifier>, &[Tok
     Ok((names, rest))
 }
 
-/// A key, and what stands after it.
+/// A key, and what comes after it.
 #[tactic(auto, unfolding(crate::specs::Reading::key_at))]
 fn read_key(alloc: Global, tokens: &[Token]) -> Result<(SaidKey, &[Token]), Refusal>
     ensures { Gives (λ x. (key_said x.0, kinds_of x.1.now)) result (key_at (kinds_of tokens.now)) }
@@ -116,7 +116,7 @@ fn begins_key(tokens: &[Token]) -> bool
     eat(tokens, Terminal::Primary).is_some() || eat(tokens, Terminal::Unique).is_some()
 }
 
-/// That EXCLUDE is passed over, where its brackets stand after it. Else it is the name of a column.
+/// The note for EXCLUDE, if its brackets follow; else EXCLUDE is the name of a column.
 #[tactic(auto, unfolding(crate::specs::Reading::exclude_note))]
 fn exclude_note(tokens: &[Token]) -> Option<Note>
     ensures { result ≡ exclude_note (kinds_of tokens.now) }
@@ -128,7 +128,7 @@ fn exclude_note(tokens: &[Token]) -> Option<Note>
     }
 }
 
-/// What is passed over, where the first word says so.
+/// The note for what is passed over, if the first word begins such a part.
 #[tactic(auto, unfolding(crate::specs::Reading::note_at))]
 fn note_at(tokens: &[Token]) -> Option<Note>
     ensures { result ≡ note_at (kinds_of tokens.now) }
@@ -151,7 +151,7 @@ fn note_at(tokens: &[Token]) -> Option<Note>
     }
 }
 
-/// A rule of a table: a key, or what is passed over.
+/// A rule of a table: a key, or something that is passed over.
 #[tactic(auto, unfolding(crate::specs::Reading::rule_at))]
 fn read_rule(alloc: Global, tokens: &[Token]) -> Result<(Item, &[Token]), Refusal>
     ensures { Gives (λ x. (item_said x.0, kinds_of x.1.now)) result (rule_at (kinds_of tokens.now)) }
@@ -167,7 +167,7 @@ fn read_rule(alloc: Global, tokens: &[Token]) -> Result<(Item, &[Token]), Refusa
     Ok((Item::Passed(note), rest))
 }
 
-/// What stands between two commas.
+/// Reads one entry between two commas.
 #[tactic(auto, unfolding(crate::specs::Reading::item_at))]
 pub fn read_item(alloc: Global, tokens: &[Token]) -> Result<(Item, &[Token]), Refusal>
     ensures { Gives (λ x. (item_said x.0, kinds_of x.1.now)) result (item_at (kinds_of tokens.now)) }
@@ -185,7 +185,7 @@ pub fn read_item(alloc: Global, tokens: &[Token]) -> Result<(Item, &[Token]), Re
     Ok((Item::Column(column), rest))
 }
 
-/// Reads what stands between two commas.
+/// Reads the entries between commas.
 struct Items;
 
 impl Reader for Items {
@@ -206,7 +206,7 @@ impl Reader for Items {
     }
 }
 
-/// What stands in the brackets of a table.
+/// Reads what is in the brackets of a table.
 #[tactic(auto, unfolding(crate::specs::Reading::items_at))]
 pub fn read_items(alloc: Global, tokens: &[Token]) -> Result<(Vec<Item>, &[Token]), Refusal>
     ensures { Gives (λ x. (map item_said x.0.items, kinds_of x.1.now)) result (items_at (kinds_of tokens.now)) }

@@ -1,4 +1,4 @@
-//! The words of what is passed over, since after it all that is read still holds.
+//! The words of what is passed over, since everything that was read still holds after it.
 
 ghost use Rattle.std.specs.Prelude.{◌≡◌};
 ghost use Rattle.wd_lex.specs.Lexed.{kinds_of};
@@ -8,7 +8,7 @@ ghost use Rattle.wd_dialect_read.specs.Reading.{begins_among};
 use crate::words::begins_among;
 use wd_lex::Token;
 
-// The statements after which all that is read holds, by their first words.
+// The statements after which everything that was read holds, by their first words.
 const STATEMENT_WORDS: [&[u8]; 18] = [
     b"set",
     b"reset",
@@ -30,14 +30,14 @@ const STATEMENT_WORDS: [&[u8]; 18] = [
     b"show",
 ];
 
-/// Whether a statement stands first after which all that is read holds.
+/// Whether the tokens begin a statement after which everything that was read holds.
 pub fn begins_statement(tokens: &[Token]) -> bool
     ensures { result ≡ begins_among statement_words (kinds_of tokens.now) }
 {
     begins_among(tokens, &STATEMENT_WORDS)
 }
 
-// What CREATE makes beside tables.
+// What CREATE makes besides tables.
 const CREATE_WORDS: [&[u8]; 31] = [
     b"index",
     b"sequence",
@@ -72,14 +72,14 @@ const CREATE_WORDS: [&[u8]; 31] = [
     b"access",
 ];
 
-/// Whether what CREATE makes beside tables stands first.
+/// Whether the tokens begin with something else that CREATE makes than a table.
 pub fn begins_created(tokens: &[Token]) -> bool
     ensures { result ≡ begins_among create_words (kinds_of tokens.now) }
 {
     begins_among(tokens, &CREATE_WORDS)
 }
 
-// What ALTER changes beside tables. ALTER INDEX renames tables too.
+// What ALTER changes besides tables. ALTER INDEX is not among these, since it renames tables too.
 const ALTER_WORDS: [&[u8]; 30] = [
     b"sequence",
     b"type",
@@ -113,14 +113,14 @@ const ALTER_WORDS: [&[u8]; 30] = [
     b"system",
 ];
 
-/// Whether what ALTER changes beside tables stands first.
+/// Whether the tokens begin with something else that ALTER changes than a table.
 pub fn begins_altered(tokens: &[Token]) -> bool
     ensures { result ≡ begins_among alter_words (kinds_of tokens.now) }
 {
     begins_among(tokens, &ALTER_WORDS)
 }
 
-// Changes of a table after which all that is read of it holds.
+// Changes of a table after which everything that was read of it holds.
 const CHANGE_WORDS: [&[u8]; 8] = [
     b"owner",
     b"enable",
@@ -132,37 +132,37 @@ const CHANGE_WORDS: [&[u8]; 8] = [
     b"validate",
 ];
 
-/// Whether such a change of a table stands first.
+/// Whether the tokens begin such a change of a table.
 pub fn begins_change(tokens: &[Token]) -> bool
     ensures { result ≡ begins_among change_words (kinds_of tokens.now) }
 {
     begins_among(tokens, &CHANGE_WORDS)
 }
 
-// Such changes of a column.
+// Changes of a column after which everything that was read of it holds.
 const COLUMN_WORDS: [&[u8]; 3] = [b"add", b"reset", b"restart"];
 
-/// Whether such a change of a column stands first.
+/// Whether the tokens begin such a change of a column.
 pub fn begins_column_change(tokens: &[Token]) -> bool
     ensures { result ≡ begins_among column_words (kinds_of tokens.now) }
 {
     begins_among(tokens, &COLUMN_WORDS)
 }
 
-// What a column loses and keeps all that is read of it.
+// What a column may lose while everything that was read of it holds.
 const DROP_WORDS: [&[u8]; 3] = [b"default", b"identity", b"expression"];
 
-/// Whether that stands first which a column may lose.
+/// Whether the tokens begin with something that a column may lose.
 pub fn begins_dropped(tokens: &[Token]) -> bool
     ensures { result ≡ begins_among drop_words (kinds_of tokens.now) }
 {
     begins_among(tokens, &DROP_WORDS)
 }
 
-// What is set after which something that is read does not hold.
+// What is set after which something that was read no longer holds.
 const SET_WORDS: [&[u8]; 2] = [b"schema", b"data"];
 
-/// Whether the schema of a table or the type of a column stands first.
+/// Whether the tokens begin with the schema of a table or the type of a column, which may not be set.
 pub fn begins_unsaid(tokens: &[Token]) -> bool
     ensures { result ≡ begins_among set_words (kinds_of tokens.now) }
 {

@@ -18,14 +18,14 @@ pub enum ColumnKind {
     Date,
     /// Microseconds.
     Timestamp,
-    /// Decimals. With so many places after the point they are whole numbers of their last place; else equal ones may look
-    /// different.
+    /// Decimals. With a known number of places after the point they are whole numbers of their last place; without it equal ones may
+    /// look different.
     Decimal(Option<u64>),
     /// Floating numbers, whose sum depends on the order in which they are added.
     Float,
-    /// Values that may only be compared and sorted.
+    /// Values that are only compared and sorted.
     Opaque,
-    /// The same, where two that are equal may look different, as intervals and JSON.
+    /// Values that are only compared and sorted, and of which two that are equal may look different, such as intervals and JSON.
     Loose,
 }
 
@@ -70,7 +70,7 @@ const KINDS: [(&[u8], ColumnKind); 37] = [
     (b"macaddr", ColumnKind::Opaque),
 ];
 
-/// What stands in brackets after the name of a type.
+/// What is in brackets after the name of a type.
 #[derive(Clone, Copy, PartialEq, Eq)]
 pub enum Modifier {
     Nothing,
@@ -80,7 +80,7 @@ pub enum Modifier {
     Array,
 }
 
-/// The kind that a table has for a name; other types are such that equal values may look different.
+/// The kind that a table has for a name; for other types, a kind whose equal values may look different.
 fn kind_in(mut table: &[(&[u8], ColumnKind)], name: &[u8]) -> ColumnKind
     ensures { result ≡ kind_in (map (λ entry. (entry.0.now, entry.1)) table.entry.now) name.now }
 {
@@ -93,7 +93,7 @@ fn kind_in(mut table: &[(&[u8], ColumnKind)], name: &[u8]) -> ColumnKind
     ColumnKind::Loose
 }
 
-/// The kind of the type of that name.
+/// The kind of the type with that name.
 #[tactic(auto, unfolding(crate::specs::Tokens::kind_named))]
 pub fn kind_named(name: &[u8]) -> ColumnKind
     ensures { result ≡ kind_named name.now }
@@ -101,7 +101,7 @@ pub fn kind_named(name: &[u8]) -> ColumnKind
     kind_in(&KINDS, name)
 }
 
-/// The kind of a type with what stands in brackets after its name. In square brackets an array has its length.
+/// The kind of a type with what is in brackets after its name. For an array the number in square brackets is its length.
 pub fn with_modifier(kind: ColumnKind, modifier: Modifier) -> ColumnKind
     ensures { result ≡ with_modifier kind modifier }
 {

@@ -6,7 +6,7 @@ use crate::kind::ColumnKind;
 use wd_declaration::Identifier;
 use wd_read_statements::KeyWords;
 
-/// What is passed over: the columns, keys and rows are read without it.
+/// What is passed over: columns, keys and rows mean the same without it.
 #[derive(Clone, Copy, PartialEq, Eq)]
 pub enum Note {
     /// `DEFAULT` of a column.
@@ -25,7 +25,7 @@ pub enum Note {
     Like,
     /// `STORAGE` and `COMPRESSION` of a column.
     Storage,
-    /// `DEFERRABLE` of a column or a key: a key holds where a transaction has ended, and not before.
+    /// `DEFERRABLE` of a column or a key: such a key holds only at the end of a transaction.
     Deferrable,
     /// A statement that declares no table, or a change that adds nothing to one.
     Statement,
@@ -48,7 +48,7 @@ pub enum Mark {
     Other,
 }
 
-/// A column: what its type is, and what stands after it.
+/// A column: its type, and what comes after it.
 #[derive(Drop)]
 pub struct SaidColumn {
     pub name: Identifier,
@@ -56,7 +56,7 @@ pub struct SaidColumn {
     pub marks: Vec<Mark>,
 }
 
-/// A key: its words, its columns, of which there is at least one, and what stands after them.
+/// A key: its words, its columns, of which there is at least one, and what comes after them.
 #[derive(Drop)]
 pub struct SaidKey {
     pub words: KeyWords,
@@ -65,7 +65,7 @@ pub struct SaidKey {
     ghost some: { 0 < length columns.items },
 }
 
-/// What stands between two commas of a table's declaration.
+/// An entry between two commas of a table's declaration.
 #[derive(Drop)]
 pub enum Item {
     Column(SaidColumn),
@@ -73,7 +73,7 @@ pub enum Item {
     Passed(Note),
 }
 
-/// A table's declaration, or what is added to a table of that name.
+/// A table's declaration, or what is added to the table with that name.
 #[derive(Drop)]
 pub struct SaidTable {
     pub name: Identifier,
@@ -87,6 +87,6 @@ pub enum Statement {
     Table(SaidTable),
     /// Changes of a table.
     Changed(SaidTable),
-    /// One that is passed over.
+    /// A statement that is passed over.
     Passed(Note),
 }

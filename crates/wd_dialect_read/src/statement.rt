@@ -39,7 +39,7 @@ fn pass(tokens: &[Token]) -> (Statement, &[Token])
     (Statement::Passed(Note::Statement), past_statement(tokens))
 }
 
-/// A statement that is passed over, where all that is read holds after it. Else its first token is refused.
+/// Passes over a statement if everything that was read holds after it; else refuses its first token.
 fn read_kept(is_kept: bool, tokens: &[Token]) -> Result<(Statement, &[Token]), Refusal>
     ensures { Gives (λ x. (statement_said x.0, kinds_of x.1.now)) result (if is_kept then passed_at (kinds_of tokens.now) else refused (kinds_of tokens.now)) }
 {
@@ -135,7 +135,7 @@ fn past_only(tokens: &[Token]) -> &[Token]
     }
 }
 
-/// The end of a statement: its semicolon, or that of the text.
+/// The tokens after the end of a statement: its semicolon, or the end of the text.
 #[tactic(auto, unfolding(crate::specs::Reading::end_at))]
 fn past_end(tokens: &[Token]) -> Result<&[Token], Refusal>
     ensures { Gives (λ r. kinds_of r.now) result (end_at (kinds_of tokens.now)) }
@@ -204,7 +204,7 @@ fn read_statement(alloc: Global, tokens: &[Token]) -> Result<(Statement, &[Token
     Ok((statement, rest))
 }
 
-/// The statements of a schema. The refusal says at which token they can't be read.
+/// The statements of a schema. The refusal names the token at which they can't be read.
 #[tactic(auto, unfolding(crate::specs::Reading::statements_at))]
 pub fn read_statements(
     alloc: Global,

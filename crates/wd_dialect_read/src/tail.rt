@@ -1,4 +1,4 @@
-//! What stands after a column's type.
+//! What comes after a column's type.
 
 ghost use Rattle.std.specs.Prelude.{◌≡◌, ◌+◌, ◌^◌, ◌<◌, ◌++◌, map};
 ghost use Rattle.wd_lex.specs.Lexed.{kinds_of};
@@ -24,7 +24,7 @@ const COLUMN_NOTES: [(&[u8], Note); 9] = [
     (b"deferred", Note::Deferrable),
 ];
 
-/// What a table of words has for a word.
+/// The note that a table of words has for a word.
 pub fn note_in(mut table: &[(&[u8], Note)], word: &[u8]) -> Option<Note>
     ensures { result ≡ note_in (map (λ entry. (entry.0.now, entry.1)) table.entry.now) word.now }
 {
@@ -66,7 +66,7 @@ fn mark_of(kind: &TokenKind) -> Mark
     }
 }
 
-/// Whether a token ends what stands between two commas.
+/// Whether a token ends an entry between two commas.
 fn ends_item(kind: &TokenKind) -> bool
     ensures { result ≡ ends_item kind.now }
 {
@@ -76,7 +76,7 @@ fn ends_item(kind: &TokenKind) -> bool
     )
 }
 
-/// Whether a rule of a column begins so.
+/// Whether a rule of a column begins with this mark.
 fn begins_rule(mark: Mark) -> bool
     ensures { result ≡ begins_rule mark }
 {
@@ -103,7 +103,7 @@ fn depth_after(depth: usize, kind: &TokenKind) -> usize
     }
 }
 
-/// Adds what a token says, where no bracket is open.
+/// Adds what a token says, if no bracket is open.
 fn add_mark(marks: &mut Vec<Mark>, depth: usize, kind: &TokenKind) -> Result<(), Refusal>
     ensures { MayRead (λ _. marks.new.items) result (marks.old.items ++ marks_at depth kind.now) }
 {

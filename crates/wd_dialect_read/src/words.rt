@@ -11,7 +11,7 @@ use wd_declaration::Identifier;
 use wd_lex::{Token, TokenKind};
 use wd_read_cursor::{Name, Refusal, name_at, unexpected};
 
-/// The tokens after a word of that spelling, where it stands first.
+/// The tokens after this word, if they begin with it.
 #[tactic(auto, unfolding(crate::specs::Reading::eat_text))]
 pub fn eat_text<'t>(tokens: &'t [Token], word: &str) -> Option<&'t [Token]>
     ensures { Finds (λ r. kinds_of r.now) result (eat_text word.now (kinds_of tokens.now)) }
@@ -34,7 +34,7 @@ pub fn eat_text<'t>(tokens: &'t [Token], word: &str) -> Option<&'t [Token]>
     }
 }
 
-/// The name that has to stand first, and the tokens after it.
+/// The name at the start, which is required, and the tokens after it.
 #[tactic(auto, unfolding(crate::specs::Reading::identifier_at))]
 pub fn read_identifier(alloc: Global, tokens: &[Token]) -> Result<(Identifier, &[Token]), Refusal>
     ensures { Gives (λ x. (x.0.text, kinds_of x.1.now)) result (identifier_at (kinds_of tokens.now)) }
@@ -47,7 +47,7 @@ pub fn read_identifier(alloc: Global, tokens: &[Token]) -> Result<(Identifier, &
     }
 }
 
-/// The tokens after a word of that spelling, which has to stand first.
+/// The tokens after this word, which is required at the start.
 #[tactic(auto, unfolding(crate::specs::Reading::expect_text))]
 pub fn expect_text<'t>(tokens: &'t [Token], word: &str) -> Result<&'t [Token], Refusal>
     ensures { Gives (λ r. kinds_of r.now) result (expect_text word.now (kinds_of tokens.now)) }
@@ -71,7 +71,7 @@ fn has_word(mut words: &[&[u8]], text: &[u8]) -> bool
     false
 }
 
-/// Whether a word of a list stands first.
+/// Whether the tokens begin with a word of a list.
 #[tactic(auto, unfolding(crate::specs::Reading::begins_among))]
 pub fn begins_among(tokens: &[Token], words: &[&[u8]]) -> bool
     ensures { result ≡ begins_among (map (λ word. word.now) words.now) (kinds_of tokens.now) }
@@ -82,7 +82,7 @@ pub fn begins_among(tokens: &[Token], words: &[&[u8]]) -> bool
     }
 }
 
-/// Whether a word is one of a list.
+/// Whether a token is a word of a list.
 fn is_among(words: &[&[u8]], kind: &TokenKind) -> bool
     ensures { result ≡ is_among (map (λ word. word.now) words.now) kind.now }
 {
@@ -92,7 +92,7 @@ fn is_among(words: &[&[u8]], kind: &TokenKind) -> bool
     }
 }
 
-/// The tokens after the words of a list that stand first.
+/// The tokens after the words of a list at the start.
 #[tactic(auto, unfolding(crate::specs::Reading::past_words))]
 fn past_words<'t>(tokens: &'t [Token], words: &[&[u8]]) -> &'t [Token]
     ensures { kinds_of result.now ≡ past_words (map (λ word. word.now) words.now) (kinds_of tokens.now) }

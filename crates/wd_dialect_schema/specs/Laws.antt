@@ -9,6 +9,6 @@ use Rattle.wd_dialect_schema.specs.Texts.{HasCause, Says}
 abbrev pub HasOneMeaning : Type 0
 HasOneMeaning = (text : List ℕ) (first second : List StatementSaid) → Says text first → Says text second → first ≡ second
 
--- In a text that has statements no refusal's cause stands, but that its text in the profile would be too long.
+-- A text that has statements has no cause of a refusal, except that its text in the profile would be too long.
 abbrev pub HasMeaningOrCause : Type 0
 HasMeaningOrCause = (text : List ℕ) (statements : List StatementSaid) (refusal : DialectError) → Says text statements → refusal ≢ TooLong → HasCause text refusal → ⊥

@@ -19,8 +19,8 @@ use Rattle.wd_dialect_read.specs.declared.said.Note.TheVariants as note
 use Rattle.wd_dialect_read.specs.Said.{ColumnSaid, KeySaid, ItemSaid, StatementSaid}
 use Rattle.wd_dialect_read.specs.Said as said
 
--- The profile's type of a column: dates as days, timestamps as microseconds, decimals of a scale as whole numbers of their
--- last place. What may only be compared and sorted stands as a text.
+-- The profile's type of a column: dates as days, timestamps as microseconds, decimals with a scale as whole numbers of their last
+-- place. Values that are only compared and sorted become texts.
 abbrev pub type_of : ColumnKind → ColumnType
 type_of kind.Small = profile.SmallInt
 type_of kind.Whole = profile.Integer
@@ -43,7 +43,7 @@ abbrev pub begins_null : List Mark → Bool
 begins_null (mark.Null ∷ marks) = true
 begins_null _ = false
 
--- NOT NULL stands among what is said outside brackets
+-- whether NOT NULL is among the marks, which are outside brackets
 abbrev pub says_not_null : List Mark → Bool
 says_not_null [] = false
 says_not_null (m ∷ marks) = (is_not m && begins_null marks) || says_not_null marks
@@ -52,18 +52,18 @@ abbrev pub is_deferrable : Mark → Bool
 is_deferrable (mark.Passed note.Deferrable) = true
 is_deferrable _ = false
 
--- DEFERRABLE stands among what is said outside brackets, without NOT before it; or NOT stands before all of that
+-- whether DEFERRABLE is among the marks without NOT right before it; `after_not` says whether NOT comes right before the marks
 abbrev pub says_deferrable : Bool → List Mark → Bool
 says_deferrable after_not [] = false
 says_deferrable after_not (m ∷ marks) = (is_deferrable m && not after_not) || says_deferrable (is_not m) marks
 
--- what is said of NULLs after UNIQUE
+-- what UNIQUE says of NULLs, by the marks after it
 abbrev pub nulls_said : List Mark → Nulls
 nulls_said (mark.Nulls ∷ mark.Not ∷ mark.Distinct ∷ marks) = NotDistinct
 nulls_said (mark.Nulls ∷ mark.Distinct ∷ marks) = Distinct
 nulls_said _ = Unsaid
 
--- the key that begins with a mark
+-- the key that a mark begins, by the marks after it
 abbrev pub key_said : Mark → List Mark → Option KeyWords
 key_said mark.Primary marks = Some Primary
 key_said mark.Unique marks = Some (Unique (nulls_said marks))
@@ -80,36 +80,36 @@ abbrev pub key_before : List ℕ → Option KeyWords → List ElementTree → Li
 key_before name (Some words) keys = key_of words (name ∷ []) ∷ keys
 key_before name None keys = keys
 
--- the keys of a column of that name
+-- the keys of a column with that name
 abbrev pub keys_of : List ℕ → List Mark → List ElementTree
 keys_of name [] = []
 keys_of name (m ∷ marks) = key_before name (key_said m marks) (keys_of name marks)
 
--- A key that is DEFERRABLE holds where a transaction has ended, and not before: it is none.
+-- A key that is DEFERRABLE holds only at the end of a transaction: it gives no key.
 abbrev pub lasting : List Mark → List ElementTree → List ElementTree
 lasting marks keys = if says_deferrable false marks then [] else keys
 
 abbrev pub column_of : ColumnSaid → ElementTree
 column_of c = Column (record { name = name_of c.name; kind = record { text = type_word (type_of c.kind); quoted = false }; rules = rules_of (says_not_null c.marks) })
 
--- what stands between two commas: a column and its keys, a key, or nothing
+-- an entry between two commas: a column and its keys, a key, or nothing
 abbrev pub elements_of : ItemSaid → List ElementTree
 elements_of (said.Column c) = column_of c ∷ lasting c.marks (keys_of c.name c.marks)
 elements_of (said.Key k) = lasting k.marks (key_of k.words k.columns ∷ [])
 elements_of (said.Passed note) = []
 
--- the columns and keys that statements add to the table of that name
+-- the columns and keys that statements add to the table with that name
 abbrev pub added_by : List ℕ → StatementSaid → List ElementTree
 added_by name (said.Changed table items) = if bytes_eq table name then flat_map elements_of items else []
 added_by name (said.Table table items) = []
 added_by name (said.Other note) = []
 
--- a table where it has a column or a key
+-- a table, if it has a column or a key
 abbrev pub table_of : List ℕ → List ElementTree → List TableTree
 table_of name [] = []
 table_of name (element ∷ elements) = record { name = name_of name; elements = element ∷ elements } ∷ []
 
--- the table that a statement declares, with what others add to it
+-- the table that a statement declares, with what other statements add to it
 abbrev pub tables_by : List StatementSaid → StatementSaid → List TableTree
 tables_by all (said.Table name items) = table_of name (flat_map elements_of items ++ flat_map (added_by name) all)
 tables_by all (said.Changed name items) = []

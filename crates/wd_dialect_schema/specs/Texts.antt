@@ -30,7 +30,7 @@ pub record Says (text : List ℕ) (statements : List StatementSaid) : Type 0 whe
 abbrev pub schema_of : List TableTree → SchemaTree
 schema_of tables = record { tables = tables; ended = false }
 
--- A text of the profile spells the tables. So where they are refused for nothing, it declares just these.
+-- A text of the profile spells the tables. So where nothing refuses the tables, the text declares just these.
 pub record Spells (text : List ℕ) (tables : List TableTree) : Type 0 where
   pub whole : IsSchema (schema_of tables)
   pub spelled : HasTokens text (spell_schema (schema_of tables))
@@ -41,7 +41,7 @@ abbrev pub left_in : Fault → ℕ
 left_in (Unexpected left) = left
 left_in (Limit left) = left
 
--- the masked text has tokens, and no statement goes on with the one of that number
+-- the masked text has tokens, and the token with this number cannot come next in a statement
 pub record Stops (text : List ℕ) (place : ℕ) : Type 0 where
   pub tokens : List Token
   pub lexed : IsLexed (masked text) tokens
@@ -55,7 +55,7 @@ pub record IsLong (text : List ℕ) : Type 0 where
   pub says : Says text statements
   pub long : most_bytes < length (printed (spell_schema (schema_of (tables_of statements))))
 
--- a refusal's cause stands in the text; where memory runs out none does
+-- a text has the cause of a refusal; running out of memory has none
 abbrev pub HasCause : List ℕ → DialectError → Type 0
 HasCause text (e.Tokens error) = tokens.HasCause error (masked text)
 HasCause text (e.Unexpected place) = Stops text place

@@ -75,7 +75,7 @@ fn add_key(
     Ok(())
 }
 
-/// Adds the keys of a column, where they hold at each time.
+/// Adds the keys of a column, if they hold at all times.
 fn add_lasting_keys(
     alloc: Global,
     elements: &mut Vec<DeclaredElement>,
@@ -89,7 +89,7 @@ fn add_lasting_keys(
     add_keys(alloc, elements, column)
 }
 
-/// Adds a key of a table, where it holds at each time.
+/// Adds a key of a table, if it holds at all times.
 fn add_lasting_key(
     alloc: Global,
     elements: &mut Vec<DeclaredElement>,
@@ -119,7 +119,7 @@ fn add_keys(
     Ok(())
 }
 
-/// Adds what stands between two commas.
+/// Adds the column or the key of one entry.
 fn add_item(
     alloc: Global,
     elements: &mut Vec<DeclaredElement>,
@@ -137,7 +137,7 @@ fn add_item(
     }
 }
 
-/// Adds the columns and keys of items.
+/// Adds the columns and keys of entries.
 pub fn add_items(
     alloc: Global,
     elements: &mut Vec<DeclaredElement>,

@@ -11,9 +11,9 @@ use wd_lex::LexError;
 pub enum DialectError {
     /// The masked text has no tokens.
     Tokens(LexError),
-    /// No statement goes on with the token of that number.
+    /// The token with this number cannot come next in a statement.
     Unexpected { place: u64 },
-    /// The text of the declared tables would be longer than the profile's texts are.
+    /// The text of the declared tables would be longer than 65,536 bytes.
     TooLong,
     OutOfMemory,
 }

@@ -7,7 +7,7 @@ pub fn one_meaning()
     ensures { HasOneMeaning }
 {}
 
-/// No refusal's cause stands in a text that has statements, but that its text in the profile would be too long.
+/// A text that has statements has no cause of a refusal, except that its text in the profile would be too long.
 pub fn meaning_or_cause()
     ensures { HasMeaningOrCause }
 {}

@@ -35,7 +35,7 @@ fn is_not(mark: Mark) -> bool
     }
 }
 
-/// Whether NULL stands first.
+/// Whether the marks begin with NULL.
 fn begins_null(marks: &[Mark]) -> bool
     ensures { result ≡ begins_null marks.now }
 {
@@ -45,7 +45,7 @@ fn begins_null(marks: &[Mark]) -> bool
     }
 }
 
-/// Whether NOT NULL stands among the marks.
+/// Whether NOT NULL is among the marks.
 pub fn says_not_null(marks: &[Mark]) -> bool
     ensures { result ≡ says_not_null marks.now }
 {
@@ -69,7 +69,7 @@ fn is_deferrable(mark: Mark) -> bool
     }
 }
 
-/// Whether DEFERRABLE stands among the marks, without NOT before it.
+/// Whether DEFERRABLE is among the marks, without NOT right before it.
 pub fn says_deferrable(marks: &[Mark]) -> bool
     ensures { result ≡ says_deferrable false marks.now }
 {
@@ -85,7 +85,7 @@ pub fn says_deferrable(marks: &[Mark]) -> bool
     false
 }
 
-/// What is said of NULLs after UNIQUE.
+/// What UNIQUE says of NULLs, by the marks after it.
 fn nulls_said(marks: &[Mark]) -> Nulls
     ensures { result ≡ nulls_said marks.now }
 {
@@ -96,7 +96,7 @@ fn nulls_said(marks: &[Mark]) -> Nulls
     }
 }
 
-/// The key that begins with a mark, before others.
+/// The key that a mark begins, by the marks after it.
 pub fn key_said(mark: Mark, others: &[Mark]) -> Option<KeyWords>
     ensures { result ≡ key_said mark others.now }
 {

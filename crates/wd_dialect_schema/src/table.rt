@@ -12,7 +12,7 @@ use std::alloc::{AllocError, Global};
 use wd_declaration::{Declaration, DeclaredElement, Identifier};
 use wd_dialect_read::{Item, Statement};
 
-/// Adds what a statement adds to the table of that name.
+/// Adds what a statement adds to the table with that name.
 fn add_added(
     alloc: Global,
     elements: &mut Vec<DeclaredElement>,
@@ -29,7 +29,7 @@ fn add_added(
     }
 }
 
-/// The columns and keys of the table of that name, with those that statements add.
+/// The columns and keys of the table with that name, with those that statements add.
 fn table_elements(
     alloc: Global,
     statements: &[Statement],
@@ -46,7 +46,7 @@ fn table_elements(
     Ok(elements)
 }
 
-/// Adds a table, where it has a column or a key.
+/// Adds a table, if it has a column or a key.
 fn add_table(
     tables: &mut Vec<Declaration>,
     name: &Identifier,

@@ -23,7 +23,7 @@ use wd_read_cursor::{Refusal, token_place};
 /// A schema as PostgreSQL's tools write it.
 #[derive(Drop)]
 pub struct DialectSchema {
-    /// Its statements, with what its columns are and what is passed over.
+    /// Its statements, with the kinds of columns and what is passed over.
     pub statements: Vec<Statement>,
     /// The text of the profile that spells its tables.
     pub text: String,
@@ -31,7 +31,7 @@ pub struct DialectSchema {
 
 /// The schema of a text of PostgreSQL.
 ///
-/// A table's name stands without its schema. Each name stands in quotes in the profile's text.
+/// A table is named without its schema. In the profile's text each name is in quotes.
 pub fn read_dialect(alloc: Global, text: &[u8]) -> Result<DialectSchema, DialectError>
     // The statements are those of the text.
     ensures says { IfOk result (λ schema. Says text.now (map statement_said schema.statements.items)) }
@@ -39,10 +39,10 @@ pub fn read_dialect(alloc: Global, text: &[u8]) -> Result<DialectSchema, Dialect
     // The profile's text spells the tables that they declare.
     ensures spells { IfOk result (λ schema. Spells (string_bytes schema.text) (tables_of (map statement_said schema.statements.items))) }
 
-    // A refusal comes only where its cause stands in the text.
+    // A refusal occurs only where the text has its cause.
     ensures cause { IfErr result (λ refusal. refusal ≢ DialectError.OutOfMemory → HasCause text.now refusal) }
 
-    // Where a cause stands in its tokens, the text is refused.
+    // Where the text's tokens have a cause, the text is refused.
     ensures refused { OnOk result ((refusal : Refused) → refusal ≢ DialectError.TooLong → HasCause text.now refusal → ⊥) }
 {
     let statements = statements_of(alloc, text)?;
@@ -76,7 +76,7 @@ fn lexer_refusal(error: LexError) -> DialectError
     }
 }
 
-/// The refusal of tokens, by the number of the token.
+/// The refusal of the tokens, with the number of the refused token.
 fn refusal_at(tokens: &[Token], refusal: Refusal) -> DialectError
     ensures { MatchOption (left_of refusal) (result ≡ DialectError.OutOfMemory) (λ left. result ≡ DialectError.Unexpected (length (kinds_of tokens.now) - left)) }
 {

@@ -37,7 +37,7 @@ fn show(rt: &HostRuntime, text: &str) -> io::Result<()> {
     }
 }
 
-/// Prints where a text is refused, and the bytes that stand there.
+/// Prints where a text is refused, and the bytes that are there.
 fn show_refused(rt: &HostRuntime, text: &str, refused: Refused) -> io::Result<()> {
     match refused {
         Refused::Profile => rt.println("refused by the profile"),

@@ -1,25 +1,25 @@
--- A text of PostgreSQL in the characters of the profile. What stands in comments and quotes stays as it is; outside of them
--- a square bracket stands as a round one, the point in a number as a blank, what PostgreSQL has as a character of an operator
--- and the profile has not as a percent sign, and a command of psql, from its backslash to the end of the line, as blanks. In
--- a text E'..' a quote behind a backslash stands as an underscore. Each byte stays at its place.
+-- A text of PostgreSQL in the characters of the profile. What is in comments and quotes stays as it is; outside of them a square
+-- bracket becomes a round one, the point in a number a blank, a character of an operator that PostgreSQL has and the profile does not a
+-- percent sign, and a command of psql, from its backslash to the end of the line, becomes blanks. In a text E'..' a quote after a
+-- backslash becomes an underscore. Each byte stays at its place.
 use Rattle.std.specs.Prelude.{ℕ, ◌+◌, ◌-◌, ◌^◌, ◌==◌, ◌||◌, ◌&&◌, min, Bool, List, [], ◌∷◌, slice_index, if◌then◌else◌}
 use Rattle.wd_lex.specs.Characters.{begins_word, goes_on_word, is_digit, is_line_end, single_quote, double_quote}
 use Rattle.wd_dialect_text.specs.declared.mask.State.{State}
 use Rattle.wd_dialect_text.specs.declared.mask.State.TheVariants as s
 
--- a byte in place of another, and the state after it
+-- a byte that is written in place of another, and the state after it
 abbrev pub Step : Type 0
 Step = ℕ × State
 
--- a character of an operator that the profile has not
+-- a character of an operator that the profile does not have
 abbrev pub is_foreign : ℕ → Bool
 is_foreign b = b == 33 || b == 35 || b == 38 || b == 58 || b == 63 || b == 64 || b == 94 || b == 96 || b == 123 || b == 124 || b == 125 || b == 126
 
--- an `e` before a text
+-- an `e` that begins a text E'..'
 abbrev pub is_prefix : ℕ → ℕ → Bool
 is_prefix b next = (b == 69 || b == 101) && next == single_quote
 
--- a byte that no token holds together with the one before it
+-- the step of a byte that continues no token from the byte before it
 unfoldable pub between : ℕ → ℕ → Step
 between b next =
     if is_prefix b next then (b, s.Prefix)
@@ -35,11 +35,11 @@ between b next =
     else (if is_foreign b then (37, s.Between)
     else (b, s.Between)))))))))))
 
--- so many comments deep, and one more
+-- one more than the number of comments that a comment is nested in
 abbrev pub deeper : ℕ → ℕ
 deeper depth = min (depth + 1) (2 ^ 64 - 1)
 
--- where the closing of a comment ends
+-- the state after the end of a comment
 abbrev pub closed : ℕ → State
 closed depth = if depth == 0 then s.Between else s.Block (depth - 1)
 
@@ -59,7 +59,7 @@ step (s.Opening depth) b next = (b, s.Block depth)
 step (s.Block depth) b next = if b == 42 && next == 47 then (b, s.Closing depth) else (if b == 47 && next == 42 then (b, s.Opening (deeper depth)) else (b, s.Block depth))
 step (s.Closing depth) b next = (b, closed depth)
 
--- bytes, of which the first stands in a state
+-- bytes, masked, of which the first is in this state
 abbrev pub masked_from : State → List ℕ → List ℕ
 masked_from state [] = []
 masked_from state (b ∷ bytes) = let taken = step state b (slice_index bytes 0) in taken.0 ∷ masked_from taken.1 bytes

@@ -1,4 +1,4 @@
-//! The masked text.
+//! Masks a text.
 
 ghost use Rattle.std.specs.Prelude.{◌≡◌, length, IfOk};
 ghost use Rattle.wd_dialect_text.specs.Masked as spec;
@@ -6,50 +6,50 @@ ghost use Rattle.wd_dialect_text.specs.Masked as spec;
 use crate::characters::{begins_word, goes_on_word, is_foreign, is_line_end};
 use std::alloc::{AllocError, Global};
 
-/// What the bytes before a byte say of it.
+/// What the bytes before a byte say about it.
 #[derive(Clone, Copy, PartialEq, Eq)]
 pub enum State {
     /// It begins a token, or is white space.
     Between,
-    /// It may go on with a word.
+    /// It may continue a word.
     Word,
-    /// It may go on with a number.
+    /// It may continue a number.
     Number,
-    /// It stands in a text.
+    /// It is in a text.
     Text,
-    /// It stands in a quoted name.
+    /// It is in a quoted name.
     Name,
     /// It opens a text E'..'.
     Prefix,
-    /// It stands in such a text.
+    /// It is in a text E'..'.
     Escaped,
-    /// It stands after a backslash in such a text.
+    /// It comes after a backslash in a text E'..'.
     Skipped,
-    /// It stands after a quote in such a text.
+    /// It comes after a quote in a text E'..'.
     Paused,
-    /// It stands in a comment up to the end of its line.
+    /// It is in a comment up to the end of its line.
     Line,
-    /// It stands in a command of psql.
+    /// It is in a command of psql.
     Command,
-    /// It is the second byte of `/*`, which opens a comment within so many others.
+    /// It is the second byte of `/*`, which opens a comment; that comment is nested in this many others.
     Opening(u64),
-    /// It stands in such a comment.
+    /// It is in a comment that is nested in this many others.
     Block(u64),
-    /// It is the second byte of `*/`, which closes such a comment.
+    /// It is the second byte of `*/`, which closes a comment that is nested in this many others.
     Closing(u64),
 }
 
-/// A byte in place of another, and the state after it.
+/// A byte that is written in place of another, and the state after it.
 pub type Step = (u8, State);
 
-/// Whether the byte is an `e` before a text.
+/// Whether the byte is an `e` that begins a text E'..'.
 fn is_prefix(byte: u8, next: u8) -> bool
     ensures { result ≡ spec.is_prefix byte next }
 {
     (byte == b'E' || byte == b'e') && next == b'\''
 }
 
-/// A byte that begins a token, or is white space.
+/// The step of a byte that begins a token or is white space.
 #[tactic(auto, unfolding(crate::specs::Masked::between))]
 fn between(byte: u8, next: u8) -> Step
     ensures { result ≡ spec.between byte next }
@@ -81,7 +81,7 @@ fn between(byte: u8, next: u8) -> Step
     }
 }
 
-/// A byte in a text E'..'.
+/// The step of a byte in a text E'..'.
 #[tactic(auto, unfolding(crate::specs::Masked::step))]
 fn escaped(byte: u8, next: u8) -> Step
     ensures { result ≡ spec.step State.Escaped byte next }
@@ -95,7 +95,7 @@ fn escaped(byte: u8, next: u8) -> Step
     }
 }
 
-/// A byte in a comment within so many others.
+/// The step of a byte in a comment that is nested in `depth` others.
 #[tactic(auto, unfolding(crate::specs::Masked::step))]
 fn in_block(depth: u64, byte: u8, next: u8) -> Step
     ensures { result ≡ spec.step (State.Block depth) byte next }
@@ -109,7 +109,7 @@ fn in_block(depth: u64, byte: u8, next: u8) -> Step
     }
 }
 
-/// A byte in a state, the next byte or 0 after it.
+/// The step of a byte in a state; `next` is the byte after it, or 0 at the end.
 #[tactic(auto, unfolding(crate::specs::Masked::step))]
 pub fn step(state: State, byte: u8, next: u8) -> Step
     ensures { result ≡ spec.step state byte next }

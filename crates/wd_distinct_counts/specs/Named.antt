@@ -1,4 +1,4 @@
--- Parts of a select as they are read, without where they lie in memory.
+-- Parts of a select as they are read, as pure data.
 use Rattle.wd_distinct_counts.specs.declared.select.Grouping.{Grouping}
 use Rattle.wd_distinct_counts.specs.Pieces as pieces
 

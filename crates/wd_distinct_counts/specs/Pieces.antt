@@ -6,7 +6,7 @@ use Rattle.wd_clauses.specs.Reach.{reach}
 use Rattle.wd_distinct_on.specs.Kinds.{is_by}
 use Rattle.wd_grouping.specs.Kinds.{is_group}
 
--- GROUP BY or nothing, its keys, and the clauses behind them
+-- GROUP BY or nothing, its keys, and the clauses after them
 pub record Grouping : Type 0 where
   pub words : List Token
   pub keys : List Token
@@ -22,7 +22,7 @@ grouping_at (group ∷ by ∷ tokens) =
     else no_grouping (group ∷ by ∷ tokens)
 grouping_at tokens = no_grouping tokens
 
--- a WHERE clause, and what stands behind it
+-- a WHERE clause, and what follows it
 abbrev pub condition_of : List Token → List Token
 condition_of clauses = take (reach Later clauses) clauses
 

@@ -1,6 +1,6 @@
--- A query without COUNT( DISTINCT c ). A select is left as it is where it has another aggregate, where two such calls have not the
--- same column, where a key is no column, and where a column with its table is neither a key nor c over several tables. Where c is a key
--- too, or two keys have one name, the profile refuses what is written.
+-- A query without COUNT( DISTINCT c ). A select is left as it is where it has another aggregate, where two such calls have different
+-- columns, where a key is no column, and over several tables where a column written with its table is neither a key nor c. Where c is a
+-- key too, or two keys have one name, the profile refuses what is written.
 use Rattle.std.specs.Prelude.{ℕ, ◌&&◌, if◌then◌else◌, Bool, true, false, List, [], ◌∷◌, ◌++◌, take, drop, Option, Some, None, Result}
 use Rattle.wd_lex.specs.declared.token.Token.{Token}
 use Rattle.wd_clauses.specs.declared.error.RespellError.{RespellError}
@@ -18,11 +18,11 @@ abbrev pub are_columns : List (List Token) → Bool
 are_columns [] = true
 are_columns (key ∷ keys) = if is_column key then are_columns keys else false
 
--- each column that stands with its table is one of those
+-- each column that is written with its table is one of these
 abbrev pub are_known : Pieces → Grouping → List (List Token) → Bool
 are_known select grouping columns = are_theirs columns select.items && are_theirs columns grouping.later
 
--- what is written over several tables, if each column that stands with its table is a key or the one that is counted
+-- what is written over several tables, if each column that is written with its table is a key or the counted column
 abbrev pub over_tables : List Token → Pieces → Grouping → List Token → List (List Token) → List Token → Option (List Token)
 over_tables front select grouping column keys [] = None
 over_tables front select grouping column keys (from ∷ tables) =
@@ -32,14 +32,14 @@ abbrev pub over_table : List Token → Pieces → Grouping → List Token → Li
 over_table front select grouping column keys None = over_tables front select grouping column keys select.tables
 over_table front select grouping column keys (Some one) = Some (front ++ written select grouping one column)
 
--- what stands for a select behind these tokens, if its keys are columns
+-- the replacement of a select after these tokens, if its keys are columns
 abbrev pub if_columns : List Token → Pieces → Grouping → List Token → List (List Token) → Option (List Token)
 if_columns front select grouping column keys = if are_columns keys then over_table front select grouping column keys (one_table select.tables) else None
 
 abbrev pub with_column : List Token → Pieces → Grouping → List Token → Option (List Token)
 with_column front select grouping column = parts_in grouping.keys >>= if_columns front select grouping column
 
--- the one column that is counted in the items and in the clauses behind GROUP BY, if any
+-- the one column that is counted in the items and in the clauses after GROUP BY, if any
 abbrev pub column_of : Pieces → Grouping → Option (Option (List Token))
 column_of select grouping = column_in None select.select.kind select.items >>= λ so_far. column_in so_far select.select.kind grouping.later
 
@@ -49,7 +49,7 @@ if_counted front select grouping found = found >>= with_column front select grou
 abbrev pub with_grouping : List Token → Pieces → Grouping → Option (List Token)
 with_grouping front select grouping = column_of select grouping >>= if_counted front select grouping
 
--- what stands for a select behind these tokens
+-- the replacement of a select after these tokens
 abbrev pub respelled_select : List Token → Pieces → Option (List Token)
 respelled_select front select = with_grouping front select (grouping_of select.clauses)
 

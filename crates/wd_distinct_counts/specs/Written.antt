@@ -1,5 +1,5 @@
--- The select that stands for one with COUNT( DISTINCT c ): it counts c over
--- FROM ( SELECT keys, c FROM .. WHERE .. GROUP BY keys, c ) AS a, in which each value of c stands once in each group.
+-- The select that replaces one with COUNT( DISTINCT c ): it counts c over FROM ( SELECT keys, c FROM .. WHERE .. GROUP BY keys, c ) AS
+-- a, in which each value of c appears once in each group.
 use Rattle.std.specs.Prelude.{List, [], ◌∷◌, ◌++◌, Option}
 use Rattle.wd_lex.specs.declared.token.Terminal.TheVariants as m
 use Rattle.wd_lex.specs.declared.token.Token.{Token}
@@ -12,7 +12,7 @@ use Rattle.wd_grouping.specs.Written.{closing}
 use Rattle.wd_distinct_counts.specs.Counts.{counted}
 use Rattle.wd_distinct_counts.specs.Pieces.{Grouping, condition_of}
 
--- a comma behind keys
+-- a comma after keys
 abbrev pub comma_behind : List Token → Token → List Token
 comma_behind [] word = []
 comma_behind (key ∷ keys) word = added m.Comma word ∷ []
@@ -37,7 +37,7 @@ by_columns one keys column = all_added (m.Group ∷ m.By ∷ []) one.from ++ col
 abbrev pub head : Pieces → Option Token → List Token
 head select table = select.select ∷ (select.distinct ++ counted table select.select.kind select.items)
 
--- [GROUP BY keys] and the clauses behind them
+-- [GROUP BY keys] and the clauses after them
 abbrev pub tail : Pieces → Grouping → Option Token → List Token
 tail select grouping table = grouping.words ++ qualified table grouping.keys ++ counted table select.select.kind grouping.later ++ select.after
 

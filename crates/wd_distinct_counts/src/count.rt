@@ -12,7 +12,7 @@ use wd_grouping::{add_its_table, begins_dot, is_column, is_over};
 use wd_lex::{Terminal, Token, TokenKind};
 use wd_using::{begins_distinct, opens};
 
-/// Whether COUNT stands there.
+/// Whether a token is COUNT.
 fn is_count(kind: &TokenKind) -> bool
     ensures { result ≡ spec.is_count kind.now }
 {
@@ -22,7 +22,7 @@ fn is_count(kind: &TokenKind) -> bool
     }
 }
 
-/// Whether COUNT, SUM, MIN or MAX stands there, quoted or not.
+/// Whether a token is COUNT, SUM, MIN or MAX, quoted or not.
 fn is_aggregate(kind: &TokenKind) -> bool
     ensures { result ≡ spec.is_aggregate kind.now }
 {
@@ -37,7 +37,7 @@ fn is_aggregate(kind: &TokenKind) -> bool
     }
 }
 
-/// Whether OVER or FILTER stands there.
+/// Whether a token is OVER or FILTER.
 fn goes_on(kind: &TokenKind) -> bool
     ensures { result ≡ spec.goes_on kind.now }
 {
@@ -47,7 +47,7 @@ fn goes_on(kind: &TokenKind) -> bool
     }
 }
 
-/// Whether OVER or FILTER stands first.
+/// Whether the tokens begin with OVER or FILTER.
 fn begins_more(tokens: &[Token]) -> bool
     ensures { result ≡ kinds.begins spec.goes_on tokens.now }
 {
@@ -69,7 +69,7 @@ fn is_distinct(kind: &TokenKind) -> bool
     matches!(kind, TokenKind::Terminal(Terminal::Distinct))
 }
 
-/// Whether a bracket closes the call, and no OVER or FILTER stands behind it.
+/// Whether the tokens begin with the bracket that closes the call, and no OVER or FILTER follows it.
 fn closes_call(tokens: &[Token]) -> bool
     ensures { result ≡ spec.closes_call tokens.now }
 {
@@ -79,7 +79,7 @@ fn closes_call(tokens: &[Token]) -> bool
     }
 }
 
-/// So many tokens, if they are a column and the call closes behind them.
+/// The first `count` tokens, if they are a column and the call closes after them.
 fn if_closed(count: usize, tokens: &[Token]) -> Option<&[Token]>
     ensures { Finds (λ column. column.now) result (spec.closed_after count tokens.now) }
 {
@@ -90,7 +90,7 @@ fn if_closed(count: usize, tokens: &[Token]) -> Option<&[Token]>
     None
 }
 
-/// `x.c` or `c`, with the bracket that closes the call behind it.
+/// `x.c` or `c`, if the bracket that closes the call follows it.
 fn column_at(tokens: &[Token]) -> Option<&[Token]>
     ensures { Finds (λ column. column.now) result (spec.column_at tokens.now) }
 {
@@ -100,7 +100,7 @@ fn column_at(tokens: &[Token]) -> Option<&[Token]>
     }
 }
 
-/// The column of `COUNT( DISTINCT c )`, behind its bracket, before which this stands.
+/// The column of `COUNT( DISTINCT c )`, by the tokens after its bracket; `before` is the token before the bracket.
 fn counted_at<'t>(before: &TokenKind, tokens: &'t [Token]) -> Option<&'t [Token]>
     ensures { Finds (λ column. column.now) result (spec.counted_at before.now tokens.now) }
 {
@@ -110,14 +110,14 @@ fn counted_at<'t>(before: &TokenKind, tokens: &'t [Token]) -> Option<&'t [Token]
     }
 }
 
-/// Whether it is the bracket of an aggregate, or DISTINCT stands behind it.
+/// Whether a bracket is that of an aggregate, or DISTINCT follows it.
 fn begins_call(before: &TokenKind, bracket: &Token, tokens: &[Token]) -> bool
     ensures { result ≡ spec.begins_call before.now bracket.now tokens.now }
 {
     opens(&bracket.kind) && (is_aggregate(before) || begins_distinct(tokens))
 }
 
-/// Whether two columns say the same.
+/// Whether two columns are written alike.
 fn is_same_column(column: &[Token], other: &[Token]) -> bool
     ensures { result ≡ spec.is_same_column column.now other.now }
 {
@@ -127,7 +127,7 @@ fn is_same_column(column: &[Token], other: &[Token]) -> bool
     }
 }
 
-/// The one column that is counted, after a further call.
+/// The one column that is counted, with that of a further call.
 fn joined<'t>(so_far: Option<&'t [Token]>, found: Option<&'t [Token]>) -> Option<&'t [Token]>
     ensures { Finds (λ column. column.now) result (spec.joined (option_map (λ column. column.now) so_far.entry) (option_map (λ column. column.now) found.entry)) }
 {
@@ -139,7 +139,8 @@ fn joined<'t>(so_far: Option<&'t [Token]>, found: Option<&'t [Token]>) -> Option
     }
 }
 
-/// The one column, if any, of each `COUNT( DISTINCT c )` behind such a token and before it, where there is no other aggregate.
+/// The one column, if any, of each `COUNT( DISTINCT c )` in the tokens, with the one found so far, if there is no other aggregate;
+/// `before` is the token before these.
 pub fn column_in<'t>(
     so_far: Option<&'t [Token]>,
     before: &TokenKind,
@@ -163,7 +164,7 @@ pub fn column_in<'t>(
     Some(column)
 }
 
-/// Adds tokens without DISTINCT in such calls; the name of a table becomes that of the one which stands for several.
+/// Adds tokens without DISTINCT in such calls; where one table replaces several, it also replaces their names before columns.
 pub fn add_counted(
     written: &mut Vec<Token>,
     table: Option<&Token>,
@@ -184,7 +185,7 @@ pub fn add_counted(
     Ok(())
 }
 
-/// Whether it is one of the columns.
+/// Whether a column is one of these.
 fn is_among(column: &[Token], mut columns: &[&[Token]]) -> bool
     ensures { result ≡ spec.is_among column.now (map (λ other. other.now) columns.entry.now) }
 {
@@ -197,14 +198,14 @@ fn is_among(column: &[Token], mut columns: &[&[Token]]) -> bool
     false
 }
 
-/// Whether it is the column, or one of those.
+/// Whether a column is the counted column, or one of these.
 fn is_one_of(found: &[Token], column: &[Token], columns: &[&[Token]]) -> bool
     ensures { result ≡ spec.is_among found.now (column.now ∷ map (λ other. other.now) columns.now) }
 {
     is_same_column(column, found) || is_among(found, columns)
 }
 
-/// Whether each column that stands with its table is the column, or one of those.
+/// Whether each column that is written with its table is the counted column, or one of these.
 pub fn are_theirs(column: &[Token], columns: &[&[Token]], tokens: &[Token]) -> bool
     ensures { result ≡ spec.are_theirs (column.now ∷ map (λ other. other.now) columns.now) tokens.now }
 {

@@ -2,7 +2,7 @@
 
 ghost use Rattle.wd_distinct_counts.specs.Examples.{CountsComeOut};
 
-/// Worked queries: what is written in their place, and which are left as they are.
+/// Worked queries: what replaces them, and which stay unchanged.
 pub fn counts_come_out()
     ensures { CountsComeOut }
 {}

@@ -45,14 +45,14 @@ fn keys_in(alloc: Global, tokens: &[Token]) -> Result<Option<Vec<&[Token]>>, All
     Ok(keys)
 }
 
-/// Whether each column that stands with its table is a key or the one that is counted.
+/// Whether each column that is written with its table is a key or the counted column.
 fn are_known(select: &Select, grouping: &Grouping, column: &[Token], keys: &[&[Token]]) -> bool
     ensures { result ≡ spec.are_known (pieces select.now) (grouping_pieces grouping.now) (column.now ∷ map (λ key. key.now) keys.now) }
 {
     are_theirs(column, keys, select.items) && are_theirs(column, keys, grouping.later)
 }
 
-/// What stands for a select over its several tables.
+/// The replacement of a select over its several tables.
 fn over_tables(
     alloc: Global,
     front: &[Token],
@@ -74,7 +74,7 @@ fn over_tables(
     }
 }
 
-/// What stands for a select over its tables.
+/// The replacement of a select over its tables.
 fn over_table(
     alloc: Global,
     front: &[Token],
@@ -97,7 +97,7 @@ fn over_table(
     }
 }
 
-/// What stands for a select that counts a column, if its keys are columns.
+/// The replacement of a select that counts a column, if its keys are columns.
 fn with_column(
     alloc: Global,
     front: &[Token],
@@ -116,7 +116,7 @@ fn with_column(
     }
 }
 
-/// The one column that is counted in the items and in the clauses behind GROUP BY, if any.
+/// The one column that is counted in the items and in the clauses after GROUP BY, if any.
 fn column_of<'t>(select: &Select<'t>, grouping: &Grouping<'t>) -> Option<Option<&'t [Token]>>
     ensures { Finds (λ found. option_map (λ column. column.now) found) result (spec.column_of (pieces select.now) (grouping_pieces grouping.now)) }
 {
@@ -126,7 +126,7 @@ fn column_of<'t>(select: &Select<'t>, grouping: &Grouping<'t>) -> Option<Option<
     }
 }
 
-/// What stands for a select behind these tokens.
+/// The replacement of a select after these tokens.
 fn respelled_select(
     alloc: Global,
     front: &[Token],
@@ -189,7 +189,8 @@ impl Selects for DistinctCounts {
     }
 }
 
-/// The query without COUNT( DISTINCT c ), as far as its selects are read.
+/// The query without COUNT( DISTINCT c ), as far as its selects are read. The error is `TooLong` where the query, or what is written,
+/// has more than 65,536 tokens.
 pub fn without_distinct_counts(alloc: Global, tokens: &[Token]) -> Result<Vec<Token>, RespellError>
     ensures { Gives (λ x. x.items) result (spec.respelled tokens.now) }
 {

@@ -1,4 +1,4 @@
-//! The clauses of a select behind its FROM clause.
+//! The clauses of a select after its FROM clause.
 
 ghost use Rattle.std.specs.Prelude.{◌≡◌};
 ghost use Rattle.wd_distinct_counts.specs.Named.{grouping_pieces};
@@ -9,7 +9,7 @@ use wd_distinct_on::is_by;
 use wd_grouping::is_group;
 use wd_lex::Token;
 
-/// GROUP BY or nothing, its keys, and the clauses behind them.
+/// GROUP BY or nothing, its keys, and the clauses after them.
 #[derive(Clone, Copy)]
 pub struct Grouping<'t> {
     pub words: &'t [Token],
@@ -46,7 +46,7 @@ pub fn condition_of(clauses: &[Token]) -> &[Token]
     condition
 }
 
-/// GROUP BY and the clauses behind it.
+/// GROUP BY and the clauses after it.
 pub fn grouping_of(clauses: &[Token]) -> Grouping<'_>
     ensures { grouping_pieces result ≡ spec.grouping_of clauses.now }
 {

@@ -1,4 +1,4 @@
-//! The select that stands for one with COUNT( DISTINCT c ).
+//! The select that replaces one with COUNT( DISTINCT c ).
 
 ghost use Rattle.std.specs.Prelude.{◌≡◌, ◌++◌, option_map};
 ghost use Rattle.wd_clauses.specs.Given.{Makes, Writes};
@@ -16,7 +16,7 @@ use wd_grouping::{OneTable, add_closing, add_qualified};
 use wd_lex::{Terminal, Token};
 use wd_using::Select;
 
-/// Adds a comma behind keys.
+/// Adds a comma after keys.
 fn add_comma_behind(
     written: &mut Vec<Token>,
     keys: &[Token],
@@ -101,7 +101,7 @@ fn add_head(
     Ok(())
 }
 
-/// Adds `[GROUP BY keys]` and the clauses behind them.
+/// Adds `[GROUP BY keys]` and the clauses after them.
 fn add_tail(
     written: &mut Vec<Token>,
     select: &Select,
@@ -117,7 +117,7 @@ fn add_tail(
     Ok(())
 }
 
-/// The select that counts each value of a column once, and what follows it, behind these tokens.
+/// The select that counts each value of a column once, and what follows it, after these tokens.
 pub fn written(
     alloc: Global,
     front: &[Token],

@@ -1,4 +1,4 @@
--- The items of a select list by their own names: of `c` and `x.c` the name is c, and of `value AS c` it is c too.
+-- The items of a select list by their own names: the name of `c`, of `x.c` and of `value AS c` is c.
 use Rattle.std.specs.Prelude.{ℕ, ◌-◌, ◌&&◌, ◌||◌, codes, if◌then◌else◌, Bool, true, false, List, [], ◌∷◌, length, take, drop, Option, Some, None}
 use Rattle.std.specs.Str.{bytes_eq}
 use Rattle.wd_lex.specs.declared.token.TokenKind.{TokenKind}
@@ -19,7 +19,7 @@ column_of (c ∷ []) = if is_name c.kind then Some (record { name = c; value = c
 column_of (x ∷ dot ∷ c ∷ []) = if is_name x.kind && is_dot dot.kind && is_name c.kind then Some (record { name = c; value = x ∷ dot ∷ c ∷ [] }) else None
 column_of _ = None
 
--- the name behind AS
+-- the name after AS
 abbrev pub behind_as : List Token → Option Token
 behind_as (word ∷ name ∷ []) = if is_as word.kind && is_name name.kind then Some name else None
 behind_as _ = None
@@ -45,7 +45,7 @@ abbrev pub has_name : Token → List NamedItem → Bool
 has_name name [] = false
 has_name name (item ∷ items) = if is_same_name name.kind item.name.kind then true else has_name name items
 
--- the name of the number of a row among those that tie
+-- the name that the row number gets
 abbrev pub number_name : List ℕ
 number_name = codes "distinct on"
 
@@ -54,7 +54,7 @@ is_number_name (t.Word text) = bytes_eq text number_name
 is_number_name (t.Quoted text) = bytes_eq text number_name
 is_number_name _ = false
 
--- no two items have one name, and none has that of the number
+-- no two items have the same name, and none has that of the row number
 abbrev pub are_distinct : List NamedItem → Bool
 are_distinct [] = true
 are_distinct (item ∷ items) = if is_number_name item.name.kind || has_name item.name items then false else are_distinct items

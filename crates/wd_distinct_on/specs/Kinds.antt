@@ -55,7 +55,7 @@ abbrev pub begins : (TokenKind → Bool) → List Token → Bool
 begins test [] = false
 begins test (token ∷ tokens) = test token.kind
 
--- two tokens say the same; a name may be quoted or not
+-- whether two tokens say the same; a name may be quoted or not
 abbrev pub is_same : TokenKind → TokenKind → Bool
 is_same (t.Terminal x) (t.Terminal y) = terminal_code x == terminal_code y
 is_same (t.Word text) kind = is_named text kind

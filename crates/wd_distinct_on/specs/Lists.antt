@@ -1,4 +1,4 @@
--- Lists of which each element has to be read.
+-- Lists each of whose elements has to be read.
 use Rattle.std.specs.Prelude.{List, ◌∷◌, Option, Some, None}
 
 -- an element before those that are read

@@ -1,4 +1,4 @@
--- Parts of a select as they are read, without where they lie in memory.
+-- Parts of a select as they are read, as pure data.
 use Rattle.wd_distinct_on.specs.declared.item.Item.{Item}
 use Rattle.wd_distinct_on.specs.declared.key.Key.{Key}
 use Rattle.wd_distinct_on.specs.declared.select.Order.{Order}

@@ -1,5 +1,5 @@
--- The pieces of SELECT DISTINCT ON ( keys ) items FROM .. [WHERE ..] [ORDER BY orders], and what follows it. No other clause
--- may stand in it.
+-- The pieces of SELECT DISTINCT ON ( keys ) items FROM .. [WHERE ..] [ORDER BY orders], and what follows it. No other clause may appear
+-- in it.
 use Rattle.std.specs.Prelude.{ℕ, ◌+◌, ◌&&◌, if◌then◌else◌, Bool, true, false, List, [], ◌∷◌, take, drop, Option, Some, None}
 use Rattle.wd_lex.specs.declared.token.Token.{Token}
 use Rattle.wd_clauses.specs.declared.level.Stop.TheVariants.{From, Later}
@@ -30,26 +30,26 @@ order_at (order ∷ by ∷ tokens) =
     else no_order (order ∷ by ∷ tokens)
 order_at tokens = no_order tokens
 
--- the level ends
+-- whether tokens are at the end of their level
 abbrev pub ends : List Token → Bool
 ends [] = true
 ends (token ∷ tokens) = ends_level token.kind
 
--- with the FROM clause, the order, and the end of the level behind the items
+-- the select, by the FROM clause, the order, and the end of the level after its items
 abbrev pub behind_items : Token → Token → List Token → List Token → List Token → Option Pieces
 behind_items select distinct keys items tokens =
     let order = order_at (drop (reach Later tokens) tokens) in
     if begins is_from tokens && ends order.after then Some (record { select = select; distinct = distinct; keys = keys; items = items; from = take (reach Later tokens) tokens; order = order })
     else None
 
--- with the items behind the bracket that closes the keys
+-- the select, by the items after the bracket that closes its keys
 abbrev pub behind_keys : Token → Token → List Token → Option ℕ → Option Pieces
 behind_keys select distinct tokens None = None
 behind_keys select distinct tokens (Some place) =
     let behind = drop (place + 1) tokens in
     behind_items select distinct (take place tokens) (take (reach From behind) behind) (drop (reach From behind) behind)
 
--- SELECT DISTINCT ON ( stands first
+-- whether tokens begin with SELECT DISTINCT ON (
 abbrev pub begins_select : List Token → Bool
 begins_select (select ∷ distinct ∷ on ∷ bracket ∷ tokens) = is_select select.kind && is_distinct distinct.kind && is_on on.kind && opens bracket.kind
 begins_select _ = false

@@ -11,7 +11,7 @@ use Rattle.wd_distinct_on.specs.Pieces.{Pieces, begins_select, select_at}
 use Rattle.wd_distinct_on.specs.Selects.{respelled_backwards}
 use Rattle.wd_distinct_on.specs.Written.{written}
 
--- what is read in a list that may be empty
+-- the parts of a list that may be empty
 abbrev pub parts_in : List Token → Option (List (List Token))
 parts_in [] = Some []
 parts_in (token ∷ tokens) = parts (token ∷ tokens)
@@ -25,11 +25,11 @@ None >>= f = None
 abbrev pub items_in : List Token → Option (List NamedItem)
 items_in tokens = parts tokens >>= items_of
 
--- the keys of a list, among such items
+-- the keys of a list, by these items
 abbrev pub keys_in : List NamedItem → List Token → Option (List SortKey)
 keys_in items tokens = parts_in tokens >>= keys_of items
 
--- what stands for a select behind these tokens, if its names are distinct and its keys fit
+-- the replacement of a select after these tokens, if its names are distinct and its keys fit
 abbrev pub if_fit : List Token → Pieces → List NamedItem → List SortKey → List SortKey → Option (List Token)
 if_fit front select items keys orders = if are_distinct items && fits keys orders then Some (front ++ written select items keys orders) else None
 
@@ -39,7 +39,7 @@ with_orders front select items keys = keys_in items select.order.keys >>= λ ord
 abbrev pub with_keys : List Token → Pieces → List NamedItem → Option (List Token)
 with_keys front select items = keys_in items select.keys >>= λ keys. with_orders front select items keys
 
--- what stands for a select behind these tokens
+-- the replacement of a select after these tokens
 unfoldable pub respelled_select : List Token → Pieces → Option (List Token)
 respelled_select front select = items_in select.items >>= λ items. with_keys front select items
 

@@ -1,5 +1,5 @@
--- The select that stands for one with DISTINCT ON: SELECT n1, .. FROM ( SELECT items, ROW_NUMBER ( ) OVER ( PARTITION BY keys
--- [ORDER BY keys] ) AS "distinct on" FROM .. ) AS "distinct" WHERE "distinct on" = 1. What is added has the place of DISTINCT.
+-- The select that replaces one with DISTINCT ON: SELECT n1, .. FROM ( SELECT items, ROW_NUMBER ( ) OVER ( PARTITION BY keys [ORDER BY
+-- keys] ) AS "distinct on" FROM .. ) AS "distinct" WHERE "distinct on" = 1. What is added has the place of DISTINCT.
 use Rattle.std.specs.Prelude.{ℕ, codes, List, [], ◌∷◌, ◌++◌}
 use Rattle.wd_lex.specs.declared.token.Terminal.{Terminal}
 use Rattle.wd_lex.specs.declared.token.Terminal.TheVariants as m
@@ -33,7 +33,7 @@ abbrev pub all_placed : List Token → Token → List Token
 all_placed [] word = []
 all_placed (token ∷ tokens) word = placed token word ∷ all_placed tokens word
 
--- a comma, where something follows
+-- a comma, if something follows
 abbrev pub comma_before : {A : Type 0} → List A → Token → List Token
 comma_before [] word = []
 comma_before (next ∷ more) word = added m.Comma word ∷ []

@@ -37,7 +37,7 @@ pub fn column_of(tokens: &[Token]) -> Option<Item<'_>>
     }
 }
 
-/// The name behind AS.
+/// The name after AS.
 fn behind_as(tokens: &[Token]) -> Option<&Token>
     ensures { Finds (λ name. name.now) result (spec.behind_as tokens.now) }
 {
@@ -80,7 +80,7 @@ pub fn items_of<'t>(
     Ok(Some(items))
 }
 
-/// Whether an item has that name.
+/// Whether an item has this name.
 fn has_name(name: &Token, mut items: &[Item]) -> bool
     ensures { result ≡ spec.has_name name.now (map named_item items.entry.now) }
 {
@@ -93,7 +93,7 @@ fn has_name(name: &Token, mut items: &[Item]) -> bool
     false
 }
 
-/// Whether a name is that of the number of a row among those that tie.
+/// Whether a name is the one that the row number gets.
 fn is_number_name(kind: &TokenKind) -> bool
     ensures { result ≡ spec.is_number_name kind.now }
 {
@@ -105,7 +105,7 @@ fn is_number_name(kind: &TokenKind) -> bool
     }
 }
 
-/// Whether no two items have one name, and none has that of the number.
+/// Whether no two items have the same name, and none has that of the row number.
 pub fn are_distinct(mut items: &[Item]) -> bool
     ensures { result ≡ spec.are_distinct (map named_item items.entry.now) }
 {

@@ -11,14 +11,14 @@ use std::alloc::{AllocError, Global};
 use wd_clauses::{is_name, is_same_name};
 use wd_lex::Token;
 
-/// What a key sorts by, and ASC, DESC and NULLS behind it, where a name stood for an item; else the whole key, and nothing.
+/// What a key sorts by, and ASC, DESC and NULLS after it, where a name stood for an item; else the whole key, and nothing after it.
 #[derive(Drop)]
 pub struct Key<'t> {
     pub value: &'t [Token],
     pub rest: &'t [Token],
 }
 
-/// Whether what a key sorts by has ended.
+/// Whether the end of what a key sorts by is reached.
 fn ends_key(tokens: &[Token]) -> bool
     ensures { result ≡ spec.ends_key tokens.now }
 {
@@ -28,7 +28,7 @@ fn ends_key(tokens: &[Token]) -> bool
     }
 }
 
-/// What the item of that name stands for, or `own` where none has it.
+/// What the item with this name stands for, or `own` where no item has it.
 fn value_or<'t>(own: &'t [Token], name: &Token, items: &[Item<'t>]) -> &'t [Token]
     ensures { result.now ≡ spec.value_or own.now name.now (map named_item items.now) }
 {
@@ -42,7 +42,7 @@ fn value_or<'t>(own: &'t [Token], name: &Token, items: &[Item<'t>]) -> &'t [Toke
     own
 }
 
-/// A key, where a name may stand for an item.
+/// A key. A name alone, perhaps with ASC, DESC or NULLS after it, sorts by what the item with that name stands for.
 fn key_of<'t>(items: &[Item<'t>], tokens: &'t [Token]) -> Key<'t>
     ensures { sort_key result ≡ spec.key_of (map named_item items.now) tokens.now }
 {
@@ -60,7 +60,7 @@ fn key_of<'t>(items: &[Item<'t>], tokens: &'t [Token]) -> Key<'t>
     }
 }
 
-/// Whether a key is the place of an item.
+/// Whether a key is the position of an item.
 fn is_place(tokens: &[Token]) -> bool
     ensures { result ≡ spec.is_place tokens.now }
 {
@@ -70,7 +70,7 @@ fn is_place(tokens: &[Token]) -> bool
     }
 }
 
-/// The keys, if none is the place of an item.
+/// The keys, if none is the position of an item.
 pub fn keys_of<'t>(
     alloc: Global,
     items: &[Item<'t>],
@@ -90,7 +90,7 @@ pub fn keys_of<'t>(
     Ok(Some(keys))
 }
 
-/// What stands behind tokens that say the same as a value.
+/// What follows tokens at the start that say the same as a value, if there are such.
 pub fn strip<'t>(value: &[Token], tokens: &'t [Token]) -> Option<&'t [Token]>
     ensures { Finds (λ r. r.now) result (spec.strip value.now tokens.now) }
 {
@@ -119,7 +119,7 @@ fn sorts_by(key: &Key, order: &Key) -> bool
     }
 }
 
-/// Whether a key of ORDER BY sorts by that key.
+/// Whether a key of ORDER BY sorts by this key.
 fn is_sorted_by(key: &Key, mut orders: &[Key]) -> bool
     ensures { result ≡ spec.is_sorted_by (sort_key key.now) (map sort_key orders.entry.now) }
 {
@@ -132,7 +132,7 @@ fn is_sorted_by(key: &Key, mut orders: &[Key]) -> bool
     false
 }
 
-/// Whether it sorts by one of these keys.
+/// Whether a key of ORDER BY sorts by one of these keys.
 fn is_among(order: &Key, mut keys: &[Key]) -> bool
     ensures { result ≡ spec.is_among (sort_key order.now) (map sort_key keys.entry.now) }
 {
@@ -145,7 +145,7 @@ fn is_among(order: &Key, mut keys: &[Key]) -> bool
     false
 }
 
-/// Whether each key is among those that sort.
+/// Whether each key of DISTINCT ON is sorted by.
 fn all_sorted(mut keys: &[Key], orders: &[Key]) -> bool
     ensures { result ≡ spec.all_sorted (map sort_key keys.entry.now) (map sort_key orders.now) }
 {
@@ -158,7 +158,7 @@ fn all_sorted(mut keys: &[Key], orders: &[Key]) -> bool
     true
 }
 
-/// Whether each that sorts is a key.
+/// Whether each key of ORDER BY sorts by one of these keys.
 fn all_among(mut orders: &[Key], keys: &[Key]) -> bool
     ensures { result ≡ spec.all_among (map sort_key orders.entry.now) (map sort_key keys.now) }
 {
@@ -171,7 +171,7 @@ fn all_among(mut orders: &[Key], keys: &[Key]) -> bool
     true
 }
 
-/// The first so many keys.
+/// The first `count` keys.
 fn first_of<'k, 't>(count: usize, orders: &'k [Key<'t>]) -> &'k [Key<'t>]
     ensures { map sort_key result.now ≡ take count (map sort_key orders.now) }
 {

@@ -60,7 +60,7 @@ pub fn is_number(kind: &TokenKind) -> bool
     matches!(kind, TokenKind::Number(_))
 }
 
-/// Whether ASC, DESC or NULLS stands there.
+/// Whether a token is ASC, DESC or NULLS.
 pub fn is_direction(kind: &TokenKind) -> bool
     ensures { result ≡ spec.is_direction kind.now }
 {
@@ -92,7 +92,7 @@ pub fn is_same(kind: &TokenKind, other: &TokenKind) -> bool
     }
 }
 
-/// Whether SELECT stands first.
+/// Whether the tokens begin with SELECT.
 pub fn starts_with_select(tokens: &[Token]) -> bool
     ensures { result ≡ spec.begins spec.is_select tokens.now }
 {

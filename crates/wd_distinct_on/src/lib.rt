@@ -1,7 +1,7 @@
-//! DISTINCT ON by ROW_NUMBER: `SELECT DISTINCT ON ( keys ) items FROM .. ORDER BY orders` holds the first row of each key, which
-//! has the number 1 among the rows of its key. `select` finds the pieces of such a select, `item` and `key` read its lists,
-//! `write` writes the select that stands for it, and `respell` respells a query. `selects` goes through the selects of a query
-//! from its end, for each such equation.
+//! DISTINCT ON by ROW_NUMBER: `SELECT DISTINCT ON ( keys ) items FROM .. ORDER BY orders` keeps the first row of each key, which has
+//! the number 1 among the rows of its key. `select` finds the pieces of such a select, `item` and `key` read its lists, `write` writes
+//! the select that replaces it, and `respell` respells a query. `selects` goes through the selects of a query from its end, here and
+//! for other such equations.
 #![tactic(auto)]
 
 mod item;

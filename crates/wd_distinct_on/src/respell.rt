@@ -30,7 +30,7 @@ fn items_in(alloc: Global, tokens: &[Token]) -> Result<Option<Vec<Item<'_>>>, Al
     }
 }
 
-/// The keys of a list that may be empty, if none is the place of an item.
+/// The keys of a list that may be empty, if none is the position of an item.
 fn keys_in<'t>(
     alloc: Global,
     items: &[Item<'t>],
@@ -50,7 +50,7 @@ fn keys_in<'t>(
     }
 }
 
-/// What stands for a select behind these tokens, if its names are distinct and its keys fit.
+/// The replacement of a select after these tokens, if its names are distinct and its keys fit.
 fn if_fit(
     alloc: Global,
     front: &[Token],
@@ -68,7 +68,7 @@ fn if_fit(
     Ok(None)
 }
 
-/// What stands for a select, by its items and its keys.
+/// The replacement of a select, by its items and its keys.
 fn with_orders<'t>(
     alloc: Global,
     front: &[Token],
@@ -87,7 +87,7 @@ fn with_orders<'t>(
     }
 }
 
-/// What stands for a select, by its items.
+/// The replacement of a select, by its items.
 fn with_keys<'t>(
     alloc: Global,
     front: &[Token],
@@ -105,7 +105,7 @@ fn with_keys<'t>(
     }
 }
 
-/// What stands for a select behind these tokens.
+/// The replacement of a select after these tokens.
 #[tactic(auto, unfolding(crate::specs::Respelled::respelled_select))]
 fn respelled_select(
     alloc: Global,
@@ -168,7 +168,8 @@ impl Selects for DistinctOn {
     }
 }
 
-/// The query without DISTINCT ON, as far as its selects with it are read.
+/// The query without DISTINCT ON, as far as its selects with it are read. The error is `TooLong` where the query, or what is written,
+/// has more than 65,536 tokens.
 pub fn without_distinct_on(alloc: Global, tokens: &[Token]) -> Result<Vec<Token>, RespellError>
     ensures { spec.Gives (λ x. x.items) result (spec.respelled tokens.now) }
 {

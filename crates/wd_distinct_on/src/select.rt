@@ -51,7 +51,7 @@ fn order_at(tokens: &[Token]) -> Order<'_>
     }
 }
 
-/// Whether the level ends.
+/// Whether the tokens are at the end of their level.
 fn ends(tokens: &[Token]) -> bool
     ensures { result ≡ spec.ends tokens.now }
 {
@@ -64,7 +64,7 @@ fn ends(tokens: &[Token]) -> bool
     }
 }
 
-/// Whether FROM stands first.
+/// Whether the tokens begin with FROM.
 fn begins_from(tokens: &[Token]) -> bool
     ensures { result ≡ begins is_from tokens.now }
 {
@@ -74,7 +74,7 @@ fn begins_from(tokens: &[Token]) -> bool
     }
 }
 
-/// A select, by what stands behind its items.
+/// A select, by what follows its items.
 fn behind_items<'t>(
     select: &'t Token,
     distinct: &'t Token,
@@ -99,7 +99,7 @@ fn behind_items<'t>(
     None
 }
 
-/// A select, by what stands behind the bracket that opens before its keys.
+/// A select, by what follows the bracket that opens before its keys.
 fn behind_keys<'t>(
     select: &'t Token,
     distinct: &'t Token,
@@ -122,7 +122,7 @@ fn opens(kind: &TokenKind) -> bool
     matches!(kind, TokenKind::Terminal(Terminal::LeftBracket))
 }
 
-/// Whether `SELECT DISTINCT ON (` stands first.
+/// Whether the tokens begin with `SELECT DISTINCT ON (`.
 pub fn begins_select(tokens: &[Token]) -> bool
     ensures { result ≡ spec.begins_select tokens.now }
 {

@@ -14,17 +14,17 @@ const MOST_TOKENS: usize = 65_536;
 
 /// How the selects of a query are respelled.
 pub trait Selects {
-    /// Whether a select begins there that is looked at.
+    /// Whether a select begins there that is to be looked at.
     ghost starts: { Self → List Token → Bool };
 
-    /// A query in which the select that begins at a place is respelled.
+    /// The query in which the select that begins at a place is respelled, if it is.
     ghost respelled: { Self → ℕ → List Token → Option (List Token) };
 
-    /// Whether a select begins there that is looked at.
+    /// Whether a select begins there that is to be looked at.
     fn begins(&self, tokens: &[Token]) -> bool
         ensures { result ≡ starts self.now tokens.now };
 
-    /// The query in which the select that begins at a place is respelled.
+    /// The query in which the select that begins at a place is respelled, if it is.
     fn respelled_at(
         &self,
         alloc: Global,
@@ -43,7 +43,7 @@ pub fn cut(place: usize, tokens: &[Token]) -> (&[Token], &[Token])
     (&tokens[..place], &tokens[place..])
 }
 
-/// How many selects are left to be looked at, where one may begin at a place.
+/// How many selects are left to be looked at, if one may begin at a place.
 fn fewer<S: Selects>(selects: &S, left: usize, place: usize, tokens: &[Token]) -> usize
     ensures { result ≡ spec.fewer (S.starts selects.now) left (drop place tokens.now) }
 {
@@ -54,7 +54,8 @@ fn fewer<S: Selects>(selects: &S, left: usize, place: usize, tokens: &[Token]) -
     left
 }
 
-/// The query in which at most so many selects are looked at, and each of these is respelled.
+/// The query in which at most `most` selects are looked at, and each of these is respelled if it can be. The error is `TooLong` where
+/// the query, or what is written, has more than 65,536 tokens.
 #[tactic(auto, unfolding(crate::specs::Selects::respelled_below))]
 pub fn respelled_backwards<S: Selects>(
     alloc: Global,

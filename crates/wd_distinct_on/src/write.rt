@@ -1,4 +1,4 @@
-//! The select that stands for one with DISTINCT ON.
+//! The select that replaces one with DISTINCT ON.
 
 ghost use Rattle.std.specs.Prelude.{◌≡◌, ◌∷◌, ◌++◌, [], map, IfOk};
 ghost use Rattle.wd_clauses.specs.Given.{Makes, Writes};
@@ -13,7 +13,7 @@ use wd_clauses::{RespellError, add, add_all, added, copied, copy_token};
 use wd_lex::{Terminal, Token, TokenKind};
 use wd_value::Text;
 
-/// A word that is added because of another.
+/// A word that is added because of another word.
 fn added_word(alloc: Global, text: &str, word: &Token) -> Result<Token, AllocError>
     ensures { IfOk result (λ t. t ≡ spec.added_word text.now word.now) }
 {
@@ -222,7 +222,7 @@ fn add_tail(alloc: Global, written: &mut Vec<Token>, select: &Select) -> Result<
     Ok(())
 }
 
-/// The select that stands for one with DISTINCT ON, and what follows it, behind these tokens.
+/// The select that replaces one with DISTINCT ON, and what follows it, after these tokens.
 #[tactic(auto, unfolding(crate::specs::Written::written))]
 pub fn written(
     alloc: Global,

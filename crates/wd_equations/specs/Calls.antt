@@ -1,4 +1,4 @@
--- Which call or CASE that is written by an equation begins here, and of which parts.
+-- Which call or CASE that has an equation begins here, and its parts.
 use Rattle.std.specs.Prelude.{◌||◌, ◌&&◌, ◌==◌, ◌%◌, not, nat_lt, codes, Bool, true, false, if◌then◌else◌, List, [], ◌∷◌, length, Option, Some, None}
 use Rattle.wd_lex.specs.declared.token.Terminal.TheVariants as m
 use Rattle.wd_lex.specs.declared.token.Span.{Span}
@@ -21,7 +21,7 @@ null_if_after at tokens =
 
 -- ---- FILTER
 
--- where FILTER stands, and the tokens after it
+-- the place of FILTER, if tokens begin with it, and the tokens after it
 unfoldable pub filter_word : List Token → Option (Span × List Token)
 filter_word [] = None
 filter_word (token ∷ tokens) = if is_word (codes "filter") token.kind then Some (token.span, tokens) else None
@@ -32,7 +32,7 @@ is_all [] = false
 is_all (token ∷ []) = is_terminal m.Star token.kind
 is_all (token ∷ _ ∷ tokens) = false
 
--- a value, as far as its first token says: neither DISTINCT nor ALL, nor nothing
+-- whether tokens begin with a value, as far as the first token tells: there is one, and it is neither DISTINCT nor ALL
 unfoldable pub begins_value : List Token → Bool
 begins_value [] = false
 begins_value (token ∷ tokens) = not (is_terminal m.Distinct token.kind) && not (is_terminal m.All token.kind)
@@ -47,7 +47,7 @@ counted at name condition rest = Some (place form.CountAll false at (name ∷ co
 abbrev pub is_aggregate : TokenKind → Bool
 is_aggregate kind = is_word (codes "count") kind || is_word (codes "sum") kind || is_word (codes "min") kind || is_word (codes "max") kind
 
--- f (x) FILTER (WHERE p), after its name, where f passes over NULL; of * only COUNT
+-- f (x) FILTER (WHERE p), after its name, where f passes over NULL; with * only COUNT
 unfoldable pub filter_after : Bool → List Token → List Token → Option Place
 filter_after is_count name tokens =
     brackets_at tokens >>= λ argument. filter_word argument.1 >>= λ word. brackets_at word.1 >>= λ inside. past m.Where inside.0 >>= λ condition.
@@ -56,7 +56,7 @@ filter_after is_count name tokens =
 
 -- ---- CASE with an operand
 
--- arms of a CASE, and no operand
+-- whether tokens begin with the arms of a CASE, without an operand
 unfoldable pub begins_arms : List Token → Bool
 begins_arms [] = true
 begins_arms (token ∷ tokens) = is_terminal m.When token.kind

@@ -1,6 +1,6 @@
--- What the standard says that a test, a call or a CASE is, as the pieces that are written in its place. A part is known by its
--- number, from 0: first comes what is tested, and then what it is tested against. An operand is written in brackets, so that
--- whatever it is made of it stands by itself.
+-- What the standard defines a test, a call or a CASE to be, as the pieces that are written in its place. Parts are numbered from 0:
+-- first comes what is tested, and then what it is tested against. An operand is written in brackets, so that it stays one operand
+-- whatever it is made of.
 use Rattle.std.specs.Prelude.{ℕ, zero, suc, ◌+◌, ◌-◌, ◌*◌, ◌/◌, ◌++◌, Bool, true, false, List, [], ◌∷◌}
 use Rattle.wd_lex.specs.declared.token.Terminal.TheVariants as m
 use Rattle.wd_equations.specs.declared.equation.Piece.{Piece}
@@ -14,15 +14,15 @@ use Rattle.wd_equations.specs.declared.equation.Arm.TheVariants.{OrEqual, Known,
 abbrev pub between : List Piece
 between = Mark m.LeftBracket ∷ Operand 0 ∷ Mark m.GreaterOrEqual ∷ Operand 1 ∷ Mark m.And ∷ Operand 0 ∷ Mark m.LessOrEqual ∷ Operand 2 ∷ Mark m.RightBracket ∷ []
 
--- x IS DISTINCT FROM y: where x is NULL, whether y is not; else, where y is NULL, it is so; else x <> y
+-- x IS DISTINCT FROM y: where x is NULL, whether y is not; else true where y is NULL; else x <> y
 abbrev pub distinct : List Piece
 distinct = Mark m.Case ∷ Mark m.When ∷ Operand 0 ∷ Mark m.Is ∷ Mark m.Null ∷ Mark m.Then ∷ Operand 1 ∷ Mark m.Is ∷ Mark m.Not ∷ Mark m.Null ∷ Mark m.When ∷ Operand 1 ∷ Mark m.Is ∷ Mark m.Null ∷ Mark m.Then ∷ Mark m.True ∷ Mark m.Else ∷ Operand 0 ∷ Mark m.NotEquals ∷ Operand 1 ∷ Mark m.End ∷ []
 
--- x IS TRUE: it is so where x is true, and not so where x is false or unknown
+-- x IS TRUE: true where x is true, false where x is false or unknown
 abbrev pub is_true : List Piece
 is_true = Mark m.Case ∷ Mark m.When ∷ Operand 0 ∷ Mark m.Then ∷ Mark m.True ∷ Mark m.Else ∷ Mark m.False ∷ Mark m.End ∷ []
 
--- x IS FALSE: it is so where NOT x is true, and not so where that is false or unknown
+-- x IS FALSE: true where NOT x is true, false where NOT x is false or unknown
 abbrev pub is_false : List Piece
 is_false = Mark m.Case ∷ Mark m.When ∷ Mark m.Not ∷ Operand 0 ∷ Mark m.Then ∷ Mark m.True ∷ Mark m.Else ∷ Mark m.False ∷ Mark m.End ∷ []
 
@@ -42,16 +42,16 @@ count_all = Clause 0 ∷ Mark m.LeftBracket ∷ Mark m.Case ∷ Mark m.When ∷ 
 abbrev pub filter : List Piece
 filter = Clause 0 ∷ Mark m.LeftBracket ∷ Mark m.Case ∷ Mark m.When ∷ Operand 1 ∷ Mark m.Then ∷ Operand 2 ∷ Mark m.End ∷ Mark m.RightBracket ∷ []
 
--- ---- equations of as many parts as there are
+-- ---- equations of any number of parts
 
--- what is written for the value of that number, from 0: of IN, OR x = a; of COALESCE, WHEN a IS NOT NULL THEN a; of a CASE with an
+-- what is written for the value with this number, from 0: for IN, OR x = a; for COALESCE, WHEN a IS NOT NULL THEN a; for a CASE with an
 -- operand x, WHEN x = a THEN r
 abbrev pub arm : Arm → ℕ → List Piece
 arm OrEqual index = Mark m.Or ∷ Operand 0 ∷ Mark m.Equals ∷ Operand (index + 2) ∷ []
 arm Known index = Mark m.When ∷ Operand index ∷ Mark m.Is ∷ Mark m.Not ∷ Mark m.Null ∷ Mark m.Then ∷ Operand index ∷ []
 arm Equal index = Mark m.When ∷ Operand 0 ∷ Mark m.Equals ∷ Operand (2 * index + 1) ∷ Mark m.Then ∷ Clause (2 * index + 2) ∷ []
 
--- so many of them, from that number on
+-- what is written for the given number of values, from this number on
 unfoldable pub each : Arm → ℕ → ℕ → List Piece
 each repeated index zero = []
 each repeated index (suc count) = arm repeated index ++ each repeated (index + 1) count
@@ -64,11 +64,11 @@ among count = (Mark m.LeftBracket ∷ Operand 0 ∷ Mark m.Equals ∷ Operand 1 
 abbrev pub coalesce : ℕ → List Piece
 coalesce count = (Mark m.Case ∷ []) ++ each Known 0 (count - 1) ++ Mark m.Else ∷ Operand (count - 1) ∷ Mark m.End ∷ []
 
--- CASE x WHEN a THEN r .. END: CASE WHEN x = a THEN r .. END. The last r goes on with what is given ELSE
+-- CASE x WHEN a THEN r .. END: CASE WHEN x = a THEN r .. END. The last r includes ELSE and its value
 abbrev pub simple_case : ℕ → List Piece
 simple_case count = (Mark m.Case ∷ []) ++ each Equal 0 (count / 2) ++ Mark m.End ∷ []
 
--- what is written in place of a form of so many parts
+-- what is written in place of a form of the given number of parts
 abbrev pub equation : Form → ℕ → List Piece
 equation form.Between count = between
 equation form.Among count = among count
@@ -82,7 +82,7 @@ equation form.CountAll count = count_all
 equation form.Filter count = filter
 equation form.SimpleCase count = simple_case count
 
--- with NOT, that it does not hold
+-- the pieces, or with NOT that they do not hold
 abbrev pub stated : Bool → List Piece → List Piece
 stated false pieces = pieces
 stated true pieces = (Mark m.LeftBracket ∷ Mark m.Not ∷ []) ++ pieces ++ Mark m.RightBracket ∷ []

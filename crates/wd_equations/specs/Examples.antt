@@ -17,15 +17,15 @@ x = t.Word (codes "x")
 abbrev pub y : TokenKind
 y = t.Word (codes "y")
 
--- in brackets, and what follows
+-- kinds in brackets, and what follows
 abbrev pub within : TokenKind → List TokenKind → List TokenKind
 within kind kinds = mark m.LeftBracket ∷ kind ∷ mark m.RightBracket ∷ kinds
 
--- tokens that say this, all at one place
+-- tokens of these kinds, all at one place
 abbrev pub all_at : Span → List TokenKind → List Token
 all_at at kinds = map (λ kind. let token : Token = record { kind = kind; span = at } in token) kinds
 
--- tokens that say the first are written as tokens that say the second
+-- tokens of the first kinds are written as tokens of the second
 abbrev pub Becomes : List TokenKind → List TokenKind → Type 0
 Becomes left right = (at : Span) → expanded (all_at at left) ≡ all_at at right
 

@@ -1,11 +1,11 @@
--- What a function of the code returned, beside what a definition gives.
+-- What a function of the code returned, compared with what a definition gives.
 use Rattle.std.specs.Prelude.{◌≡◌, ◌++◌, ◌<◌, ◌≤◌, ℕ, List, length, Option, Some, None, Result, Ok, Err}
 use Rattle.std.specs.Borrow.{Bor}
 use Rattle.wd_lex.specs.declared.token.Token.{Token}
 use Rattle.wd_equations.specs.declared.error.ExpandError.{ExpandError}
 use Rattle.wd_equations.specs.declared.error.ExpandError.TheVariants as e
 
--- What a function found, seen by view.
+-- What a function found, seen through `view`.
 abbrev pub Finds : {X Y : Type 0} → (X → Y) → Option X → Option Y → Type 0
 Finds view None found = found ≡ None
 Finds view (Some x) found = found ≡ Some (view x)
@@ -18,7 +18,7 @@ pair found = (found.0.now, found.1.now)
 abbrev pub most_tokens : ℕ
 most_tokens = 65536
 
--- A refusal to add tokens to others: they would be too many, unless memory ran out.
+-- An error of adding tokens to others: they would be too many, unless memory ran out.
 abbrev pub Fails : ExpandError → List Token → List Token → Type 0
 Fails e.TooLong old added = most_tokens < length (old ++ added)
 Fails e.OutOfMemory old added = Unit {0}

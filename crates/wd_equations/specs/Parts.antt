@@ -1,4 +1,4 @@
--- Parts of a list of tokens, up to separators that stand outside brackets.
+-- Parts of a list of tokens, up to separators outside brackets.
 use Rattle.std.specs.Prelude.{ℕ, zero, suc, ◌+◌, ◌-◌, ◌==◌, ◌&&◌, if◌then◌else◌, List, [], ◌∷◌, length, take, drop}
 use Rattle.wd_lex.specs.declared.token.Terminal.{Terminal}
 use Rattle.wd_lex.specs.declared.token.Terminal.TheVariants as m
@@ -15,7 +15,7 @@ depth_after depth (t.Terminal m.RightBracket) = depth - 1
 depth_after depth (t.Terminal m.End) = depth - 1
 depth_after depth _ = depth
 
--- how many tokens stand before the first separator outside brackets; so many stand before these, and so many brackets are open
+-- how many tokens come before the first separator outside brackets; `count` tokens come before these, and `depth` brackets are open
 unfoldable pub part_from : Terminal → ℕ → ℕ → List Token → ℕ
 part_from separator count depth [] = count
 part_from separator count depth (token ∷ tokens) =
@@ -28,13 +28,13 @@ first_part separator tokens = take (part_from separator 0 0 tokens) tokens
 abbrev pub behind_part : Terminal → List Token → List Token
 behind_part separator tokens = drop (part_from separator 0 0 tokens) tokens
 
--- the parts: where no separator stands any more the rest is the last of them
+-- the parts: where no separator is left the rest is the last part
 abbrev pub and_parts : List Token → List Token → (List Token → List (List Token)) → List (List Token)
 and_parts tokens [] more = tokens ∷ []
 and_parts tokens (separator ∷ behind) more = more behind
 
 -- the parts of tokens: the first goes up to the one separator, the next up to the other, and so on in turn; the number bounds the
--- turns, and the count of the tokens is always enough
+-- parts, and the count of the tokens is always enough
 unfoldable pub parts_of : ℕ → Terminal → Terminal → List Token → List (List Token)
 parts_of zero first second tokens = tokens ∷ []
 parts_of (suc turns) first second tokens = and_parts tokens (behind_part first tokens) (λ behind. first_part first tokens ∷ parts_of turns second first behind)

@@ -1,4 +1,4 @@
--- What is known of a place in a list of tokens by what stands before it, and what holds there.
+-- What is known of a place in a list of tokens by what comes before it, and what applies there.
 use Rattle.std.specs.Prelude.{Bool, List, map}
 use Rattle.wd_lex.specs.declared.token.Terminal.TheVariants as m
 use Rattle.wd_lex.specs.declared.token.Span.{Span}
@@ -10,7 +10,7 @@ use Rattle.wd_equations.specs.declared.found.Before.{Before}
 use Rattle.wd_equations.specs.declared.found.Before.TheVariants.{Open, Compared, Inside}
 use Rattle.wd_equations.specs.declared.found.Found.{Found}
 
--- A NOT before what it denies leaves the place as it was. Else it belongs to a test.
+-- A NOT before what it negates leaves the place as it was. Otherwise it belongs to a test.
 abbrev pub after_not : Before → Before
 after_not Open = Open
 after_not _ = Inside
@@ -40,7 +40,7 @@ after before (t.Terminal m.GreaterOrEqual) = Compared
 after before (t.Terminal m.Not) = after_not before
 after before _ = Inside
 
--- what holds at a place: a form, whether NOT stands with it, where its word stands, its parts, and the tokens after it
+-- what applies at a place: a form, whether it has NOT, the place of its word, its parts, and the tokens after it
 pub record Place : Type 0 where
   pub form : Form
   pub is_not : Bool

@@ -1,4 +1,4 @@
--- Which test stands after an operand, and of which parts.
+-- Which test comes after an operand, and its parts.
 use Rattle.std.specs.Str.{bytes_eq}
 use Rattle.std.specs.Prelude.{◌||◌, not, codes, Bool, true, false, if◌then◌else◌, List, [], ◌∷◌, Option, Some, None}
 use Rattle.wd_lex.specs.declared.token.Terminal.TheVariants as m
@@ -14,7 +14,7 @@ use Rattle.wd_equations.specs.Parts.{values_of}
 use Rattle.wd_equations.specs.Places.{Place, place}
 use Rattle.wd_equations.specs.Tokens.{◌>>=◌, brackets_at, goes_on, is_terminal, is_word, operand_at, past}
 
--- after what may stand first, or from there on
+-- by the tokens after something that may come first, or else by the tokens themselves
 abbrev pub choose : {A : Type 0} → Option (List Token) → (List Token → A) → A → A
 choose (Some rest) found other = found rest
 choose None found other = other
@@ -43,7 +43,7 @@ unfoldable pub begins_query : List Token → Bool
 begins_query [] = false
 begins_query (token ∷ tokens) = if is_terminal m.LeftBracket token.kind then begins_query tokens else is_query_word token.kind
 
--- a list of values, and no query
+-- whether tokens begin with a list of values that is not a query
 unfoldable pub begins_list : List Token → Bool
 begins_list [] = false
 begins_list (token ∷ tokens) = not (begins_query (token ∷ tokens))
@@ -65,7 +65,7 @@ word_test_at tested tokens = choose (past m.Not tokens) (λ rest. word_test true
 
 -- ---- IS
 
--- x IS [NOT] DISTINCT FROM y, after DISTINCT, where y is the whole of what stands on the right
+-- x IS [NOT] DISTINCT FROM y, after DISTINCT, where y is the whole right side
 unfoldable pub distinct_after : Bool → Span → List Token → List Token → Option Place
 distinct_after is_not at tested tokens =
     past m.From tokens >>= λ rest. operand_at rest >>= λ other. if goes_on other.1 then None else Some (place form.Distinct is_not at (tested ∷ other.0 ∷ []) other.1)

@@ -1,4 +1,4 @@
--- Single tokens, and what stands at the start of tokens.
+-- Single tokens, and what tokens begin with.
 use Rattle.std.specs.Str.{bytes_eq}
 use Rattle.std.specs.Prelude.{ℕ, ◌-◌, ◌==◌, nat_lt, Bool, true, false, if◌then◌else◌, List, [], ◌∷◌, take, drop, Option, Some, None}
 use Rattle.wd_lex.specs.declared.token.Terminal.{Terminal}
@@ -19,17 +19,17 @@ abbrev pub is_terminal : Terminal → TokenKind → Bool
 is_terminal x (t.Terminal y) = terminal_code y == terminal_code x
 is_terminal x _ = false
 
--- a word of that spelling, which is not reserved
+-- whether a token is this word, which is not reserved
 abbrev pub is_word : List ℕ → TokenKind → Bool
 is_word word (t.Word text) = bytes_eq text word
 is_word word _ = false
 
--- the tokens after a terminal, where it stands first
+-- the tokens after a terminal, if they begin with it
 unfoldable pub past : Terminal → List Token → Option (List Token)
 past x [] = None
 past x (token ∷ tokens) = if is_terminal x token.kind then Some tokens else None
 
--- what stands first, and the tokens after it
+-- what tokens begin with, and the tokens after it
 abbrev pub AndRest : Type 0
 AndRest = List Token × List Token
 
@@ -37,17 +37,17 @@ AndRest = List Token × List Token
 unfoldable pub operand_at : List Token → Option AndRest
 operand_at tokens = if operand_length tokens == 0 then None else Some (take (operand_length tokens) tokens, drop (operand_length tokens) tokens)
 
--- what stands between the brackets at the start, or between CASE and END, and the tokens after them
+-- what is between the brackets at the start, or between CASE and END, and the tokens after them
 unfoldable pub nest_at : List Token → Option AndRest
 nest_at tokens =
     if nat_lt (nest_length tokens) 2 then None else Some (drop 1 (take (nest_length tokens - 1) (take (nest_length tokens) tokens)), drop (nest_length tokens) tokens)
 
--- what stands between the round brackets at the start, and the tokens after them
+-- what is between the round brackets at the start, and the tokens after them
 unfoldable pub brackets_at : List Token → Option AndRest
 brackets_at [] = None
 brackets_at (token ∷ tokens) = if is_terminal m.LeftBracket token.kind then nest_at (token ∷ tokens) else None
 
--- a token that goes on with what binds no less tightly than IS
+-- whether a token continues an operand with an operator that binds no less tightly than IS
 abbrev pub is_operator : TokenKind → Bool
 is_operator (t.Terminal m.Plus) = true
 is_operator (t.Terminal m.Minus) = true
@@ -67,7 +67,7 @@ is_operator (t.Terminal m.NotNull) = true
 is_operator (t.Word text) = is_test_word text
 is_operator _ = false
 
--- the tokens go on with it
+-- whether tokens continue with such an operator
 unfoldable pub goes_on : List Token → Bool
 goes_on [] = false
 goes_on (token ∷ tokens) = is_operator token.kind

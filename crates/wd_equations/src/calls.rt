@@ -62,7 +62,7 @@ fn null_if_after<'t>(
     }))
 }
 
-/// Where FILTER stands, and the tokens after it.
+/// The place of FILTER, if the tokens begin with it, and the tokens after it.
 #[tactic(auto, unfolding(crate::specs::Calls::filter_word))]
 fn filter_word(tokens: &[Token]) -> Option<(Span, &[Token])>
     ensures { Finds (λ found. (found.0, found.1.now)) result (filter_word tokens.now) }
@@ -90,7 +90,7 @@ fn is_all(tokens: &[Token]) -> bool
     }
 }
 
-/// Whether a value stands first, as far as its first token says: neither DISTINCT nor ALL, nor nothing.
+/// Whether the tokens begin with a value, as far as the first token tells: there is one, and it is neither DISTINCT nor ALL.
 #[tactic(auto, unfolding(crate::specs::Calls::begins_value))]
 fn begins_value(tokens: &[Token]) -> bool
     ensures { result ≡ begins_value tokens.now }
@@ -149,7 +149,7 @@ fn counted<'t>(
     }))
 }
 
-/// Whether it is the name of an aggregate that passes over NULL.
+/// Whether a token is the name of an aggregate that passes over NULL.
 fn is_aggregate(kind: &TokenKind) -> bool
     ensures { result ≡ is_aggregate kind.now }
 {
@@ -187,7 +187,7 @@ fn filter_after<'t>(
     }
 }
 
-/// Whether arms of a CASE stand first, and no operand.
+/// Whether the tokens begin with the arms of a CASE, without an operand.
 #[tactic(auto, unfolding(crate::specs::Calls::begins_arms))]
 fn begins_arms(tokens: &[Token]) -> bool
     ensures { result ≡ begins_arms tokens.now }
@@ -226,7 +226,7 @@ fn case_after<'t>(
     }))
 }
 
-/// A call of that name that is an abbreviation or has FILTER.
+/// A call with this name that is an abbreviation or has FILTER.
 #[tactic(auto, unfolding(crate::specs::Calls::named_call))]
 fn named_call<'t>(
     alloc: Global,

@@ -1,4 +1,4 @@
-//! What the standard says that a test, a call or a CASE is.
+//! What the standard defines a test, a call or a CASE to be.
 
 ghost use Rattle.std.specs.Prelude.{◌≡◌, ◌++◌, ◌+◌, ◌^◌, ◌<◌, ◌≤◌, OnOk, IfOk};
 ghost use Rattle.wd_equations.specs.Equations as spec;
@@ -7,7 +7,7 @@ ghost use Rattle.wd_equations.specs.Equations.{each, equation};
 use std::alloc::{AllocError, Global};
 use wd_lex::Terminal;
 
-/// What is written by an equation.
+/// The forms that equations define.
 #[derive(Clone, Copy)]
 pub enum Form {
     Between,
@@ -30,18 +30,18 @@ pub enum Piece {
     Mark(Terminal),
     /// The number 1.
     One,
-    /// The part of that number, in brackets.
+    /// The part with this number, in brackets.
     Operand(usize),
-    /// The part of that number as it is.
+    /// The part with this number, as it is.
     Clause(usize),
 }
 
 /// What an equation repeats for each of its values.
 #[derive(Clone, Copy)]
 enum Arm {
-    /// Of IN: or it is this value.
+    /// Of IN: OR the operand is this value.
     OrEqual,
-    /// Of COALESCE: this value, where it is known.
+    /// Of COALESCE: this value, where it is not NULL.
     Known,
     /// Of CASE: where the operand is this value.
     Equal,
@@ -161,7 +161,7 @@ const FILTER: [Piece; 9] = [
     Mark(Terminal::RightBracket),
 ];
 
-/// What an equation writes for its value of that number, from 0.
+/// What an equation writes for its value with this number, from 0.
 fn arm_of(alloc: Global, arm: Arm, index: usize) -> Result<Vec<Piece>, AllocError>
     requires { index + 1 < 2 ^ 63 }
     ensures { IfOk result (λ pieces. pieces.items ≡ spec.arm arm index) }
@@ -202,7 +202,7 @@ fn arm_of(alloc: Global, arm: Arm, index: usize) -> Result<Vec<Piece>, AllocErro
     }
 }
 
-/// Adds what an equation writes for so many values.
+/// Adds what an equation writes for `count` values.
 fn push_each(pieces: &mut Vec<Piece>, repeated: Arm, count: usize) -> Result<(), AllocError>
     requires { count < 2 ^ 63 }
     ensures { OnOk result (pieces.new.items ≡ pieces.old.items ++ each repeated 0 count) }
@@ -214,7 +214,7 @@ fn push_each(pieces: &mut Vec<Piece>, repeated: Arm, count: usize) -> Result<(),
     Ok(())
 }
 
-/// `(x = a OR x = b OR ..)`, of so many parts.
+/// `(x = a OR x = b OR ..)`, of `count` parts.
 fn among(alloc: Global, count: usize) -> Result<Vec<Piece>, AllocError>
     requires { count < 2 ^ 63 }
     ensures { IfOk result (λ pieces. pieces.items ≡ spec.among count) }
@@ -233,7 +233,7 @@ fn among(alloc: Global, count: usize) -> Result<Vec<Piece>, AllocError>
     Ok(pieces)
 }
 
-/// `CASE WHEN x IS NOT NULL THEN x .. ELSE last END`, of so many parts.
+/// `CASE WHEN x IS NOT NULL THEN x .. ELSE last END`, of `count` parts.
 fn coalesce(alloc: Global, count: usize) -> Result<Vec<Piece>, AllocError>
     requires { count < 2 ^ 63 }
     ensures { IfOk result (λ pieces. pieces.items ≡ spec.coalesce count) }
@@ -245,7 +245,7 @@ fn coalesce(alloc: Global, count: usize) -> Result<Vec<Piece>, AllocError>
     Ok(pieces)
 }
 
-/// `CASE WHEN x = a THEN r .. END`, of so many parts.
+/// `CASE WHEN x = a THEN r .. END`, of `count` parts.
 fn simple_case(alloc: Global, count: usize) -> Result<Vec<Piece>, AllocError>
     requires { count < 2 ^ 63 }
     ensures { IfOk result (λ pieces. pieces.items ≡ spec.simple_case count) }
@@ -256,7 +256,7 @@ fn simple_case(alloc: Global, count: usize) -> Result<Vec<Piece>, AllocError>
     Ok(pieces)
 }
 
-/// What is written in place of a form of so many parts.
+/// What is written in place of a form of `count` parts.
 pub fn pieces_of(alloc: Global, form: Form, count: usize) -> Result<Vec<Piece>, AllocError>
     requires { count < 2 ^ 63 }
     ensures { IfOk result (λ pieces. pieces.items ≡ equation form count) }
@@ -276,7 +276,7 @@ pub fn pieces_of(alloc: Global, form: Form, count: usize) -> Result<Vec<Piece>, 
     }
 }
 
-/// The pieces, or that they do not hold.
+/// The pieces, or with NOT that they do not hold.
 pub fn stated(alloc: Global, is_not: bool, pieces: &[Piece]) -> Result<Vec<Piece>, AllocError>
     ensures { IfOk result (λ all. all.items ≡ spec.stated is_not pieces.now) }
 {

@@ -1,7 +1,7 @@
-//! Goes over tokens from left to right, and writes what each equation says in place of its left side.
+//! Goes over tokens from left to right, and writes the right side of each equation in place of its left side.
 //!
-//! `walk` takes step by step, and each part of an equation is walked in turn. A part stands within fewer brackets than the whole,
-//! or is a smaller operand, and brackets are followed to 64 levels, so that `walk` is called within itself at most 130 times.
+//! `walk` goes on step by step, and walks each part of an equation in turn. A part is within fewer brackets than the whole, or is a
+//! smaller operand, and brackets are followed to 64 levels, so that `walk` is called within itself at most 130 times.
 
 ghost use Rattle.std.specs.Prelude.{◌≡◌, ◌≤◌, ◌<◌, length, map, IfOk, IfErr};
 ghost use Rattle.wd_equations.specs.declared.found.Before.{Before};
@@ -21,7 +21,7 @@ use crate::write::{push, push_copy, push_mark};
 use std::alloc::{AllocError, Global};
 use wd_lex::{Span, Terminal, Token, TokenKind};
 
-/// The equation that holds here.
+/// The equation that applies here, if any.
 #[tactic(auto, unfolding(crate::specs::Expanded::place_at))]
 fn place_at<'t>(
     alloc: Global,
@@ -36,7 +36,7 @@ fn place_at<'t>(
     }
 }
 
-/// What an equation says, as pieces.
+/// The right side of an equation, as pieces.
 fn said(alloc: Global, found: &Found) -> Result<Vec<Piece>, AllocError>
     ensures { IfOk result (λ pieces. pieces.items ≡ stated found.now.is_not (equation found.now.form (length found.now.parts.items))) }
 {
@@ -125,7 +125,7 @@ fn push_pieces(
     Ok(())
 }
 
-/// Writes what an equation says.
+/// Writes the right side of an equation.
 #[tactic(auto, unfolding(crate::specs::Expanded::written))]
 #[cycle(walk)]
 fn push_found(out: &mut Vec<Token>, turns: usize, found: &Found) -> Result<(), ExpandError>
@@ -136,7 +136,7 @@ fn push_found(out: &mut Vec<Token>, turns: usize, found: &Found) -> Result<(), E
     push_pieces(out, turns, found.at, &found.parts, &pieces)
 }
 
-/// Writes what stands in place of what begins here, and says what is known of the next place, and where it is.
+/// Writes the replacement of what begins here. Returns what is known of the next place, and the tokens from there on.
 #[tactic(auto, unfolding(crate::specs::Expanded::step))]
 #[cycle(walk)]
 fn step<'t>(
@@ -187,9 +187,9 @@ fn walk(
     Ok(())
 }
 
-/// The tokens with the standard's equations applied: what each test, call or CASE is that an equation is of, in its place. A token
-/// that is added has the place of the word because of which it is. It refuses with `TooLong` where the result has more than 65,536
-/// tokens, as soon as so many are written.
+/// The tokens with the standard's equations applied: each test, call or CASE that has an equation is replaced by what it is defined to
+/// be. A token that is added has the place of the word that the equation is about. The error is `TooLong` where the result has more
+/// than 65,536 tokens; no more than these are written.
 #[tactic(auto, unfolding(crate::specs::Expanded::expanded))]
 pub fn expand(alloc: Global, tokens: &[Token]) -> Result<Vec<Token>, ExpandError>
     // The result is the expanded tokens, and not too many.

@@ -1,4 +1,4 @@
-//! An equation that holds at the start of tokens, and of which parts.
+//! An equation that applies at the start of tokens, and its parts.
 
 ghost use Rattle.std.specs.Prelude.{◌≡◌};
 ghost use Rattle.wd_equations.specs.Places.{after, after_not};
@@ -6,24 +6,24 @@ ghost use Rattle.wd_equations.specs.Places.{after, after_not};
 use crate::equation::Form;
 use wd_lex::{Span, Terminal, Token, TokenKind};
 
-/// What is known of a place by what stands before it.
+/// What is known of a place by what comes before it.
 #[derive(Clone, Copy)]
 pub enum Before {
-    /// An operand that begins here is the whole of what stands on the left of a test.
+    /// An operand that begins here is the whole left side of a test.
     Open,
-    /// A comparison stands before it, which binds less tightly than BETWEEN and IN, and more tightly than IS.
+    /// A comparison comes before it, which binds less tightly than BETWEEN and IN, and more tightly than IS.
     Compared,
-    /// It is within an operand, or after what is no operator.
+    /// The place is within an operand, or after something that is not an operator.
     Inside,
 }
 
-/// An equation, and the tokens after what it is of.
+/// An equation, and the tokens after what it replaces.
 #[derive(Drop)]
 pub struct Found<'t> {
     pub form: Form,
-    /// Whether NOT stands with it.
+    /// Whether it has NOT.
     pub is_not: bool,
-    /// Where the word stands because of which it holds.
+    /// The place of the word that the equation is about.
     pub at: Span,
     pub parts: Vec<&'t [Token]>,
     pub rest: &'t [Token],
@@ -62,7 +62,7 @@ pub fn after(before: Before, kind: &TokenKind) -> Before
     }
 }
 
-/// After a NOT, which stands before what it denies, or within a test.
+/// What is known after a NOT: it comes before what it negates, or is part of a test.
 fn after_not(before: Before) -> Before
     ensures { result ≡ after_not before }
 {

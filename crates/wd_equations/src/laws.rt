@@ -2,7 +2,7 @@
 
 ghost use Rattle.wd_equations.specs.Examples.{EquationsComeOut};
 
-/// Worked tests, calls and CASE: what is written in their place, and which are left as they are.
+/// Worked tests, calls and CASE: what replaces them, and which stay unchanged.
 pub fn equations_come_out()
     ensures { EquationsComeOut }
 {}

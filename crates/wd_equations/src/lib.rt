@@ -1,9 +1,9 @@
-//! The standard's equations within expressions: BETWEEN, IN, COALESCE, NULLIF, IS DISTINCT FROM, IS TRUE and its like, a CASE
-//! with an operand, and FILTER, each written by what the standard says that it is.
+//! The standard's equations within expressions: BETWEEN, IN, COALESCE, NULLIF, IS DISTINCT FROM, IS TRUE and the like, a CASE with an
+//! operand, and FILTER, each replaced by what the standard defines it to be.
 //!
-//! `expansion` goes over the tokens from left to right. `found` says which equation holds at a place and of which parts: `tests`
-//! looks for one after an operand, `calls` at a call or a CASE, and `split` cuts lists of parts. `equation` says what is written
-//! in its place, as a list of pieces, and `expansion` writes the pieces with each part expanded.
+//! `expansion` goes over the tokens from left to right. `found` says which equation applies at a place and to which parts: `tests`
+//! looks for one after an operand, `calls` at a call or a CASE, and `split` cuts lists of parts. `equation` says what is written in
+//! place of it, as a list of pieces, and `expansion` writes the pieces with each part expanded.
 #![tactic(auto)]
 
 mod calls;

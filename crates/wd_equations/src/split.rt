@@ -1,4 +1,4 @@
-//! Parts of a list of tokens, up to separators that stand outside brackets.
+//! Parts of a list of tokens, up to separators outside brackets.
 
 ghost use Rattle.std.specs.Prelude.{◌≡◌, ◌≤◌, ◌+◌, ◌<◌, ◌^◌, length, map, drop, IfOk};
 ghost use Rattle.wd_equations.specs.Parts.{depth_after, part_from, parts_of};
@@ -19,7 +19,7 @@ fn depth_after(depth: usize, kind: &TokenKind) -> usize
     }
 }
 
-/// How many tokens stand before the first separator outside brackets.
+/// How many tokens come before the first separator outside brackets.
 #[tactic(auto, unfolding(crate::specs::Parts::part_from))]
 fn part_length(separator: Terminal, tokens: &[Token]) -> usize
     ensures value { result ≡ part_from separator 0 0 tokens.now }

@@ -13,7 +13,7 @@ use crate::tokens::{brackets_at, goes_on, is_terminal, is_word, operand_at, past
 use std::alloc::{AllocError, Global};
 use wd_lex::{Span, Terminal, Token, TokenKind};
 
-/// Whether SYMMETRIC or ASYMMETRIC stands first.
+/// Whether the tokens begin with SYMMETRIC or ASYMMETRIC.
 #[tactic(auto, unfolding(crate::specs::Tests::begins_symmetry))]
 fn begins_symmetry(tokens: &[Token]) -> bool
     ensures { result ≡ begins_symmetry tokens.now }
@@ -70,7 +70,7 @@ fn is_query_word(kind: &TokenKind) -> bool
     }
 }
 
-/// Whether a query stands first, in brackets or not.
+/// Whether the tokens begin with a query, in brackets or not.
 #[tactic(auto, unfolding(crate::specs::Tests::begins_query))]
 fn begins_query(tokens: &[Token]) -> bool
     ensures { result ≡ begins_query tokens.now }
@@ -85,7 +85,7 @@ fn begins_query(tokens: &[Token]) -> bool
     false
 }
 
-/// Whether a list of values stands first, and no query.
+/// Whether the tokens begin with a list of values that is not a query.
 #[tactic(auto, unfolding(crate::specs::Tests::begins_list))]
 fn begins_list(tokens: &[Token]) -> bool
     ensures { result ≡ begins_list tokens.now }
@@ -220,7 +220,7 @@ fn truth_form(kind: &TokenKind) -> Option<Form>
     }
 }
 
-/// `x IS [NOT] TRUE`, and its like with FALSE and UNKNOWN, from that word on.
+/// `x IS [NOT] TRUE`, and the same with FALSE and UNKNOWN, from that word on.
 #[tactic(auto, unfolding(crate::specs::Tests::truth_after))]
 fn truth_after<'t>(
     alloc: Global,
@@ -283,7 +283,7 @@ fn is_after<'t>(
     }
 }
 
-/// A test of what stands on its left as a whole.
+/// A test whose whole left side is this.
 #[tactic(auto, unfolding(crate::specs::Tests::test_after))]
 fn test_after<'t>(
     alloc: Global,

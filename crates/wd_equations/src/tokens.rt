@@ -1,4 +1,4 @@
-//! Single tokens, and what stands at the start of tokens.
+//! Single tokens, and what tokens begin with.
 
 ghost use Rattle.std.specs.Prelude.{◌≡◌};
 ghost use Rattle.wd_equations.specs.Given.{Finds, pair};
@@ -17,7 +17,7 @@ pub fn is_terminal(kind: &TokenKind, terminal: Terminal) -> bool
     }
 }
 
-/// Whether it is the word of that spelling, which is not reserved.
+/// Whether a token is this word, which is not reserved.
 pub fn is_word(kind: &TokenKind, word: &str) -> bool
     ensures { result ≡ is_word word.now kind.now }
 {
@@ -27,7 +27,7 @@ pub fn is_word(kind: &TokenKind, word: &str) -> bool
     }
 }
 
-/// The tokens after a terminal, where it stands first.
+/// The tokens after a terminal, if they begin with it.
 #[tactic(auto, unfolding(crate::specs::Tokens::past))]
 pub fn past(tokens: &[Token], terminal: Terminal) -> Option<&[Token]>
     ensures { Finds (λ r. r.now) result (past terminal tokens.now) }
@@ -56,7 +56,7 @@ pub fn operand_at(tokens: &[Token]) -> Option<(&[Token], &[Token])>
     Some(tokens.split_at(length))
 }
 
-/// What stands between the brackets at the start, or between CASE and END, and the tokens after them.
+/// What is between the brackets at the start, or between CASE and END, and the tokens after them.
 #[tactic(auto, unfolding(crate::specs::Tokens::nest_at))]
 pub fn nest_at(tokens: &[Token]) -> Option<(&[Token], &[Token])>
     ensures { Finds pair result (nest_at tokens.now) }
@@ -71,7 +71,7 @@ pub fn nest_at(tokens: &[Token]) -> Option<(&[Token], &[Token])>
     Some((inside, rest))
 }
 
-/// What stands between the round brackets at the start, and the tokens after them.
+/// What is between the round brackets at the start, and the tokens after them.
 #[tactic(auto, unfolding(crate::specs::Tokens::brackets_at))]
 pub fn brackets_at(tokens: &[Token]) -> Option<(&[Token], &[Token])>
     ensures { Finds pair result (brackets_at tokens.now) }
@@ -88,14 +88,14 @@ pub fn brackets_at(tokens: &[Token]) -> Option<(&[Token], &[Token])>
     }
 }
 
-/// Whether a word begins what stands between an operand and the next.
+/// Whether a word is one that comes between two operands.
 fn is_test_word(text: &str) -> bool
     ensures { result ≡ is_test_word text.now }
 {
     text == "between" || text == "in" || text == "like" || text == "ilike" || text == "similar"
 }
 
-/// Whether a token goes on with what binds no less tightly than IS.
+/// Whether a token continues an operand with an operator that binds no less tightly than IS.
 fn is_operator(kind: &TokenKind) -> bool
     ensures { result ≡ is_operator kind.now }
 {
@@ -122,7 +122,7 @@ fn is_operator(kind: &TokenKind) -> bool
     }
 }
 
-/// Whether the tokens go on with it.
+/// Whether the tokens continue with such an operator.
 #[tactic(auto, unfolding(crate::specs::Tokens::goes_on))]
 pub fn goes_on(tokens: &[Token]) -> bool
     ensures { result ≡ goes_on tokens.now }

@@ -11,7 +11,7 @@ use wd_lex::{Span, Terminal, Token, TokenKind};
 /// The most tokens that are written.
 const MOST_TOKENS: usize = 65536;
 
-/// Adds a token, where there is room.
+/// Adds a token. The error is `TooLong` where there are 65,536 tokens already.
 pub fn push(out: &mut Vec<Token>, token: Token) -> Result<(), ExpandError>
     requires { length out.old.items ≤ most_tokens }
     ensures { Adds result out.old.items out.new.items (token ∷ []) }

@@ -13,7 +13,7 @@ is_gap (QuotedName name) = false
 is_gap (QuotedText text) = false
 is_gap (Symbol bytes) = false
 
--- one of so many bytes stands first
+-- the bytes begin with white space or a comment of this length
 pub record HasGap (bytes : List ℕ) (len : ℕ) : Type 0 where
   pub gap : Piece
   pub rest : List ℕ
@@ -22,6 +22,6 @@ pub record HasGap (bytes : List ℕ) (len : ℕ) : Type 0 where
   pub is : is_gap gap ≡ true
   pub long : len ≡ length (spelling gap)
 
--- none stands first
+-- the bytes begin with no white space and no comment
 abbrev pub HasNoGap : List ℕ → Type 0
 HasNoGap bytes = (gap : Piece) (rest : List ℕ) → is_gap gap ≡ true → Stands gap rest → bytes ≢ spelling gap ++ rest

@@ -1,4 +1,4 @@
--- What a line comment says to wdreport. White space may stand before each word, and letters may be upper or lower case.
+-- What a line comment tells wdreport. White space may come before each word, and letters may be upper or lower case.
 use Rattle.std.specs.Prelude.{ℕ, Bool, List, [], ◌∷◌, length, map, take, drop, codes, Option, Some, None, option_and_then, if◌then◌else◌}
 use Rattle.std.specs.Char.{to_ascii_lowercase}
 use Rattle.std.specs.List.{list_all}
@@ -6,37 +6,37 @@ use Rattle.std.specs.Str.{bytes_eq}
 use Rattle.wd_lex.specs.Characters.{is_blank}
 use Rattle.wd_lex.specs.Reading.{drop_while}
 
--- the same letters, but for their case
+-- whether the letters are the same, apart from their case
 abbrev pub is_alike : List ℕ → List ℕ → Bool
 is_alike a b = bytes_eq (map to_ascii_lowercase a) (map to_ascii_lowercase b)
 
--- what follows a word that stands first
+-- what follows a word that comes first
 abbrev pub behind_first : List ℕ → List ℕ → Option (List ℕ)
 behind_first word bytes = if is_alike (take (length word) bytes) word then Some (drop (length word) bytes) else None
 
--- what follows a word, which white space may stand before
+-- what follows a word, after any white space before it
 abbrev pub behind : List ℕ → List ℕ → Option (List ℕ)
 behind word bytes = behind_first word (drop_while is_blank bytes)
 
--- bytes that begin with white space
+-- the bytes, if they begin with white space
 abbrev pub spaced : List ℕ → Option (List ℕ)
 spaced [] = None
 spaced (b ∷ bytes) = if is_blank b then Some (b ∷ bytes) else None
 
--- what a line says behind `wdreport:`
+-- what a line says after `wdreport:`
 abbrev pub words_to_program : List ℕ → Option (List ℕ)
 words_to_program line = option_and_then (behind (codes ":")) (behind (codes "wdreport") line)
 
--- what words say behind `may depend,`
+-- what words say after `may depend,`
 abbrev pub behind_may_depend : List ℕ → Option (List ℕ)
 behind_may_depend words = option_and_then (behind (codes ",")) (option_and_then (behind (codes "depend")) (option_and_then spaced (behind (codes "may") words)))
 
--- without white space at the end
+-- the bytes without white space at the end
 abbrev pub cut_behind : List ℕ → List ℕ
 cut_behind [] = []
 cut_behind (b ∷ bytes) = if list_all is_blank (b ∷ bytes) then [] else b ∷ cut_behind bytes
 
--- without white space at the start and the end
+-- the bytes without white space at the start and the end
 abbrev pub trimmed : List ℕ → List ℕ
 trimmed bytes = cut_behind (drop_while is_blank bytes)
 

@@ -22,7 +22,7 @@ pub(crate) fn is_line_end(b: u8) -> bool
     b == b'\n' || b == b'\r'
 }
 
-/// How many bytes of white space stand first.
+/// How many bytes of white space the text begins with.
 pub(crate) fn blanks(bytes: &[u8]) -> usize
     ensures value { result ≡ prefix_len characters.is_blank bytes.now }
     ensures within { result ≤ length bytes.now }
@@ -30,7 +30,7 @@ pub(crate) fn blanks(bytes: &[u8]) -> usize
     bytes.iter().take_while(|b| is_blank(**b)).count()
 }
 
-/// How many bytes stand before the end of the first line.
+/// How many bytes come before the end of the first line.
 fn line_len(bytes: &[u8]) -> usize
     ensures value { result ≡ prefix_len (is_in class.Line) bytes.now }
     ensures within { result ≤ length bytes.now }
@@ -38,7 +38,7 @@ fn line_len(bytes: &[u8]) -> usize
     bytes.iter().take_while(|b| !is_line_end(**b)).count()
 }
 
-/// How many bytes the block comment at the front has, with those that it nests; none where nothing closes it.
+/// How many bytes the block comment at the front has, with those that it nests; `None` where nothing closes it.
 fn comment_len(bytes: &[u8]) -> Option<usize>
     requires long { 2 ≤ length bytes.now }
     requires bounded { length bytes.now < 2 ^ 63 }
@@ -65,7 +65,7 @@ fn comment_len(bytes: &[u8]) -> Option<usize>
     None
 }
 
-/// How many bytes the white space or the comment at the front has, where one stands there.
+/// How many bytes the white space or the comment at the front has, if there is one.
 pub(crate) fn gap_len(bytes: &[u8]) -> Option<usize>
     ensures gap { MatchOption result (HasNoGap bytes.now) (HasGap bytes.now) }
     ensures within { IfSome result (λ len. (0 < len) × (len ≤ length bytes.now)) }

@@ -7,7 +7,7 @@ ghost use Rattle.wd_excuse.specs.Lines as spec;
 
 use crate::gap::{blanks, is_blank};
 
-/// What stands behind the white space at the front.
+/// What follows the white space at the front.
 fn unblanked(bytes: &[u8]) -> &[u8]
     ensures { result.now ≡ drop_while characters.is_blank bytes.now }
 {
@@ -21,7 +21,7 @@ fn trimmed(bytes: &[u8]) -> &[u8]
     unblanked(bytes).trim_ascii_end()
 }
 
-/// What stands behind a word, which white space may stand before, in upper or lower case.
+/// What follows a word at the start, in upper or lower case, after any white space.
 fn behind<'t>(bytes: &'t [u8], word: &[u8]) -> Option<&'t [u8]>
     ensures { option_map (λ x. x.now) result ≡ spec.behind word.now bytes.now }
 {
@@ -37,7 +37,7 @@ fn behind<'t>(bytes: &'t [u8], word: &[u8]) -> Option<&'t [u8]>
     }
 }
 
-/// The bytes, where white space stands first.
+/// The bytes, if they begin with white space.
 fn spaced(bytes: &[u8]) -> Option<&[u8]>
     ensures { option_map (λ x. x.now) result ≡ spec.spaced bytes.now }
 {
@@ -47,14 +47,14 @@ fn spaced(bytes: &[u8]) -> Option<&[u8]>
     }
 }
 
-/// What a line comment says to the program, for what follows its `--`; none where it speaks to others.
+/// What a line comment says to the program, by what follows its `--`; `None` where it is not meant for the program.
 pub(crate) fn words_to_program(line: &[u8]) -> Option<&[u8]>
     ensures { option_map (λ x. x.now) result ≡ spec.words_to_program line.now }
 {
     behind(behind(line, b"wdreport")?, b":")
 }
 
-/// What follows `may depend` and a comma.
+/// What follows `may depend` and a comma, if the words begin with these.
 fn behind_may_depend(words: &[u8]) -> Option<&[u8]>
     ensures { option_map (λ x. x.now) result ≡ spec.behind_may_depend words.now }
 {
@@ -62,7 +62,7 @@ fn behind_may_depend(words: &[u8]) -> Option<&[u8]>
     behind(behind(may, b"depend")?, b",")
 }
 
-/// The reason for which words to the program excuse a query; none where they are no excuse, or give no reason.
+/// The reason for which words to the program excuse a query; `None` where they are no excuse, or give no reason.
 pub(crate) fn reason_in(words: &[u8]) -> Option<&[u8]>
     ensures { option_map (λ x. x.now) result ≡ spec.reason_in words.now }
 {

@@ -11,7 +11,7 @@ use crate::gap::{gap_len, is_line_end};
 use crate::line::{reason_in, words_to_program};
 use wd_lex::Span;
 
-/// What a comment above a statement says to `wdreport`.
+/// What a comment above a statement tells `wdreport`.
 #[derive(Clone, Copy)]
 pub enum Remark<'t> {
     /// The query may depend on the order of rows that tie, for this reason, which has no white space at its start and end.
@@ -31,12 +31,12 @@ impl Remark<'_> {
     }
 }
 
-/// The remark above a statement, for its text, which begins with the white space and the comments before its first token.
+/// The remark above a statement, by the statement's text, which begins with the white space and the comments before its first token.
 ///
-/// It is what the first line comment there says that begins `wdreport:`, in upper or lower case. `-- wdreport: may depend, REASON`
-/// excuses the query, where a reason is given and the comment stands on a line of its own or behind another comment: behind the
-/// semicolon of the statement before it excuses nothing, since it may be about that one. So the call asks whether the statement is
-/// the first of its file. Block comments say nothing, nor does what stands behind the first token.
+/// It is what the first line comment there says that begins with `wdreport:`, in upper or lower case. `-- wdreport: may depend, REASON`
+/// excuses the query, if it gives a reason and the comment is on a line of its own or after another comment. After the semicolon of the
+/// statement before, on the same line, it excuses nothing, since it may be about that statement; so `is_first` says whether the
+/// statement is the first of its file. Block comments say nothing, nor does anything after the first token.
 pub fn remark_above(text: &[u8], is_first: bool) -> Option<Remark<'_>>
     ensures { IsRemark text.now is_first (option_map spec.seen result) }
 {
@@ -54,7 +54,7 @@ pub fn remark_above(text: &[u8], is_first: bool) -> Option<Remark<'_>>
     None
 }
 
-/// How many bytes a byte order mark at the start has.
+/// How many bytes a byte order mark at the start has, if there is one.
 fn mark_len(text: &[u8]) -> usize
     ensures value { result ≡ start_of text.now }
     ensures within { result ≤ length text.now }
@@ -66,7 +66,7 @@ fn mark_len(text: &[u8]) -> usize
     }
 }
 
-/// Whether a line ends in bytes.
+/// Whether a line ends among the bytes.
 fn ends_line(bytes: &[u8]) -> bool
     ensures { result ≡ list_any characters.is_line_end bytes.now }
 {
@@ -83,7 +83,7 @@ fn remark_in(gap: &[u8], place: u64, is_above: bool) -> Option<Remark<'_>>
     Some(remark_of(words, Span { start: place, end }, is_above))
 }
 
-/// What words to the program say, in a comment that stands there.
+/// What words to the program say, in a comment at this place.
 fn remark_of(words: &[u8], span: Span, is_above: bool) -> Remark<'_>
     ensures { spec.seen result ≡ spec.words_say is_above span words.now }
 {

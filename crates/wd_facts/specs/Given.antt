@@ -47,19 +47,19 @@ is_not_null_column columns c = of_option (slice_get columns c)
     of_option None = false
     of_option (Some column) = column.not_null
 
--- a key that gives the row: NULLs are not distinct in it, or there are none; in a primary key there are none
+-- a key that determines the row: NULLs are not distinct in it, or there are none; in a primary key there are none
 abbrev pub gives_row : TableRule → KeyRule → Bool
 gives_row t key = not key.nulls_distinct || list_all (is_not_null_column t.columns) key.columns
 
--- the key names columns of the table: each does, in a schema that was read
+-- the key names columns of the table; in a schema that was read each key does
 abbrev pub names_columns : TableRule → KeyRule → Bool
 names_columns t key = list_all (λ c. nat_lt c (length t.columns)) key.columns
 
--- the columns of the keys that give the row, in text order
+-- the columns of the keys that determine the row, in text order
 abbrev pub row_keys : TableRule → List (List ℕ)
 row_keys t = map (λ (key : KeyRule). key.columns) (filter (λ (key : KeyRule). names_columns t key && gives_row t key) t.keys)
 
--- the columns of the other keys
+-- the columns of the keys that do not determine the row
 abbrev pub null_keys : TableRule → List (List ℕ)
 null_keys t = map (λ (key : KeyRule). key.columns) (filter (λ (key : KeyRule). names_columns t key && not (gives_row t key)) t.keys)
 

@@ -13,11 +13,11 @@ use Rattle.wd_step_facts.specs.declared.facts.Member.TheVariants as member
 use Rattle.wd_step_facts.specs.Facts.{Fact, Holds, Paired, PairsRows, beside, columns_named, is_plain_fact, key_fact, unpaired}
 use Rattle.wd_facts.specs.Given.{given, is_not_null, nullable_keys}
 
--- facts of rows with so many columns
+-- facts of rows with the given number of columns
 abbrev pub ArePlain : ℕ → List Fact → Type 0
 ArePlain columns facts = AllByRecursion (λ fact. is_plain_fact columns fact ≡ true) facts
 
--- facts of rows with so many columns that hold in these
+-- facts of rows with the given number of columns that hold in these
 pub record AreKept (columns : ℕ) (facts : List Fact) (rows : List Row) : Type 0 where
   pub named : ArePlain columns facts
   pub hold : AllByRecursion (Holds (unpaired rows)) facts
@@ -46,11 +46,11 @@ ChildrenKeep (Window w input) instance choice kept more = AtRows (outcome input 
 ChildrenKeep (Distinct input) instance choice kept more = AtRows (outcome input instance choice) (AreKept (width input) kept) ⊤
 ChildrenKeep (Limit limit input) instance choice kept more = AtRows (outcome input instance choice) (AreKept (width input) kept) ⊤
 
--- the given facts of a plan's top node hold in these rows of it
+-- the given facts of a plan's top node hold in these rows of the node
 abbrev pub InRows : List TableRule → PlanTree → List Fact → List Fact → List Row → Type 0
 InRows tables plan kept more rows = AllByRecursion (Holds (unpaired rows)) (given tables plan kept more).list
 
--- and at a Join in its rows with the positions on each side
+-- the given facts of a Join hold in its rows, with the positions on each side
 abbrev pub InPairs : List TableRule → PlanTree → List Fact → List Fact → List Row → List Row → List Row → Type 0
 InPairs tables plan kept more ls rs rows = (n : Paired) × (n.rows ≡ rows) × PairsRows ls rs n × AllByRecursion (Holds n) (given tables plan kept more).list
 
@@ -75,8 +75,8 @@ abbrev pub GivenFactsHold : Type 0
 GivenFactsHold = (tables : List TableRule) (plan : PlanTree) (instance : Instance) (choice : List (List ℕ)) (kept more : List Fact)
     → fits tables plan ≡ true → Meets tables instance → AreLawful plan instance choice → ChildrenKeep plan instance choice kept more → GivenHold tables plan instance choice kept more
 
--- the facts that the children of a plan's top node keep are facts of the children's rows: they name their columns and the row
--- alone; a node with one child has the first list
+-- the facts that the children of a plan's top node keep are facts of the children's rows: they name only the children's columns and the
+-- row; a node with one child has the first list
 abbrev pub AreOfChildren : PlanTree → List Fact → List Fact → Type 0
 AreOfChildren (Scan table columns) kept more = ⊤
 AreOfChildren (Join condition left right) kept more = ArePlain (width left) kept × ArePlain (width right) more
@@ -87,7 +87,7 @@ AreOfChildren (Window w input) kept more = ArePlain (width input) kept
 AreOfChildren (Distinct input) kept more = ArePlain (width input) kept
 AreOfChildren (Limit limit input) kept more = ArePlain (width input) kept
 
--- the dependencies that plans speak of are facts of rows that pair nothing: columns give a column, columns give the row
+-- the dependencies that plans speak of are facts of rows that pair nothing: columns determine a column, columns determine the row
 abbrev pub DependenciesAreFacts : Type 0
 DependenciesAreFacts = (rows : List Row) (X : List ℕ)
     → ((c : ℕ) → Determines rows X c ↔ Holds (unpaired rows) (record { from = columns_named X; to = member.Column c ∷ [] }))

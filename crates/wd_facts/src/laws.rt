@@ -8,13 +8,12 @@ pub fn known_holds()
     ensures { KnownHolds }
 {}
 
-/// The given facts of a node hold where the facts that its children keep do.
+/// The given facts of a node hold where the facts that its children keep hold.
 pub fn given_facts_hold()
     ensures { GivenFactsHold }
 {}
 
-/// The dependencies that plans speak of are facts: that columns give a column, and that they give
-/// the row.
+/// The dependencies that plans speak of are facts: that columns determine a column, and that they determine the row.
 pub fn dependencies_are_facts()
     ensures { DependenciesAreFacts }
 {}

@@ -25,8 +25,8 @@ use wd_step_facts::{
 };
 use wd_value::OutOfMemory;
 
-/// The given facts of a plan's top node, in the order in which certificates number them. `kept` has for each child of the node
-/// the facts that it keeps.
+/// The given facts of a plan's top node, in the order in which certificates number them. `kept` has for each child of the node the
+/// facts that the child keeps.
 pub fn given(
     alloc: Global,
     plan: &Plan,
@@ -89,7 +89,7 @@ fn kept_of<'a>(kept: &[&'a [Given]], child: usize) -> &'a [Given]
     }
 }
 
-/// Facts of a Join, the first so many columns being the left side's.
+/// Facts of a Join, whose first `left` columns are the left side's.
 fn split(columns: u16, left: u16, list: Vec<Given>) -> Facts
     ensures { facts_of result ≡ record { columns = columns; split = Some left; list = map fact_of list.items } }
 {
@@ -130,7 +130,7 @@ fn facts_of_sides(
     Ok(list)
 }
 
-/// Appends that a side's nullable keys that are full in the rows of the Join give that side.
+/// Appends that a side's nullable keys that are full in the rows of the Join determine that side.
 fn add_keys_of_sides(
     alloc: Global,
     plan: &Plan,
@@ -187,7 +187,7 @@ fn map_facts(alloc: Global, outputs: &[Expr], kept: &[Given]) -> Result<Vec<Give
     Ok(list)
 }
 
-/// The facts of a Window: those that its input keeps, and those of its calls, whose columns stand after the input's.
+/// The facts of a Window: those that its input keeps, and those of its calls, whose columns come after the input's.
 fn window_facts(
     alloc: Global,
     first: u16,
@@ -203,7 +203,7 @@ fn window_facts(
     Ok(list)
 }
 
-/// The facts of a Distinct: those that its input keeps, and that all columns give the row.
+/// The facts of a Distinct: those that its input keeps, and that all columns determine the row.
 fn distinct_facts(alloc: Global, columns: u16, kept: &[Given]) -> Result<Vec<Given>, OutOfMemory>
     ensures { IfOk result (λ v. map fact_of v.items ≡ map fact_of kept.now ++ (key_fact member.Row (steps.all_columns columns) ∷ [])) }
 {

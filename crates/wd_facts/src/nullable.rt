@@ -150,7 +150,7 @@ fn known_columns(alloc: Global, plan: &Plan, schema: &Schema) -> Result<Vec<bool
     Ok(known)
 }
 
-/// Whether a column is known not null, where so much is known of the first columns.
+/// Whether a column is known not null, where `known` has the answers for the first columns.
 fn is_known(known: &[bool], plan: &Plan, schema: &Schema, column: u16) -> bool
     requires fits { fits (schema_of schema.now) (plan_of plan.now) ≡ true }
     requires known { IsKnown (spec.is_not_null (schema_of schema.now) (plan_of plan.now)) known.now }
@@ -176,7 +176,7 @@ fn is_full_key(known: &[bool], plan: &Plan, schema: &Schema, key: &[u16]) -> boo
     true
 }
 
-/// Appends that each key that is full in a node's rows gives the row, or a side.
+/// Appends that each key that is full in a node's rows determines the row, or a side.
 pub(crate) fn add_full_keys(
     alloc: Global,
     plan: &Plan,

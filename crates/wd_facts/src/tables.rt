@@ -45,21 +45,21 @@ fn gives_row(table: &Table, key: &Key) -> bool
     !key.nulls_distinct || is_full(table, key)
 }
 
-/// Whether the key is one that gives the row.
+/// Whether the key names columns of the table and determines the row.
 fn is_row_key(table: &Table, key: &Key) -> bool
     ensures { result ≡ (spec.names_columns (table_of table.now) (key_of key.now) && spec.gives_row (table_of table.now) (key_of key.now)) }
 {
     names_columns(table, key) && gives_row(table, key)
 }
 
-/// Whether the key is one of the others.
+/// Whether the key names columns of the table and does not determine the row.
 fn is_null_key(table: &Table, key: &Key) -> bool
     ensures { result ≡ (spec.names_columns (table_of table.now) (key_of key.now) && not (spec.gives_row (table_of table.now) (key_of key.now))) }
 {
     names_columns(table, key) && !gives_row(table, key)
 }
 
-/// That each key that gives the row does.
+/// For each key that determines the row, the fact that it does.
 fn row_key_facts(alloc: Global, table: &Table) -> Result<Vec<Given>, OutOfMemory>
     ensures { IfOk result (λ v. map fact_of v.items ≡ spec.keys_facts member.Row (spec.row_keys (table_of table.now))) }
 {
@@ -89,7 +89,7 @@ pub(crate) fn table_facts(
     }
 }
 
-/// The columns of the other keys.
+/// The columns of the keys that do not determine the row.
 fn null_keys_of(alloc: Global, table: &Table) -> Result<Vec<Vec<u16>>, OutOfMemory>
     ensures { IfOk result (λ v. map (λ k. k.items) v.items ≡ spec.null_keys (table_of table.now)) }
 {

@@ -17,23 +17,23 @@ abbrev pub locked_at : Option Locked → ℕ → Option CertificateRecord
 locked_at None number = None
 locked_at (Some locked) number = get_or (entries_of locked.lock.now) number None
 
--- texts that have a meaning do not accept it
+-- texts that have a meaning do not accept the certificate
 abbrev pub IsRefused : List ℕ → List ℕ → CertificateRecord → Type 0
 IsRefused schema query certificate = HaveMeaning schema query → ¬ IsAccepted schema query (certificate_text certificate)
 
--- a certificate is kept where it is accepted, and else it is stale where the query is deterministic without it, and lost where it is not
+-- a certificate is kept if it is accepted; otherwise it is stale if the query is deterministic without it, and lost if it is not
 abbrev pub IsHoldOf : List ℕ → List ℕ → Kind → CertificateRecord → Hold → Type 0
 IsHoldOf schema query kind certificate Unlocked = ⊥
 IsHoldOf schema query kind certificate (Kept kept) = (certificate_of kept.now ≡ certificate) × IsAccepted schema query (certificate_text certificate)
 IsHoldOf schema query kind certificate Stale = IsRefused schema query certificate × (kind ≡ Deterministic)
 IsHoldOf schema query kind certificate Lost = IsRefused schema query certificate × (kind ≢ Deterministic)
 
--- the same, where a lock may have none
+-- what becomes of a certificate that a lock may have
 abbrev pub IsHold : List ℕ → List ℕ → Kind → Option CertificateRecord → Hold → Type 0
 IsHold schema query kind None hold = hold ≡ Unlocked
 IsHold schema query kind (Some certificate) hold = IsHoldOf schema query kind certificate hold
 
--- what a statement counts as: deterministic too where the certificate of its lock is kept
+-- what a statement counts as: deterministic also where its certificate in the lock is kept
 abbrev pub kind_with : Hold → Kind → Kind
 kind_with (Kept certificate) kind = Deterministic
 kind_with Unlocked kind = kind

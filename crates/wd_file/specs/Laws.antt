@@ -1,4 +1,4 @@
--- What a verdict is worth.
+-- What a verdict means.
 use Rattle.std.specs.Prelude.{ℕ, List}
 use Rattle.wd_accept.specs.Acceptance.{HaveOneAnswer}
 use Rattle.wd_certificate.specs.declared.certificate.Certificate.{Certificate}

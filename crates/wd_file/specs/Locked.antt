@@ -13,12 +13,12 @@ use Rattle.wd_lock.specs.declared.entry.Entry.TheVariants.{Open, Certified}
 use Rattle.wd_lock.specs.declared.lock.Lock.{Lock}
 use Rattle.wd_source.specs.Statements.{AreStatements}
 
--- an analysis that justifies not each call and each limit
+-- an analysis that does not justify each call and each limit
 abbrev pub IsOpen : Analysis → Type 0
 IsOpen (analysis.Certified certificate) = ⊥
 IsOpen (analysis.Open reasons marks) = Unit {0}
 
--- a certificate is that of the verdict; there is none where something is open, or where the texts are refused by a number
+-- a certificate is that of the verdict; there is none if something is open, or if the texts are refused with a number
 abbrev pub IsEntryOf : List ℕ → List ℕ → Entry → Type 0
 IsEntryOf schema query (Certified certificate) = IsVerdict schema query (Deterministic certificate)
 IsEntryOf schema query Open = ((examined : Examined) × IsExamined schema query examined × IsOpen examined.analysis) ⊎ ((error : DecideError) × IsSome (decide_number error) × HasCause schema query error)

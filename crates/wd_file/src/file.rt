@@ -37,18 +37,18 @@ pub struct Task<'f> {
     pub alloc: Global,
     pub schema: File<'f>,
     pub query: File<'f>,
-    /// Its lock, where one stands beside it.
+    /// Its lock, if there is one beside it.
     pub locked: Option<Locked<'f>>,
 }
 
-/// Where that goes which is found.
+/// Where the findings go.
 #[derive(Drop)]
 pub struct Findings<'t, W> {
-    /// What is told.
+    /// What is reported.
     pub report: &'t mut Report,
-    /// What is counted.
+    /// The counts.
     pub tally: &'t mut Tally,
-    /// How far the run is.
+    /// The progress of the run.
     pub watch: &'t mut W,
 }
 
@@ -59,13 +59,13 @@ pub struct Reviewed {
     pub statements: u64,
     /// How many of them are mended.
     pub mended: u64,
-    /// Its text with these, where there are some.
+    /// Its text with the mended statements, if there are any.
     pub text: Option<Vec<u8>>,
-    /// Whether its lock has as many lines as it has statements.
+    /// Whether its lock has as many lines as the file has statements.
     pub is_lock_read: bool,
 }
 
-/// Tells what is found of a file's statements, and counts these.
+/// Reports what is found of a file's statements, and counts them.
 pub fn review_statements<W: Watch>(
     task: Task<'_>,
     findings: &mut Findings<'_, W>,
@@ -86,7 +86,7 @@ pub fn review_statements<W: Watch>(
     })
 }
 
-/// The text with its mended statements, where there are some.
+/// The text with its mended statements, if there are any.
 fn mended_text(alloc: Global, text: &[u8], fixes: &[Fix]) -> Result<Option<Vec<u8>>, OutOfMemory>
     requires { StandInOrder 0 (map span_of fixes.now) (length text.now) }
     ensures { IfOk result (λ o. IfSome o (λ after. (0 < length fixes.now) × IsFixed text.now fixes.now after.items)) }
@@ -97,7 +97,7 @@ fn mended_text(alloc: Global, text: &[u8], fixes: &[Fix]) -> Result<Option<Vec<u
     Ok(Some(fixed_text(alloc, text, fixes)?))
 }
 
-/// Tells what is found of statements that stand in a file one after the other, counts them, and gives those that are mended.
+/// Reports what is found of statements, which come one after the other in a file, counts them, and returns those that are mended.
 fn add_statements<W: Watch>(
     task: Task<'_>,
     findings: &mut Findings<'_, W>,
@@ -115,7 +115,8 @@ fn add_statements<W: Watch>(
     Ok(fixes)
 }
 
-/// Tells what is found of the statement with a number, counts it, and gives it as it is mended; one that is excused stays as it is.
+/// Reports what is found of the statement with a number, counts it, and returns its mended text if there is one; a statement that is
+/// excused stays as it is.
 fn add_statement<W: Watch>(
     task: Task<'_>,
     findings: &mut Findings<'_, W>,
@@ -138,7 +139,7 @@ fn add_statement<W: Watch>(
 }
 
 impl<'f> Task<'f> {
-    /// What is judged of the statement with a number, which stands there, and what becomes of its certificate.
+    /// Judges the statement with a number, which has this span, and says what becomes of its certificate in the lock.
     fn settle(self, number: usize, span: Span) -> Result<Settled<'f>, OutOfMemory>
         requires ordered { span.start ≤ span.end }
         requires within { span.end ≤ length self.query.text.now }
@@ -166,7 +167,7 @@ impl<'f> Task<'f> {
 }
 
 impl<W: Watch> Findings<'_, W> {
-    /// Tells that a file has no statement, and how many it has.
+    /// Adds a file's statements to the progress of the run. A file without any is reported, and counts as one query that is not read.
     fn begin(&mut self, task: Task<'_>, statements: u64) -> Result<(), OutOfMemory> {
         self.watch.add_queries(statements.max(1));
         if statements > 0 {
@@ -181,7 +182,7 @@ impl<W: Watch> Findings<'_, W> {
         )
     }
 
-    /// The lock of a file, where it has a line for each of so many statements. One that has not is told.
+    /// The lock of a file, if it has a line for each of the given number of statements. A lock of another length is reported.
     fn fitting_lock<'f>(
         &mut self,
         task: Task<'f>,
@@ -201,7 +202,7 @@ impl<W: Watch> Findings<'_, W> {
         Ok(None)
     }
 
-    /// Tells what is found of one statement, and gives how it is taken.
+    /// Reports what is found of one statement, and returns how the finding counts.
     fn tell(&mut self, task: Task<'_>, settled: &Settled<'_>) -> Result<Standing, OutOfMemory> {
         let excuse = self.excuse(task, settled.judged.span)?;
         let standing = match (settled.kind(), excuse) {
@@ -216,7 +217,7 @@ impl<W: Watch> Findings<'_, W> {
         Ok(standing)
     }
 
-    /// Tells what is found of one statement at each place that is not known, and gives how it is taken.
+    /// Reports what is found of one statement at each place that is not known, and returns how the finding counts.
     fn tell_blocks(
         &mut self,
         task: Task<'_>,
@@ -244,7 +245,7 @@ impl<W: Watch> Findings<'_, W> {
         Ok(standing)
     }
 
-    /// Tells what becomes of the certificate that the lock has of a statement, where it is no longer accepted.
+    /// Reports what becomes of the certificate that the lock has of a statement, if it is no longer accepted.
     fn tell_hold(&mut self, task: Task<'_>, settled: &Settled<'_>) -> Result<(), OutOfMemory> {
         let Some(locked) = task.locked else {
             return Ok(());
@@ -275,7 +276,7 @@ impl<W: Watch> Findings<'_, W> {
         }
     }
 
-    /// Why a comment above a statement excuses it. One that begins as an excuse and is none is told.
+    /// The reason for which a comment above a statement excuses it, if any. A comment that begins as an excuse and is none is reported.
     fn excuse<'f>(&mut self, task: Task<'f>, span: Span) -> Result<Option<&'f [u8]>, OutOfMemory> {
         let text = task.query.text;
         let end = (span.end as usize).min(text.len());
@@ -290,7 +291,7 @@ impl<W: Watch> Findings<'_, W> {
         }
     }
 
-    /// Tells a comment behind the last statement of a file that begins as an excuse: there it excuses nothing.
+    /// Reports a comment after the last statement of a file that begins as an excuse: there it excuses nothing.
     fn tell_behind(&mut self, task: Task<'_>) -> Result<(), OutOfMemory> {
         let text = task.query.text;
         let end = (tokens_in(task.alloc, text)?.end as usize).min(text.len());
@@ -300,7 +301,7 @@ impl<W: Watch> Findings<'_, W> {
         }
     }
 
-    /// Tells that a comment, by its bytes behind a place of the file, excuses nothing.
+    /// Reports that a comment, given by its bytes after a place of the file, excuses nothing.
     fn tell_comment(
         &mut self,
         task: Task<'_>,
@@ -328,7 +329,7 @@ fn first_to_last(task: Task<'_>, span: Span) -> Result<Span, OutOfMemory> {
     })
 }
 
-/// The stretch of a text from its first token to its last; all of it, where its tokens are refused.
+/// The range of a text from its first token to its last; all of it, where its tokens are refused.
 fn tokens_in(alloc: Global, text: &[u8]) -> Result<Span, OutOfMemory> {
     match lex(alloc, text) {
         Ok(tokens) => match (tokens.as_slice().first(), tokens.as_slice().last()) {

@@ -1,4 +1,4 @@
-//! What a lock says of a statement that is judged.
+//! What a lock says of a judged statement.
 
 ghost use Rattle.std.specs.Prelude.{◌≡◌, ◌≤◌, true, false, length, option_map, IfOk};
 ghost use Rattle.wd_accept.specs.Acceptance.{HaveOneAnswer, IsAccepted};
@@ -24,17 +24,17 @@ use wd_value::OutOfMemory;
 /// What becomes of the certificate that a lock has of a statement.
 #[derive(Clone, Copy)]
 pub enum Hold<'l> {
-    /// It has none.
+    /// The lock has none.
     Unlocked,
     /// `verify` accepts it.
     Kept(&'l Certificate),
-    /// It is no longer accepted, and the verdict has another.
+    /// It is no longer accepted, and the verdict gives another.
     Stale,
     /// It is no longer accepted, and no other is found.
     Lost,
 }
 
-/// A statement that is judged, with what a lock says of it.
+/// A judged statement, with what a lock says of it.
 #[derive(Drop)]
 pub struct Settled<'l> {
     pub judged: Judged,
@@ -42,7 +42,7 @@ pub struct Settled<'l> {
 }
 
 impl Settled<'_> {
-    /// What the statement counts as: it is deterministic too where the certificate of its lock is accepted.
+    /// What the statement counts as: deterministic also where its certificate in the lock is accepted.
     pub fn kind(&self) -> Kind
         ensures { result ≡ spec.kind_of self.now }
     {
@@ -52,7 +52,7 @@ impl Settled<'_> {
         }
     }
 
-    /// Whether a help mends it: where the certificate of its lock is accepted, nothing is to be mended.
+    /// Whether a help mends it; where its certificate in the lock is accepted, there is nothing to mend.
     pub fn is_mended(&self) -> bool {
         match self.hold {
             Hold::Kept(_) => false,
@@ -61,8 +61,8 @@ impl Settled<'_> {
     }
 }
 
-/// What is judged of the statement of a file that stands there, over the schema of another file, and what becomes of the
-/// certificate that a lock has of it. What counts as deterministic has one answer.
+/// Judges the statement of a file that has this span, over the schema of another file, and says what becomes of the certificate that a
+/// lock has of it. A statement that counts as deterministic has one answer.
 pub fn settle<'l>(
     alloc: Global,
     schema: File<'_>,
@@ -84,7 +84,7 @@ pub fn settle<'l>(
     Ok(Settled { judged, hold })
 }
 
-/// What becomes of the certificate that a lock has of a query, which counts as that kind without it.
+/// What becomes of the certificate that a lock has of a query, whose kind without the certificate is given.
 fn hold_of<'l>(
     alloc: Global,
     schema: &[u8],

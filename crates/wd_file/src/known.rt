@@ -1,4 +1,4 @@
-//! What is known of findings: by a baseline that is read, and used up, or that is written.
+//! What is known of findings: by a baseline that is read, and whose findings are taken off, or by one that is written.
 
 use std::alloc::Global;
 use wd_baseline::{Baseline, Finding, Known};
@@ -9,16 +9,16 @@ use wd_value::OutOfMemory;
 /// What is known of findings.
 #[derive(Drop)]
 pub enum Knowledge {
-    /// None is given.
+    /// No baseline is given.
     Nothing,
-    /// Findings are taken off one that was read.
+    /// A baseline that was read; its findings are taken off as they occur.
     Read(Baseline),
-    /// One is written: the lines of the findings so far.
+    /// A baseline that is written: the lines of the findings so far.
     Written(Vec<String>),
 }
 
 impl Knowledge {
-    /// Whether the finding of a block is known. It is taken off a baseline that was read, and added to one that is written.
+    /// Whether the finding of a block is known. The finding is taken off a baseline that was read, and added to one that is written.
     pub(crate) fn knows(
         &mut self,
         alloc: Global,
@@ -51,7 +51,7 @@ impl Knowledge {
     }
 }
 
-/// The line by which the finding of a block is known. None where the statement is deterministic.
+/// The line by which the finding of a block is known. `None` where the statement is deterministic.
 fn line_of(
     alloc: Global,
     path: &str,

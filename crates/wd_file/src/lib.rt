@@ -1,7 +1,8 @@
-//! The statements of one file: each is judged, told, counted, shown, and mended where that is asked for.
+//! The statements of one file: each is judged, reported, counted, shown, and mended where that is asked for.
 //!
-//! `hold` judges one with what a lock has of it, `known` knows of a baseline what is found, `tally` counts, and `shown` puts it on
-//! a page. `file` goes through a file's statements, and `lock` makes the lock of a file. `laws` says what a verdict is worth.
+//! `hold` judges a statement and says what becomes of its certificate in a lock, `known` looks findings up in a baseline, `tally`
+//! counts, and `shown` puts a statement on a page. `file` goes through a file's statements, and `lock` makes the lock of a file. `laws`
+//! says what a verdict means.
 #![tactic(auto)]
 
 mod file;

@@ -14,8 +14,8 @@ use wd_output::Watch;
 use wd_source::statements;
 use wd_value::OutOfMemory;
 
-/// The lock of a file's text over a schema: of each statement the certificate that `decide` reports, and none where its verdict is
-/// another or where it is refused. No witness is sought.
+/// The lock of a file's text over a schema: for each statement the certificate that `decide` reports, and none where the verdict is
+/// another one or the statement is refused. No witness is searched for.
 pub fn lock_statements<W: Watch>(
     alloc: Global,
     schema: &[u8],
@@ -30,7 +30,7 @@ pub fn lock_statements<W: Watch>(
     Ok(Lock { entries })
 }
 
-/// What a lock has of statements that stand in a text one after the other.
+/// What a lock has of statements, which come one after the other in a text.
 fn entries_for<W: Watch>(
     alloc: Global,
     schema: &[u8],

@@ -18,13 +18,13 @@ use wd_value::OutOfMemory;
 #[derive(Clone, Copy)]
 struct Trimmed<'a> {
     text: &'a [u8],
-    /// How many bytes of white space stand before it in the statement.
+    /// How many bytes of white space come before it in the statement.
     lead: u64,
     /// The line of its file on which it begins.
     line: u64,
 }
 
-/// Adds what is judged of a statement to a page.
+/// Adds a judged statement to a page.
 pub(crate) fn show(
     task: Task<'_>,
     page: &mut Report,
@@ -74,7 +74,7 @@ fn show_kept<'s>(
     page.add_judged(query, shown, &[], None)
 }
 
-/// The text of the statement that stands there in its file, without the white space around it.
+/// The text of the statement that has this span in its file, without the white space around it.
 fn without_blanks(text: &[u8], span: Span) -> Trimmed<'_> {
     let end = (span.end as usize).min(text.len());
     let start = (span.start as usize).min(end);
@@ -134,7 +134,7 @@ fn show_finding(
     page.add_judged(query, shown, &places, help)
 }
 
-/// A place that is open, of a statement behind so many bytes of white space.
+/// An open place as the page shows it, of a statement after `lead` bytes of white space.
 fn shown_place(kind: Kind, place: OpenPlace, line: u64, lead: u64) -> Place {
     let OpenPlace { reason, site } = place;
     let span = match site {

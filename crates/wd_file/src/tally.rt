@@ -4,24 +4,24 @@ use crate::hold::{Hold, Settled};
 use crate::known::Knowledge;
 use wd_lines::{Counts, Kind, Standing};
 
-/// How queries are counted, and which of them are known.
+/// Counts of queries, and the findings that are known.
 #[derive(Drop)]
 pub struct Tally {
-    /// Whether statements that a key mends are written so.
+    /// Whether statements that a key mends are written with the key.
     is_fix: bool,
-    /// What they are found as.
+    /// The counts as the statements are found.
     pub found: Counts,
-    /// What they are in the files that are written.
+    /// The counts of the statements in the files as they are written.
     pub left: Counts,
-    /// How many lost the certificate that a lock has of them, and are neither excused nor known nor mended.
+    /// How many lost the certificate that a lock had of them, and are neither excused nor known nor mended.
     pub lost: u64,
     pub knowledge: Knowledge,
-    /// The page on which all is shown, where one is asked for.
+    /// The page on which all is shown, if one is asked for.
     pub page: Option<wd_page::Report>,
 }
 
 impl Tally {
-    /// None so far.
+    /// No queries so far.
     pub fn new(is_fix: bool, knowledge: Knowledge, page: Option<wd_page::Report>) -> Tally {
         Tally {
             is_fix,
@@ -33,7 +33,7 @@ impl Tally {
         }
     }
 
-    /// Counts one more query. One that is excused is not mended.
+    /// Counts one more query. An excused query is not mended.
     pub(crate) fn add(&mut self, settled: &Settled<'_>, standing: Standing) {
         let is_mended = settled.is_mended();
         let is_left = self.add_kind(settled.kind(), standing, is_mended);
@@ -42,7 +42,7 @@ impl Tally {
         }
     }
 
-    /// Counts one more query of a kind, and gives whether it is of that kind in the file that is written.
+    /// Counts one more query of a kind, and returns whether it is still of that kind in the file that is written.
     pub(crate) fn add_kind(&mut self, kind: Kind, standing: Standing, is_mended: bool) -> bool {
         self.found.add(kind, standing, is_mended);
         if self.is_fix && is_mended && standing != Standing::Excused {
@@ -54,8 +54,8 @@ impl Tally {
         }
     }
 
-    /// The exit status, where nothing is wrong: that of the counts, and 1 where a query lost its certificate, also where what may
-    /// tie is allowed.
+    /// The exit status if the run itself succeeds: that of the counts, or 1 where that is 0 and a query lost its certificate, even if
+    /// queries that may tie are allowed.
     pub fn status(&self, allows_unknown: bool) -> u8 {
         match self.left.status(allows_unknown) {
             0 if self.lost > 0 => 1,

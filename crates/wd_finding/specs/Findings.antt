@@ -37,12 +37,12 @@ witness_shown (Deterministic certificate) further = None
 witness_shown (Depends witness) further = Some witness
 witness_shown (Unknown reasons) further = option_map (λ (found : Found). found.witness) further
 
--- the answers that are shown: those of the witness, and none without one
+-- the answers that are shown: those of the witness, and none without a witness
 abbrev pub AreAnswers : List TableRule → PlanTree → Option Witness → Option Answers → Type 0
 AreAnswers tables plan None answers = answers ≡ None
 AreAnswers tables plan (Some witness) answers = IfSome answers (AreUnder tables plan (witness_of witness))
 
--- the columns of tables that are marked: those by which rows tie that its choices put into other places, and none without a witness
+-- the columns of tables that are marked: those by which rows tie that the witness's choices order differently; none without a witness
 abbrev pub AreMarked : PlanTree → Option Witness → List TableColumn → Type 0
 AreMarked plan None ties = ties ≡ []
 AreMarked plan (Some witness) ties = AreTies plan (witness_of witness).first (witness_of witness).second ties
@@ -55,14 +55,14 @@ IsUnknown (Deterministic certificate) = ⊥
 IsUnknown (Depends witness) = ⊥
 IsUnknown (Unknown reasons) = ⊤
 
--- what is told as open: what the analysis leaves open, and nothing where a simpler plan is certified
+-- what is reported as open: what the analysis leaves open, or nothing where a simpler plan is certified
 abbrev pub open_in : Option Certain → Analysis → List Reason
 open_in None analysis = reasons_of analysis
 open_in (Some certain) analysis = []
 
--- The plan reads the two texts, the verdict is one of `decide` on them; where that is UNKNOWN, there may be a certificate of a simpler plan,
--- and then the query has one answer; what is open is what the analysis of the plan leaves open; what a further search found is true, and
--- the answers and the marked columns are those of the witness.
+-- The plan reads the two texts, the verdict is one of `decide` on them; where that is UNKNOWN, there may be a certificate of a simpler
+-- plan, and then the query has one answer; what is open is what the analysis of the plan leaves open; what a further search found is
+-- true, and the answers and the marked columns are those of the witness.
 pub record IsFinding (schema query : List ℕ) (finding : Finding) : Type 0 where
   pub read : IsRead schema query finding.planned
   pub verdict : IsVerdict schema query finding.verdict

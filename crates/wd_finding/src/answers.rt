@@ -17,14 +17,14 @@ use wd_query::PlannedQuery;
 use wd_value::{Instance, OutOfMemory};
 use wd_witness_text::Witness;
 
-/// What a query gives under the two choices of a witness.
+/// The outcomes of a query under the two choices of a witness.
 #[derive(Drop)]
 pub struct Answers {
     pub first: Outcome,
     pub second: Outcome,
 }
 
-/// The answers of a query over a witness's tables. None where a choice is not valid or a step has more than 10,000,000 rows.
+/// The answers of a query over a witness's tables. `None` where a choice is not valid or a step has more than 10,000,000 rows.
 pub(crate) fn answers_under(
     alloc: Global,
     planned: &PlannedQuery,

@@ -28,16 +28,16 @@ pub struct Finding {
     /// The schema, and the plan of the query.
     pub planned: PlannedQuery,
     pub verdict: Verdict,
-    /// Where the verdict is UNKNOWN, the certificate of a simpler plan, for which the query has one answer.
+    /// Where the verdict is UNKNOWN, the certificate of a simpler plan, which shows that the query has one answer.
     pub certain: Option<Certain>,
-    /// The calls and the limits for which no rule is known, in postorder; none where the simpler plan is certified.
+    /// The calls and the limits for which no rule is known, in postorder; empty where the simpler plan is certified.
     pub places: Vec<OpenPlace>,
     /// Where the verdict is UNKNOWN, the witness that a further search finds.
     pub further: Option<Found>,
-    /// The two answers that the witness shows.
+    /// The two answers that the witness shows; `None` without a witness.
     pub answers: Option<Answers>,
-    /// The columns of tables by which rows tie that the witness's choices put into other places: rows that tie there have the same
-    /// values in them.
+    /// The table columns by which those rows tie that the witness's choices order differently: rows that tie there have the same values
+    /// in these columns.
     pub ties: Vec<TableColumn>,
 }
 
@@ -62,10 +62,10 @@ fn witness_of_all<'a>(verdict: &'a Verdict, further: &'a Option<Found>) -> Optio
 }
 
 /// The verdict on a query over a schema, and the calls and the limits that are open. Where the verdict is UNKNOWN, a simpler plan is
-/// analysed, and where that leaves something open too, a further search is made for a witness. Where there is one, the query's
-/// answers over its tables under its two choices.
+/// analysed, and where that leaves something open too, a further search is made for a witness. Where there is a witness, the finding
+/// has the query's answers over its tables under its two choices.
 ///
-/// Each refusal comes only where its cause stands, as `decide` says.
+/// Each refusal occurs only where its cause holds, as for `decide`.
 pub fn judge(alloc: Global, schema: &[u8], query: &[u8]) -> Result<Finding, DecideError>
     ensures found { IfOk result (IsFinding schema.now query.now) }
     ensures refused { IfErr result (HasCause schema.now query.now) }
@@ -110,7 +110,7 @@ fn further_witness(
     }
 }
 
-/// The finding of a verdict on a query and of what the analysis found of it.
+/// The finding of a verdict on a query and of what the analysis found.
 fn with_evidence(
     alloc: Global,
     query: &[u8],
@@ -144,7 +144,7 @@ fn with_evidence(
     })
 }
 
-/// Why an analysis leaves calls and limits open, where no simpler plan is certified.
+/// Why an analysis leaves calls and limits open; empty where a simpler plan is certified.
 fn reasons_in<'a>(certain: &Option<Certain>, analysis: &'a Analysis) -> &'a [Reason]
     ensures { result.now ≡ open_in certain.now analysis.now }
 {

@@ -1,4 +1,4 @@
-//! What is open in a query, and where it stands.
+//! What is open in a query, and where it is.
 
 ghost use Rattle.std.specs.Prelude.{◌≡◌, map, IfOk};
 ghost use Rattle.wd_finding.specs.Findings.{reason_of};
@@ -10,7 +10,7 @@ use wd_plan::Plan;
 use wd_sites::{PlanSite, Site, sites};
 use wd_value::OutOfMemory;
 
-/// A window call or a limit for which no rule is known, and where it is written first.
+/// A window call or a limit for which no rule is known, and where it is written first, if that is found.
 #[derive(Clone, Copy)]
 pub struct OpenPlace {
     pub reason: Reason,

@@ -1,4 +1,4 @@
-//! Where a text stands that is refused.
+//! Where a refused text has the cause of its refusal.
 
 use std::alloc::Global;
 use wd_decide::DecideError;
@@ -18,12 +18,12 @@ pub enum RefusedText {
 pub struct RefusedPlace {
     pub text: RefusedText,
     pub number: u32,
-    /// The bytes that it is about: of 101 to 105 a byte, of 201, 202 and 309 a token, or the end of the text where more of them are
-    /// wanted; of the others the tokens at which their cause is found to stand.
+    /// The bytes that it is about: for 101 to 105 one byte; for 201, 202 and 309 a token, or the end of the text where a further token
+    /// is needed; for the others the tokens at which their cause is found.
     pub span: Option<Span>,
 }
 
-/// The place of a refusal of a schema's text or a query's. None where memory runs out.
+/// The place of a refusal of a schema's text or a query's. `None` where memory runs out.
 pub fn refused_place(
     alloc: Global,
     schema: &[u8],
@@ -52,7 +52,7 @@ fn refused_text(error: &DecideError) -> Option<RefusedText> {
     }
 }
 
-/// Where the cause of a refusal of this number is found to stand. None where memory runs out.
+/// Where the cause of a refusal of this number is found. `None` where memory runs out.
 fn cause_at(
     alloc: Global,
     schema: &[u8],
@@ -81,7 +81,7 @@ fn span_at(alloc: Global, text: &[u8], number: u32, place: u64) -> Option<Span> 
     }
 }
 
-/// Where the token of this number stands, or the end of the text where there are no more.
+/// Where the token of this number is, or the end of the text where there are fewer tokens.
 fn token_span(tokens: &[Token], end: u64, number: u64) -> Option<Span> {
     match tokens.get(usize::try_from(number).ok()?) {
         Some(token) => Some(token.span),

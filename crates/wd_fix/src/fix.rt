@@ -11,13 +11,13 @@ use wd_value::OutOfMemory;
 /// A statement of a text that is mended.
 #[derive(Drop)]
 pub struct Fix {
-    /// Where the statement stands in the text.
+    /// Where the statement is in the text.
     pub span: Span,
-    /// What is to stand there.
+    /// What replaces the statement.
     pub text: Vec<u8>,
 }
 
-/// A text with each mended statement in the place of the one that stood there, and all else as it was, byte for byte.
+/// A text with each mended statement in place of the original one, and all else as it was, byte for byte.
 pub fn fixed_text(alloc: Global, text: &[u8], fixes: &[Fix]) -> Result<Vec<u8>, OutOfMemory>
     requires { StandInOrder 0 (map span_of fixes.now) (length text.now) }
     ensures { IfOk result (λ after. IsFixed text.now fixes.now after.items) }

@@ -1,4 +1,4 @@
-//! A text with mended statements in the place of those that it had.
+//! A text with mended statements in place of those that it had.
 #![tactic(auto)]
 
 mod fix;

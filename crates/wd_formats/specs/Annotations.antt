@@ -11,7 +11,7 @@ use Rattle.wd_formats.specs.declared.github.Part.TheVariants.{Property, Message}
 abbrev pub message_byte : ℕ → List ℕ
 message_byte b = if nat_eq b 37 then codes "%25" else if nat_eq b 13 then codes "%0D" else if nat_eq b 10 then codes "%0A" else b ∷ []
 
--- in the value of a property also what ends a value
+-- in the value of a property what ends a value is written so too
 abbrev pub property_byte : ℕ → List ℕ
 property_byte b = if nat_eq b 58 then codes "%3A" else if nat_eq b 44 then codes "%2C" else message_byte b
 
@@ -36,6 +36,6 @@ pub record StaysOnLine (b : ℕ) : Type 0 where
   pub no_feed : b ≢ 10
   pub no_return : b ≢ 13
 
--- what stands in a part ends no line, whatever the text
+-- what is put into a part ends no line, whatever the text
 abbrev pub PartsStayOnTheirLine : Type 0
 PartsStayOnTheirLine = (part : Part) (text : List ℕ) → All StaysOnLine (flat_map (part_byte part) text)

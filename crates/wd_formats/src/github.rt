@@ -9,7 +9,7 @@ use std::fmt::Write;
 use wd_source::Position;
 use wd_value::OutOfMemory;
 
-/// How grave a finding is to the workflow: an error fails a check, a warning does not.
+/// How serious a finding is for the workflow: an error fails a check, a warning does not.
 #[derive(Clone, Copy, Debug, PartialEq, Eq)]
 pub enum Level {
     Error,
@@ -25,8 +25,8 @@ enum Part {
     Message,
 }
 
-/// The line of an annotation: a command of a GitHub workflow (GitHub Docs, workflow commands) that shows the message beside the
-/// line and the column of the file with this path.
+/// The line of an annotation: a command of a GitHub workflow (GitHub Docs, workflow commands) that shows the message next to the line
+/// and the column of the file with this path.
 pub fn annotation(
     alloc: Global,
     level: Level,

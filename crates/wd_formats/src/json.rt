@@ -5,8 +5,8 @@ use std::alloc::Global;
 use wd_source::Position;
 use wd_value::OutOfMemory;
 
-/// A line of JSON without white space: an object of what is found (`finding`), in which file, line and column, the lines that tell it
-/// to a person (`text`), and the text of the query with which it has one answer (`mended`), or null.
+/// A line of JSON without white space: an object of what is found (`finding`), the file, line and column, the lines that a person reads
+/// (`text`), and the text of the query with which it has one answer (`mended`), or null.
 pub fn json_line(
     alloc: Global,
     finding: &str,

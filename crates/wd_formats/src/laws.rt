@@ -2,7 +2,7 @@
 
 ghost use Rattle.wd_formats.specs.Annotations.{PartsStayOnTheirLine};
 
-/// What stands in a part of a command, whatever text it is of, ends no line.
+/// What is put into a part of a command ends no line, whatever text it comes from.
 pub fn parts_stay_on_their_line()
     ensures { PartsStayOnTheirLine }
 {}

@@ -1,9 +1,9 @@
-//! Findings for machines: annotations of a GitHub workflow, by which a finding is shown beside the line of the file that it is about,
-//! and JSON, an object a line.
+//! Findings for machines: annotations of a GitHub workflow, which show a finding next to the line of the file that it is about, and
+//! JSON, one object on each line.
 //!
-//! A workflow reads its commands from the program's output, a line each. What comes from a file (its path, the text of a query)
-//! stands in a command with the ends of its lines written as numbers, so that no text of a file begins a command of its own; JSON
-//! is written by `serde_json`.
+//! A workflow reads its commands from the program's output, one on each line. What comes from a file (its path, the text of a query) is
+//! written in a command with the ends of its lines written as numbers, so that no text of a file begins a command of its own; JSON is
+//! written by `serde_json`.
 #![tactic(auto)]
 
 mod github;

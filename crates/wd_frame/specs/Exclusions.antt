@@ -1,4 +1,4 @@
--- A frame with an exclusion: two or three stretches of the places.
+-- A frame with an exclusion: two or three ranges of places.
 use Rattle.std.specs.Prelude.{◌≡◌, ℕ, ◌+◌, ◌-◌, ◌<◌, min, max, List, ◌++◌, length}
 use Rattle.std.specs.List.{range_with_len}
 use Rattle.wd_plan.specs.declared.window.Bound.TheVariants.{CurrentRow}
@@ -13,7 +13,7 @@ use Rattle.wd_frame.specs.Places.{PartRule, places_of}
 abbrev pub peers : Frame
 peers = record { mode = mode.Groups; start = CurrentRow; end = CurrentRow; exclusion = exclusion.NoOthers }
 
--- the places that an exclusion leaves out, TIES with the row itself: from one number up to another
+-- the places that an exclusion leaves out, with the row itself under TIES: from one number up to another
 abbrev pub left_out_from : Exclusion → PartRule → ℕ → ℕ
 left_out_from exclusion.NoOthers part p = p
 left_out_from exclusion.CurrentRow part p = p
@@ -26,11 +26,11 @@ left_out_to exclusion.CurrentRow part p = p + 1
 left_out_to exclusion.Group part p = end_of part peers p
 left_out_to exclusion.Ties part p = end_of part peers p
 
--- the places between the bounds of a frame that stand from one number up to another
+-- the places between the bounds of a frame from one number up to another
 abbrev pub zone : PartRule → Frame → ℕ → ℕ → ℕ → List ℕ
 zone part frame p from to = range_with_len (max (start_of part frame p) from) (min (end_of part frame p) to - max (start_of part frame p) from)
 
--- those before what the exclusion leaves out, and those behind it
+-- the places before what the exclusion leaves out, and those after it
 abbrev pub before : PartRule → Frame → ℕ → List ℕ
 before part frame p = zone part frame p 0 (left_out_from frame.exclusion part p)
 

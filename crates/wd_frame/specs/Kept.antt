@@ -24,12 +24,12 @@ number_of Null = pos 0
 number_of (Text bytes) = pos 0
 number_of (Truth b) = pos 0
 
--- 64 bits hold it
+-- 64 bits hold the number
 pub record IsHeld (v : Value) : Type 0 where
   pub least : neg_ℤ (pos (2 ^ 63)) ≤ℤ number_of v
   pub most : number_of v ≤ℤ pos (2 ^ 63)
 
--- of a list of values: how many are whole numbers, their total, and each is held
+-- of a list of values: how many are whole numbers, their total, and 64 bits hold each
 pub record IsSumOf (values : Values) (count : ℕ) (so_far : ℤ) : Type 0 where
   pub counted : count ≡ numbers values
   pub exact : so_far ≡ total values
@@ -37,32 +37,32 @@ pub record IsSumOf (values : Values) (count : ℕ) (so_far : ℤ) : Type 0 where
 
 -- ---- candidates
 
--- behind the candidates, so that it is none itself
+-- whether a value comes after all candidates, so that it is none itself
 abbrev pub is_behind : SortKey → Value → Values → Bool
 is_behind key v [] = is_null v
 is_behind key v (c ∷ cs) = is_gt (compare key v c)
 
--- The values that stand first once those before them are gone: each before which no later value stands, NULL apart. The first
--- of them stands first of all.
+-- The values that come first once those before them are gone: each that is not NULL and that no later value comes before. The first of
+-- them comes first of all.
 abbrev pub candidates : SortKey → Values → Values
 candidates key [] = []
 candidates key (v ∷ vs) = let cs = candidates key vs in if is_behind key v cs then cs else v ∷ cs
 
--- those that are kept behind a candidate, with it; where none is, it goes if it stands behind a value
+-- the candidates that are kept after a candidate, with this candidate; where none is kept, it goes if it comes after the value
 abbrev pub kept_before : SortKey → Value → Value → Values → Values
 kept_before key c x [] = if is_gt (compare key c x) then [] else c ∷ []
 kept_before key c x (d ∷ ds) = c ∷ d ∷ ds
 
--- without those at the back that stand behind a value
+-- the candidates without those at the back that come after a value
 abbrev pub trimmed : SortKey → Values → Value → Values
 trimmed key [] x = []
 trimmed key (c ∷ cs) x = kept_before key c x (trimmed key cs x)
 
--- with a value that comes at the back of the list
+-- the candidates with a value that comes at the back of the list
 abbrev pub pushed : SortKey → Values → Value → Values
 pushed key cs x = if is_null x then cs else trimmed key cs x ++ x ∷ []
 
--- without a value that goes at the front of the list
+-- the candidates without a value that goes at the front of the list
 abbrev pub popped : SortKey → Values → Value → Values
 popped key [] v = []
 popped key (c ∷ cs) v = if is_gt (compare key v c) then c ∷ cs else cs

@@ -20,7 +20,7 @@ seen references = map (λ r. r.now) references
 
 -- ---- answers
 
--- a number, one of the values, or nothing
+-- an answer: a number, one of the values, or nothing
 pub data Plain : Type 0 where
   Number : ℤ → Plain
   Of : Value → Plain
@@ -32,7 +32,7 @@ shown (answer.Number n) = Number n
 shown (answer.Of value) = Of value.now
 shown answer.Nothing = Nothing
 
--- NULL is no answer
+-- a value as an answer; NULL is nothing
 abbrev pub answer_of : Value → Plain
 answer_of Null = Nothing
 answer_of (Int n) = Of (Int n)
@@ -56,11 +56,11 @@ is_number (Truth b) = false
 abbrev pub numbers : Values → ℕ
 numbers values = count_by is_number values
 
--- the exact total of the whole numbers, and nothing where there is none
+-- the exact total of the whole numbers, or nothing where there is none
 abbrev pub sum_over : Values → Plain
 sum_over values = if nat_eq (numbers values) 0 then Nothing else Number (total values)
 
--- the value that stands first under a key
+-- the value that comes first under a key
 abbrev pub first_over : SortKey → Values → Plain
 first_over key values = answer_of (first_by key values)
 
@@ -70,13 +70,13 @@ ascending = record { desc = false; nulls_first = false }
 abbrev pub descending : SortKey
 descending = record { desc = true; nulls_first = false }
 
--- a number is no larger than so many whole numbers of 64 bits make
+-- a number is no larger in size than a sum of n whole numbers of 64 bits can be
 abbrev pub IsSmall : ℕ → Plain → Type 0
 IsSmall n (Number k) = (neg_ℤ (pos (n * 2 ^ 63)) ≤ℤ k) × (k ≤ℤ pos (n * 2 ^ 63))
 IsSmall n (Of v) = ⊤
 IsSmall n Nothing = ⊤
 
--- the answer over a list of values
+-- the answer of the code is that over a list of values
 pub record IsAnswer (plain : Values → Plain) (values : Values) (answer : Answer) : Type 0 where
   pub exact : shown answer ≡ plain values
   pub small : IsSmall (length values) (shown answer)
@@ -91,7 +91,7 @@ added (Number m) Nothing = Number m
 added (Of v) q = Of v
 added Nothing q = q
 
--- of two values the one that stands first under a key
+-- the one of two values that comes first under a key
 abbrev pub first_of_two : SortKey → Plain → Plain → Plain
 first_of_two key (Of v) (Of w) = if is_gt (compare key v w) then Of w else Of v
 first_of_two key (Of v) (Number n) = Of v

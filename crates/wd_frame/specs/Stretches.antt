@@ -1,4 +1,4 @@
--- Stretches of the places of a partition, one for each place, whose ends rise; and answers over the values there.
+-- Ranges of the places of a partition, one for each place, whose ends rise; and answers over the values there.
 use Rattle.std.specs.Prelude.{◌≡◌, ℕ, ◌+◌, ◌-◌, ◌<◌, ◌≤◌, min, max, List, [], ◌∷◌, ◌++◌, map, length, slice_index_or, take, drop, ⊤}
 use Rattle.std.specs.List.{AllByRecursion, range_with_len}
 use Rattle.std.specs.declared.alloc.Global.{Global}
@@ -16,7 +16,7 @@ use Rattle.wd_frame.specs.Exclusions.{left_out_from, left_out_to}
 use Rattle.wd_frame.specs.Places.{PartRule, places_of}
 use Rattle.wd_frame.specs.Slides.{IsAnswer, Plain, Values, shown}
 
--- the stretch that stands at a place
+-- the range at a place
 abbrev pub stretch_at : List Stretch → ℕ → Stretch
 stretch_at all p = slice_index_or all p (record { start = 0; end = 0 })
 
@@ -24,23 +24,23 @@ stretch_at all p = slice_index_or all p (record { start = 0; end = 0 })
 abbrev pub places_in : Stretch → List ℕ
 places_in s = range_with_len s.start (s.end - s.start)
 
--- of n places, and neither end falls from one to the next
+-- ranges within n places, whose ends do not fall from one place to the next
 pub record AreStretches (n : ℕ) (all : List Stretch) : Type 0 where
   pub starts : (p q : ℕ) → p < q → q < length all → (stretch_at all p).start ≤ (stretch_at all q).start
   pub ends : (p q : ℕ) → p < q → q < length all → (stretch_at all p).end ≤ (stretch_at all q).end
   pub start_within : (p : ℕ) → p < length all → (stretch_at all p).start ≤ n
   pub end_within : (p : ℕ) → p < length all → (stretch_at all p).end ≤ n
 
--- those of the frames of all places, their exclusion apart
+-- the ranges of the frames of all places, before their exclusion
 pub record AreBounds (part : PartRule) (frame : Frame) (all : List Stretch) : Type 0 where
   pub long : length all ≡ length part.groups
   pub rising : AreStretches (length part.groups) all
   pub start : IsInOrder part frame → (p : ℕ) → p < length all → (stretch_at all p).start ≡ start_of part frame p
   pub end : IsInOrder part frame → (p : ℕ) → p < length all → (stretch_at all p).end ≡ end_of part frame p
 
--- ---- frames as lists of stretches
+-- ---- frames as lists of ranges
 
--- one stretch for each of n places
+-- one range for each of n places
 pub record IsAlong (n : ℕ) (list : List Stretch) : Type 0 where
   pub long : length list ≡ n
   pub rising : AreStretches n list
@@ -54,46 +54,46 @@ pub record AreLists (n : ℕ) (lists : List (List Stretch)) : Type 0 where
 abbrev pub lists_of : List (Vec Stretch Global) → List (List Stretch)
 lists_of lists = map (λ v. v.items) lists
 
--- the places of the stretches that stand at a place, list by list
+-- the places of the ranges at a place, list by list
 abbrev pub places_along : List (List Stretch) → ℕ → List ℕ
 places_along [] p = []
 places_along (list ∷ lists) p = places_in (stretch_at list p) ++ places_along lists p
 
--- at each place those of its frame
+-- the ranges at each place give the places of its frame
 pub record AreFrames (part : PartRule) (frame : Frame) (lists : List (List Stretch)) : Type 0 where
   pub along : AreLists (length part.groups) lists
   pub places : IsInOrder part frame → (p : ℕ) → p < length part.groups → places_of part frame p ≡ places_along lists p
 
--- at each place so many places from there on
+-- at each of n places the range of `count` places from there on
 pub record AreRows (n count : ℕ) (all : List Stretch) : Type 0 where
   pub long : length all ≡ n
   pub start : (p : ℕ) → p < n → (stretch_at all p).start ≡ p
   pub end : (p : ℕ) → p < n → (stretch_at all p).end ≡ p + count
 
--- those that the exclusion leaves out, TIES with the row itself
+-- the ranges that the exclusion leaves out, with the row itself under TIES
 pub record AreLeftOut (part : PartRule) (exclusion : Exclusion) (all : List Stretch) : Type 0 where
   pub along : IsAlong (length part.groups) all
   pub start : ((frame : Frame) → IsInOrder part frame → (p : ℕ) → p < length part.groups → (stretch_at all p).start ≡ left_out_from exclusion part p)
   pub end : ((frame : Frame) → IsInOrder part frame → (p : ℕ) → p < length part.groups → (stretch_at all p).end ≡ left_out_to exclusion part p)
 
--- of n places those before a stretch, the row itself, those behind it
+-- a zone of n places: those before a range, the row itself, or those after the range
 abbrev pub zone_of : Zone → Stretch → ℕ → ℕ → Stretch
 zone_of Before left_out p n = record { start = 0; end = left_out.start }
 zone_of Row left_out p n = record { start = p; end = p + 1 }
 zone_of Behind left_out p n = record { start = left_out.end; end = n }
 
--- what two stretches share
+-- what two ranges share
 abbrev pub shared : Stretch → Stretch → Stretch
 shared a b = record { start = max a.start b.start; end = min a.end b.end }
 
--- what an exclusion keeps
+-- the zones that an exclusion keeps
 abbrev pub zones_of : Exclusion → List Zone
 zones_of exclusion.NoOthers = Before ∷ Behind ∷ []
 zones_of exclusion.CurrentRow = Before ∷ Behind ∷ []
 zones_of exclusion.Group = Before ∷ Behind ∷ []
 zones_of exclusion.Ties = Before ∷ Row ∷ Behind ∷ []
 
--- at each place what a stretch shares with a zone
+-- at each place what a range shares with a zone
 pub record AreShared (zone : Zone) (bounds left_out : List Stretch) (all : List Stretch) : Type 0 where
   pub long : length all ≡ length bounds
   pub each : (p : ℕ) → p < length bounds → stretch_at all p ≡ shared (stretch_at bounds p) (zone_of zone (stretch_at left_out p) p (length bounds))
@@ -107,11 +107,11 @@ AreZones (zone ∷ zones) bounds left_out [] = ⊥
 
 -- ---- answers
 
--- the values that stand from one place up to another, none where the second does not pass the first
+-- the values from one place up to another, none where the second does not pass the first
 abbrev pub values_in : Values → ℕ → ℕ → Values
 values_in values start end = take (end - start) (drop start values)
 
--- the values at places
+-- the values at these places
 abbrev pub picked : Values → List ℕ → Values
 picked values places = map (λ q. slice_index_or values q Null) places
 
@@ -120,7 +120,7 @@ pub record AreAnswers (plain : Values → Plain) (lists : ℕ → Values) (n : �
   pub long : length answers ≡ n
   pub each : (p : ℕ) (other : Answer) → p < n → IsAnswer plain (lists p) (slice_index_or answers p other)
 
--- those over the values at the places of each frame
+-- the answers over the values at the places of each frame
 pub record AreFrameAnswers (plain : Values → Plain) (part : PartRule) (frame : Frame) (values : Values) (answers : List Answer) : Type 0 where
   pub long : length answers ≡ length part.groups
   pub each : IsInOrder part frame → (p : ℕ) (other : Answer) → p < length part.groups → shown (slice_index_or answers p other) ≡ plain (picked values (places_of part frame p))

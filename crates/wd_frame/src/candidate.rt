@@ -1,4 +1,4 @@
-//! The values of a list that stand first once those before them are gone.
+//! The values of a list that come first once those before them are gone.
 
 ghost use Rattle.std.specs.Prelude.{◌≡◌, ◌<◌, ◌∷◌, ◌++◌, [], drop, false, OnErr, OnOk};
 ghost use Rattle.std.specs.VecDeque.{deque_capacity, deque_len};
@@ -11,9 +11,8 @@ use std::alloc::Global;
 use std::collections::VecDeque;
 use wd_value::{OutOfMemory, SortKey, Value, compare};
 
-/// A list of values, and those of them that stand first under a key once the values before them are
-/// gone. Each value comes once and goes once, so that all pushes and pops together take time that
-/// goes with the number of values.
+/// A list of values, and those of them that come first under a key once the values before them are gone. Each value comes once and goes
+/// once, so that all pushes and pops together take time linear in the number of values.
 #[derive(Drop)]
 pub(crate) struct Candidates<'a> {
     pub values: VecDeque<&'a Value>,
@@ -31,7 +30,7 @@ impl<'a> Candidates<'a> {
         }
     }
 
-    /// After a refusal the list is as before.
+    /// Adds a value at the back. After an error the list is as before.
     pub(crate) fn push(&mut self, value: &'a Value, key: SortKey) -> Result<(), OutOfMemory>
         requires nulls_last { key.nulls_first ≡ false }
         requires were { AreCandidates key self.old }
@@ -55,7 +54,7 @@ impl<'a> Candidates<'a> {
         }
     }
 
-    /// The value that stands first of all.
+    /// The value that comes first of all.
     pub(crate) fn answer(&self) -> Answer<'a>
         ensures { (k : key.SortKey) → k.nulls_first ≡ false → AreCandidates k self.now → shown result ≡ first_over k (seen self.now.values.items) }
     {
@@ -80,7 +79,7 @@ fn push_candidate<'a>(candidates: &mut VecDeque<&'a Value>, value: &'a Value, ke
     }
 }
 
-/// The candidates without those that stand behind a value.
+/// The candidates without those at the back that come after a value.
 fn trim(candidates: &mut VecDeque<&Value>, value: &Value, key: SortKey)
     ensures trimmed { seen candidates.new.items ≡ trimmed key (seen candidates.old.items) value.now }
     ensures room { deque_len candidates.old < deque_capacity candidates.old → deque_len candidates.new < deque_capacity candidates.new }
@@ -104,7 +103,7 @@ fn pop_candidate(candidates: &mut VecDeque<&Value>, value: &Value, key: SortKey)
     }
 }
 
-/// Of two answers the value that stands first.
+/// The value of two answers that comes first.
 pub(crate) fn first_of<'a>(first: Answer<'a>, second: Answer<'a>, key: SortKey) -> Answer<'a>
     ensures { shown result ≡ first_of_two key (shown first.entry) (shown second.entry) }
 {

@@ -1,4 +1,4 @@
-//! The places of frames, their exclusion done, as stretches.
+//! The places of frames, without what their exclusion leaves out, as ranges.
 
 ghost use Rattle.std.specs.Prelude.{◌≡◌, ◌<◌, ◌≤◌, ◌∷◌, [], length, IfOk};
 ghost use Rattle.wd_frame.specs.Places.{part_of};
@@ -11,7 +11,7 @@ use std::alloc::Global;
 use wd_plan::{Bound, Exclusion, Frame, FrameMode};
 use wd_value::OutOfMemory;
 
-/// The row's peers.
+/// The frame of the row's peers.
 const PEERS: Frame = Frame {
     mode: FrameMode::Groups,
     start: Bound::CurrentRow,
@@ -19,8 +19,7 @@ const PEERS: Frame = Frame {
     exclusion: Exclusion::NoOthers,
 };
 
-/// What an exclusion keeps of a partition: the places before those that it leaves out, the row
-/// itself, and the places behind.
+/// What an exclusion keeps of a partition: the places before those that it leaves out, the row itself, and the places after.
 #[derive(Clone, Copy)]
 pub enum Zone {
     Before,
@@ -32,9 +31,9 @@ const AROUND: [Zone; 2] = [Zone::Before, Zone::Behind];
 
 const WITH_THE_ROW: [Zone; 3] = [Zone::Before, Zone::Row, Zone::Behind];
 
-/// The places of the frames of all places, as lists that have a stretch for each place: one list,
-/// with an exclusion two, and three where it keeps the row itself. A frame has the places of its
-/// stretches, list by list. Takes time that goes with the partition's length.
+/// The places of the frames of all places, as lists that have a range for each place: one list without an exclusion, two with one, and
+/// three where it keeps the row itself. A frame has the places of its ranges, list by list. Takes time linear in the partition's
+/// length.
 pub fn frame_stretches(
     alloc: Global,
     part: &Part,
@@ -52,7 +51,7 @@ pub fn frame_stretches(
     }
 }
 
-/// One list.
+/// A list of one list.
 fn only(alloc: Global, stretches: Vec<Stretch>) -> Result<Vec<Vec<Stretch>>, OutOfMemory>
     ensures { IfOk result (λ v. lists_of v.items ≡ stretches.items ∷ []) }
 {
@@ -61,7 +60,7 @@ fn only(alloc: Global, stretches: Vec<Stretch>) -> Result<Vec<Vec<Stretch>>, Out
     Ok(lists)
 }
 
-/// For each place what the exclusion leaves out, under TIES with the row itself.
+/// For each place the range that the exclusion leaves out; under TIES it includes the row itself.
 fn left_out(alloc: Global, part: &Part, exclusion: Exclusion) -> Result<Vec<Stretch>, OutOfMemory>
     ensures { IfOk result (λ v. AreLeftOut (part_of part.now) exclusion v.items) }
 {
@@ -72,7 +71,7 @@ fn left_out(alloc: Global, part: &Part, exclusion: Exclusion) -> Result<Vec<Stre
     }
 }
 
-/// At each place so many places from there on.
+/// For each place the range of `length` places from there on.
 fn rows(alloc: Global, count: usize, length: usize) -> Result<Vec<Stretch>, OutOfMemory>
     requires { length ≤ 1 }
     ensures { IfOk result (λ v. AreRows count length v.items) }
@@ -96,7 +95,7 @@ fn zones_of(exclusion: Exclusion) -> &'static [Zone]
     }
 }
 
-/// For each zone what the stretches share with it.
+/// For each zone what the ranges share with it.
 fn in_zones(
     alloc: Global,
     zones: &[Zone],
@@ -114,7 +113,7 @@ fn in_zones(
     Ok(lists)
 }
 
-/// What each stretch shares with the zone at its place.
+/// What each range shares with the zone at its place.
 fn in_zone(
     alloc: Global,
     zone: Zone,
@@ -132,7 +131,7 @@ fn in_zone(
     Ok(list)
 }
 
-/// Of so many places those in a zone.
+/// Those of `count` places that are in a zone.
 fn zone_of(zone: Zone, left_out: Stretch, place: usize, count: usize) -> Stretch
     requires { place < count }
     ensures { result ≡ spec.zone_of zone left_out place count }
@@ -153,7 +152,7 @@ fn zone_of(zone: Zone, left_out: Stretch, place: usize, count: usize) -> Stretch
     }
 }
 
-/// The places that two stretches share.
+/// The places that two ranges share.
 fn shared(one: Stretch, other: Stretch) -> Stretch
     ensures { result ≡ spec.shared one other }
 {

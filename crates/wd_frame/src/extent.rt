@@ -1,4 +1,4 @@
-//! Where frames start and end, their exclusion apart.
+//! Where frames start and end before their exclusion.
 
 ghost use Rattle.std.specs.Prelude.{◌≡◌, ◌<◌, ◌≤◌, length, IfOk};
 ghost use Rattle.wd_frame.specs.Bounds as spec;
@@ -12,10 +12,9 @@ use std::alloc::Global;
 use wd_plan::Frame;
 use wd_value::OutOfMemory;
 
-/// How many places stand before the start of the frame of the row at `place`, and how many not
-/// behind its end. The frame without its exclusion has the places from the first number up to the
-/// second, and none where the second is not greater. Takes time that goes with the logarithm of the
-/// partition's length.
+/// How many places are before the start of the frame of the row at `place`, and how many are not after its end. The frame without its
+/// exclusion has the places from the first number up to the second, and none where the second is not greater. Takes time logarithmic in
+/// the partition's length.
 pub fn bounds(part: &Part, frame: &Frame, place: usize) -> (usize, usize)
     ensures start { IsInOrder (part_of part.now) frame.now → place < length (part_of part.now).groups → result.0 ≡ start_of (part_of part.now) frame.now place }
     ensures end { IsInOrder (part_of part.now) frame.now → place < length (part_of part.now).groups → result.1 ≡ end_of (part_of part.now) frame.now place }
@@ -33,8 +32,8 @@ pub struct Stretch {
     pub end: usize,
 }
 
-/// The bounds of the frames of all places, as `bounds` gives them. Takes time that goes with the
-/// partition's length: each bound moves on from that of the place before it.
+/// The bounds of the frames of all places, as `bounds` gives them. Takes time linear in the partition's length: each bound moves on
+/// from that of the place before it.
 pub fn all_bounds(alloc: Global, part: &Part, frame: &Frame) -> Result<Vec<Stretch>, OutOfMemory>
     ensures { IfOk result (λ v. AreBounds (part_of part.now) frame.now v.items) }
 {
@@ -49,7 +48,7 @@ pub fn all_bounds(alloc: Global, part: &Part, frame: &Frame) -> Result<Vec<Stret
     Ok(all)
 }
 
-/// One of the two numbers, by halving.
+/// The number of places that pass one side of the frame, by halving.
 fn bound(side: Side, part: &Part, frame: &Frame, place: usize) -> usize
     ensures { IsInOrder (part_of part.now) frame.now → place < length (part_of part.now).groups → result ≡ bound_of side (part_of part.now) frame.now place }
 {
@@ -66,7 +65,7 @@ fn bound(side: Side, part: &Part, frame: &Frame, place: usize) -> usize
     passed
 }
 
-/// One of the two numbers, from that of an earlier place on.
+/// The number of places that pass one side of the frame, moved on from that of an earlier place.
 pub(crate) fn moved(side: Side, part: &Part, frame: &Frame, place: usize, from: usize) -> usize
     requires { from ≤ length (part_of part.now).groups }
     ensures rises { from ≤ result }
@@ -81,7 +80,7 @@ pub(crate) fn moved(side: Side, part: &Part, frame: &Frame, place: usize, from: 
     part.groups.len()
 }
 
-/// Whether the member at `other` stands before the start, or not behind the end.
+/// Whether the member at `other` is before the start (or, for the end, not after it).
 fn is_passed(side: Side, part: &Part, frame: &Frame, place: usize, other: usize) -> bool
     ensures { result ≡ spec.is_passed side (part_of part.now) frame.now place other }
 {

@@ -13,7 +13,7 @@ const KEY: SortKey = SortKey {
     nulls_first: false,
 };
 
-/// The greatest value, NULL apart.
+/// The greatest value that is not NULL.
 #[derive(Drop)]
 pub struct Greatest<'a> {
     kept: Candidates<'a>,

@@ -9,13 +9,12 @@ pub fn places_are_frames()
     ensures { PlacesAreFrames }
 {}
 
-/// The two bounds of a frame: they rise along the ordering, and between them stand the places of a
-/// frame without exclusion.
+/// The two bounds of a frame: they rise along the ordering, and between them are the places of a frame without exclusion.
 pub fn bounds_are_frames()
     ensures { BoundsAreFrames }
 {}
 
-/// A frame with an exclusion has the places of two stretches, with the row itself of three.
+/// A frame with an exclusion has the places of two ranges, or of three where it keeps the row itself.
 pub fn exclusions_are_stretches()
     ensures { ExclusionsAreStretches }
 {}

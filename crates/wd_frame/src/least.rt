@@ -13,7 +13,7 @@ const KEY: SortKey = SortKey {
     nulls_first: false,
 };
 
-/// The least value, NULL apart.
+/// The least value that is not NULL.
 #[derive(Drop)]
 pub struct Least<'a> {
     kept: Candidates<'a>,

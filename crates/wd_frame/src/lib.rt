@@ -1,5 +1,9 @@
-//! The frames of window calls: which places of a partition a row's frame has, and functions of the
-//! values there.
+//! The frames of window calls: which places of a partition a row's frame has, and functions of the values there.
+//!
+//! `frame` tells by the definition which places a frame has, with `distance` for the bounds; `extent` finds the two bounds of a frame,
+//! by halving for one place or moved on from place to place for all. `exclusion` gives the frames of all places as lists of ranges
+//! whose ends rise. So a `slide` pushes and pops each value at most once (`over`) instead of going over each frame anew: `count`,
+//! `sum`, and `least` and `greatest`, which keep only the `candidate` values.
 #![tactic(auto)]
 
 mod answer;

@@ -1,4 +1,4 @@
-//! Functions over the values of stretches and frames.
+//! Functions over the values of ranges and frames.
 
 ghost use Rattle.std.specs.Prelude.{◌≡◌, ℕ, ◌+◌, ◌-◌, ◌^◌, ◌<◌, ◌≤◌, ◌++◌, [], length, drop, IfOk, OnOk};
 ghost use Rattle.wd_frame.specs.Places.{part_of};
@@ -14,8 +14,8 @@ use std::alloc::Global;
 use wd_plan::Frame;
 use wd_value::{OutOfMemory, Value};
 
-/// For each place of a partition the function of the values in its frame. Each value is pushed once
-/// at most, and popped once at most.
+/// For each place of a partition the function's answer over the values in its frame. Each value is pushed once at most, and popped once
+/// at most.
 pub fn over_frames<'a, S: Slide<'a>>(
     alloc: Global,
     part: &Part,
@@ -44,8 +44,8 @@ fn references<'a>(alloc: Global, values: &'a [Value]) -> Result<Vec<&'a Value>, 
     Ok(references)
 }
 
-/// For each of a list of stretches whose ends rise the function of the values there. Each value is
-/// pushed once at most, and popped once at most.
+/// For each range of a list whose ends rise the function's answer over the values there. Each value is pushed at most once, and popped
+/// at most once.
 pub fn over_stretches<'a, S: Slide<'a>>(
     alloc: Global,
     stretches: &[Stretch],
@@ -60,8 +60,7 @@ pub fn over_stretches<'a, S: Slide<'a>>(
     slid(alloc, &mut slide, stretches, values)
 }
 
-/// For each of so many places the function of the values in its stretches, list by list. Takes time
-/// that goes with the number of places.
+/// For each place the function's answer over the values in its ranges, list by list. Takes time linear in the number of places.
 pub fn over_lists<'a, S: Join<'a>>(
     alloc: Global,
     lists: &[Vec<Stretch>],
@@ -81,7 +80,7 @@ pub fn over_lists<'a, S: Join<'a>>(
     Ok(answers)
 }
 
-/// The function of all of the values.
+/// The function's answer over all values.
 pub fn over_all<'a, S: Slide<'a>>(values: &[&'a Value], empty: S) -> Result<Answer<'a>, OutOfMemory>
     requires empty { S.values empty ≡ [] }
     ensures { IfOk result (λ a. shown a ≡ S.plain (seen values.now)) }
@@ -91,7 +90,7 @@ pub fn over_all<'a, S: Slide<'a>>(values: &[&'a Value], empty: S) -> Result<Answ
     Ok(slide.answer())
 }
 
-/// The answers over each list of values and another behind it.
+/// Replaces each answer over a list of values by the answer over that list and another one after it.
 fn join_all<'a, S: Join<'a>>(answers: &mut [Answer<'a>], more: &[Answer<'a>])
     requires { length more.now ≡ length answers.old }
     ensures long { length answers.new ≡ length answers.old }
@@ -102,8 +101,7 @@ fn join_all<'a, S: Join<'a>>(answers: &mut [Answer<'a>], more: &[Answer<'a>])
     }
 }
 
-/// For each of a list of stretches the function of the values there, by a slide that is empty
-/// before and afterwards.
+/// For each range of a list the function's answer over the values there, by a slide that is empty before and afterwards.
 fn slid<'a, S: Slide<'a>>(
     alloc: Global,
     slide: &mut S,
@@ -130,7 +128,7 @@ fn slid<'a, S: Slide<'a>>(
     Ok(answers)
 }
 
-/// Pushes the values from `next` up to `end` behind those from `first` up to `next`.
+/// Pushes the values from `next` up to `end` after those from `first` up to `next`.
 fn fill<'a, S: Slide<'a>>(
     slide: &mut S,
     values: &[&'a Value],
@@ -150,7 +148,7 @@ fn fill<'a, S: Slide<'a>>(
     Ok(())
 }
 
-/// Pops so many values.
+/// Pops `count` values.
 fn drain<'a, S: Slide<'a>>(slide: &mut S, count: usize)
     requires { count ≤ length (S.values slide.old) }
     ensures { S.values slide.new ≡ drop count (S.values slide.old) }

@@ -6,14 +6,13 @@ ghost use Rattle.wd_frame.specs.Slides.{IsAnswer, IsSmall, Plain, Values, shown}
 use crate::answer::Answer;
 use wd_value::{OutOfMemory, Value};
 
-/// A function of a list of values that grows at its back and shrinks at its front. Contracts see it
-/// as that list.
+/// A function of a list of values that grows at its back and shrinks at its front. In contracts the list is `values`.
 pub trait Slide<'a>: Drop {
     ghost values: { Self → Values };
 
     ghost plain: { Values → Plain };
 
-    /// After a refusal the list is as before.
+    /// Adds a value at the back. After an error the list is as before.
     fn push_back(&mut self, value: &'a Value) -> Result<(), OutOfMemory>
         requires { length (values self.old) < 2 ^ 64 - 1 }
         ensures pushed { OnOk result (values self.new ≡ values self.old ++ value.now ∷ []) }
@@ -28,7 +27,7 @@ pub trait Slide<'a>: Drop {
         ensures small { IsSmall (length (values self.now)) (shown result) };
 }
 
-/// A function whose answer over one list and another behind it follows from the answers over each.
+/// A function whose answer over one list and another after it follows from the answers over each.
 pub trait Join<'a>: Slide<'a> {
     /// The answer over both lists, where they have fewer values than 64 bits count.
     fn join(first: Answer<'a>, second: Answer<'a>) -> Answer<'a>

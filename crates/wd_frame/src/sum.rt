@@ -10,8 +10,7 @@ use std::collections::VecDeque;
 use std::marker::Model;
 use wd_value::{OutOfMemory, Value};
 
-/// The exact total of the whole numbers, and nothing where there is none: 128 bits hold that of each
-/// list that memory holds.
+/// The exact total of the whole numbers, and nothing where there is none: 128 bits are enough for each list that fits in memory.
 #[derive(Drop)]
 pub struct Sum<'a> {
     values: VecDeque<&'a Value>,
@@ -87,7 +86,7 @@ fn weight(value: &Value) -> usize
     }
 }
 
-/// The whole number, and 0 where the value is none.
+/// The whole number; 0 where the value is none.
 fn number_in(value: &Value) -> i128
     ensures value { result ≡ number_of value.now }
     ensures held { IsHeld value.now }
@@ -98,7 +97,7 @@ fn number_in(value: &Value) -> i128
     }
 }
 
-/// Two counts or totals added up.
+/// The sum of two counts or totals.
 pub(crate) fn add<'a>(first: Answer<'a>, second: Answer<'a>) -> Answer<'a>
     ensures exact { (m n : ℕ) → IsSmall m (shown first.entry) → IsSmall n (shown second.entry) → m + n < 2 ^ 64 → shown result ≡ added (shown first.entry) (shown second.entry) }
     ensures small { (m n : ℕ) → IsSmall m (shown first.entry) → IsSmall n (shown second.entry) → m + n < 2 ^ 64 → IsSmall (m + n) (shown result) }

@@ -16,7 +16,7 @@ use Rattle.wd_front.specs.declared.front.Front.TheVariants.{Own, Respelled, Unre
 abbrev pub IsRead : List ℕ → Type 0
 IsRead text = (tables : List TableRule) × profile.Declares text tables
 
--- the profile refuses it
+-- the profile refuses the text
 abbrev pub IsUnread : List ℕ → Type 0
 IsUnread text = (refusal : SchemaError) × profile.HasCause text refusal
 
@@ -24,12 +24,12 @@ IsUnread text = (refusal : SchemaError) × profile.HasCause text refusal
 abbrev pub IsSpelledBy : List ℕ → List StatementSaid → List ℕ → Type 0
 IsSpelledBy text statements other = dialect.Says text statements × dialect.Spells other (tables_of statements)
 
--- nothing that the profile reads is got by reading the text as PostgreSQL's tools write it
+-- reading the text as PostgreSQL's tools write it gives nothing that the profile reads
 abbrev pub IsLost : List ℕ → Type 0
 IsLost text = ((refusal : DialectError) × dialect.HasCause text refusal) ⊎ ((statements : List StatementSaid) × (other : List ℕ) × IsSpelledBy text statements other × IsUnread other)
 
--- A text that the profile reads stands as it is. Of another one the tables are spelled, where the profile reads that; but not of one
--- in which NULL stands on a column that takes none, which no reading makes good.
+-- A text that the profile reads stays as it is. For another one the tables are spelled, if the profile reads that; but not for a text
+-- with NULL for a column that takes none, which no reading repairs.
 abbrev pub IsFront : List ℕ → Front → Type 0
 IsFront text Own = IsRead text
 IsFront text (Respelled s) = IsUnread text × IsSpelledBy text (map statement_said s.statements.items) (string_bytes s.text) × IsRead (string_bytes s.text)

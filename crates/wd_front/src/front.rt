@@ -24,14 +24,14 @@ pub enum Front {
     Unread(Refused),
 }
 
-/// Which refusal is told of a text that is not read.
+/// Which refusal is reported for a text that is not read.
 #[derive(Clone, Copy)]
 pub enum Refused {
-    /// That of the profile.
+    /// The refusal of the profile.
     Profile,
-    /// No schema of PostgreSQL goes on with these bytes.
+    /// PostgreSQL's way of writing cannot continue with these bytes.
     At(Span),
-    /// The tables that it declares as PostgreSQL's tools write it are refused by this number.
+    /// The tables that it declares as PostgreSQL's tools write it are refused with this number.
     Tables(u32),
     /// The profile's text of these tables would be too long.
     TooLong,
@@ -39,10 +39,10 @@ pub enum Refused {
 
 /// What the text of a schema file is read as.
 ///
-/// NULL on a column that takes none is refused by the profile, however the text is read. Else, where neither the profile nor
-/// PostgreSQL's way of writing reads it, the refusal is told that stands further on in the text, or PostgreSQL's where the profile
-/// lacks characters of it (it looks at all of these first); the profile's where both stand at one place, and where the tables are
-/// refused by the same number.
+/// NULL for a column that takes none is refused by the profile, however the text is read. Otherwise, where neither the profile nor
+/// PostgreSQL's way of writing reads the text, the refusal further on in the text is reported; PostgreSQL's where the profile does not
+/// read the text's characters (it checks these first for the whole text); the profile's where both are at one place, and where the
+/// tables are refused with the same number.
 pub fn front_of(alloc: Global, text: &[u8]) -> Result<Front, OutOfMemory>
     ensures { IfOk result (IsFront text.now) }
 {
@@ -54,7 +54,7 @@ pub fn front_of(alloc: Global, text: &[u8]) -> Result<Front, OutOfMemory>
     }
 }
 
-/// What a text is read as that the profile refuses so.
+/// What a text is read as that the profile refuses with this error.
 fn respelled(alloc: Global, text: &[u8], error: SchemaError) -> Result<Front, OutOfMemory>
     requires { HasCause text.now error }
     ensures { IfOk result (IsFront text.now) }
@@ -69,8 +69,8 @@ fn respelled(alloc: Global, text: &[u8], error: SchemaError) -> Result<Front, Ou
     }
 }
 
-/// What a text is read as that the profile refuses so, and that is a schema of PostgreSQL: its tables, where the profile reads the
-/// text that spells them.
+/// What a text is read as that the profile refuses with this error and that is a schema of PostgreSQL: its tables, if the profile reads
+/// the text that spells them.
 fn where_read(
     alloc: Global,
     text: &[u8],
@@ -88,7 +88,7 @@ fn where_read(
     }
 }
 
-/// What a text is read as that the profile refuses so, where it refuses the text of its tables so.
+/// What a text is read as that the profile refuses with the first error, if it refuses the text of its tables with the other.
 fn unread(text: &[u8], schema: DialectSchema, error: SchemaError, other: SchemaError) -> Front
     requires unread { HasCause text.now error }
     requires spelled { IsSpelledBy text.now (map statement_said schema.statements.items) (string_bytes schema.text) }
@@ -98,7 +98,7 @@ fn unread(text: &[u8], schema: DialectSchema, error: SchemaError, other: SchemaE
     Front::Unread(told_of_tables(error, other))
 }
 
-/// Which refusal is told where the profile refuses a text so, and the text of its tables so.
+/// Which refusal is reported where the profile refuses a text with the first error and the text of its tables with the other.
 fn told_of_tables(error: SchemaError, other: SchemaError) -> Refused {
     match other.number() {
         Some(number) if error.number() != Some(number) => Refused::Tables(number),
@@ -106,8 +106,8 @@ fn told_of_tables(error: SchemaError, other: SchemaError) -> Refused {
     }
 }
 
-/// Which refusal is told where both refuse a text: PostgreSQL's where the profile does not read its characters, else the one that
-/// stands further on.
+/// Which refusal is reported where both refuse a text: PostgreSQL's where the profile does not read its characters, otherwise the one
+/// further on in the text.
 fn told(
     alloc: Global,
     text: &[u8],

@@ -1,7 +1,7 @@
-//! What the text of a schema file is read as: as it is, where the profile reads it, and else as PostgreSQL's tools write schemas.
+//! What the text of a schema file is read as: itself, where the profile reads it, and otherwise a schema as PostgreSQL's tools write it.
 //!
-//! `front_of` gives the text over which queries are judged, or says which of the two refusals is told. `place` finds where these stand,
-//! and `notes` has what is told of a text that is read as PostgreSQL's.
+//! `front_of` gives the text over which queries are judged, or says which of the two refusals is reported. `place` finds where these
+//! are, and `notes` has what is reported about a text that is read as PostgreSQL's.
 #![tactic(auto)]
 
 mod front;

@@ -1,9 +1,9 @@
-//! What is told of a schema that is read as PostgreSQL's tools write it.
+//! What is reported about a schema that is read as PostgreSQL's tools write it.
 
 use std::alloc::{AllocError, Global};
 use wd_dialect_schema::{ColumnKind, Item, Mark, Note, SaidTable, Statement};
 
-// What is passed over, as it is told.
+// The names of what is passed over, as they are reported.
 const RULES: [(Note, &str); 8] = [
     (Note::Default, "DEFAULT"),
     (Note::Check, "CHECK"),
@@ -15,17 +15,17 @@ const RULES: [(Note, &str); 8] = [
     (Note::Statement, "other statements"),
 ];
 
-/// What is taken for granted of columns of some types.
+/// What is assumed about columns of some types.
 #[derive(Clone, Copy)]
 enum Granted {
-    /// That values are the same where they are equal.
+    /// That equal values are the same.
     Same,
-    /// What numbers count.
+    /// Which unit numbers count.
     Units,
 }
 
 impl Granted {
-    /// Whether it is taken for granted of columns of a kind.
+    /// Whether this is assumed about columns of a kind.
     fn concerns(self, kind: ColumnKind) -> bool {
         match self {
             Granted::Same => matches!(
@@ -40,7 +40,7 @@ impl Granted {
     }
 }
 
-/// What is told of a schema with these statements, a line each: what is passed over, each kind once, and what is taken for granted.
+/// The lines that are reported for a schema with these statements: what is passed over, each kind once, and what is assumed.
 pub fn note_lines(alloc: Global, statements: &[Statement]) -> Result<Vec<String>, AllocError> {
     let mut lines = Vec::new(alloc);
     if let Some(line) = passed_line(alloc, statements)? {
@@ -63,7 +63,7 @@ pub fn note_lines(alloc: Global, statements: &[Statement]) -> Result<Vec<String>
     Ok(lines)
 }
 
-/// The line that names what is passed over, where something is.
+/// The line that names what is passed over, if something is.
 fn passed_line(alloc: Global, statements: &[Statement]) -> Result<Option<String>, AllocError> {
     let mut line = String::new(alloc);
     for (note, words) in RULES.iter() {
@@ -83,7 +83,7 @@ fn passed_line(alloc: Global, statements: &[Statement]) -> Result<Option<String>
     Ok(Some(line))
 }
 
-/// What a statement declares of a table, where it does.
+/// What a statement declares of a table, if it does.
 fn table_in(statement: &Statement) -> Option<&SaidTable> {
     match statement {
         Statement::Table(table) | Statement::Changed(table) => Some(table),
@@ -91,7 +91,7 @@ fn table_in(statement: &Statement) -> Option<&SaidTable> {
     }
 }
 
-/// Whether something of that kind is passed over in statements.
+/// Whether something of this kind is passed over in statements.
 fn passes(statements: &[Statement], note: Note) -> bool {
     statements.iter().any(|statement| match table_in(statement) {
         Some(table) => table.items.iter().any(|item| is_passed(item, note)),
@@ -99,7 +99,7 @@ fn passes(statements: &[Statement], note: Note) -> bool {
     })
 }
 
-/// Whether something of that kind is passed over between two commas.
+/// Whether something of this kind is passed over in one entry.
 fn is_passed(item: &Item, note: Note) -> bool {
     match item {
         Item::Column(column) => column.marks.contains(&Mark::Passed(note)),
@@ -108,7 +108,7 @@ fn is_passed(item: &Item, note: Note) -> bool {
     }
 }
 
-/// Whether statements declare a column of which something is taken for granted.
+/// Whether statements declare a column about which this is assumed.
 fn has_column(statements: &[Statement], granted: Granted) -> bool {
     statements.iter().any(|statement| match table_in(statement) {
         Some(table) => table.items.iter().any(|item| match item {

@@ -1,4 +1,4 @@
-//! Where a refusal stands in the text of a schema file.
+//! Where a refusal is in the text of a schema file.
 
 use std::alloc::Global;
 use wd_dialect_schema::DialectError;
@@ -7,7 +7,7 @@ use wd_lex::{LexError, Span, Token, lex};
 use wd_schema::SchemaError;
 use wd_value::OutOfMemory;
 
-/// The place of a text's refusal as PostgreSQL's tools write schemas. None where it names none.
+/// The place of a refusal of the text as PostgreSQL's tools write schemas. `None` if it names none.
 pub(crate) fn dialect_place(
     alloc: Global,
     text: &[u8],
@@ -21,7 +21,7 @@ pub(crate) fn dialect_place(
     }
 }
 
-/// The place of a text's refusal by the profile. None where it names none.
+/// The place of a refusal of the text by the profile. `None` if it names none.
 pub(crate) fn profile_place(
     alloc: Global,
     text: &[u8],
@@ -41,7 +41,7 @@ fn byte_at(place: u64) -> Span {
     }
 }
 
-/// The token of a text with a number, or the end of the text where it has no more.
+/// The token of a text with a number, or the end of the text if it has no more.
 fn token_at(alloc: Global, text: &[u8], number: u64) -> Result<Option<Span>, OutOfMemory> {
     match lex(alloc, text) {
         Ok(tokens) => Ok(Some(span_of(&tokens, text.len() as u64, number))),
@@ -50,7 +50,7 @@ fn token_at(alloc: Global, text: &[u8], number: u64) -> Result<Option<Span>, Out
     }
 }
 
-/// Where the token with a number stands, or the end of the text.
+/// Where the token with a number is, or the end of the text.
 fn span_of(tokens: &[Token], end: u64, number: u64) -> Span {
     let found = match usize::try_from(number) {
         Ok(number) => tokens.get(number),

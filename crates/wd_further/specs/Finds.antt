@@ -18,25 +18,25 @@ use Rattle.wd_seek.specs.Sought.{IsSought, is_meeting}
 use Rattle.wd_varied.specs.Sizes.{sizes}
 use Rattle.wd_further.specs.Tries.{candidates}
 
--- a witness and its text, which is that of a true witness of the plan that reads the texts of the schema and the query
+-- a witness and its text, which spells a true witness of the plan that reads the texts of the schema and the query
 pub record IsFound (schema query : List ℕ) (found : Found) : Type 0 where
   pub spelled : Spells (witness_of found.witness) found.text.items
   pub refuted : IsRefuted schema query found.text.items
 
 -- ---- the search
 
--- the candidates of a size, those that meet the schema
+-- the candidates of a size that meet the schema
 abbrev pub to_try : List TableRule → PlanTree → ℕ → List Instance
 to_try tables plan rows = filter (is_meeting tables) (candidates tables plan rows)
 
--- a search among them: of so many rows in each table, the turn in which one ordering takes rows that tie, and the most evaluations
+-- a search among them: the number of rows in each table, the turn, by which one ordering takes rows that tie, and the most evaluations
 pub record Search : Type 0 where
   pub rows : ℕ
   pub turn : Turn
   pub most : ℕ
 
--- those of one size of so many: its share of 1,000 evaluations with rows that tie turned round, of 500 with the first of them last, and
--- of 500 with neighbours exchanged
+-- the searches of one size, of `count` sizes: the size's share of 1,000 evaluations with rows that tie in reverse order, of 500 with
+-- the first of them last, and of 500 with neighbours exchanged
 abbrev pub of_size : ℕ → ℕ → List Search
 of_size count rows =
     record { rows = rows; turn = Reversed; most = 1000 / count }
@@ -44,7 +44,7 @@ of_size count rows =
     ∷ record { rows = rows; turn = Exchanged; most = 500 / count }
     ∷ []
 
--- those of all sizes, the smallest first
+-- the searches of all sizes, the smallest first
 abbrev pub searches : PlanTree → List Search
 searches plan = flat_map (of_size (length (sizes plan))) (sizes plan)
 
@@ -52,7 +52,7 @@ searches plan = flat_map (of_size (length (sizes plan))) (sizes plan)
 abbrev pub EndsWith : Option Witness → List TableRule → PlanTree → Search → Type 0
 EndsWith found tables plan s = (end : ℕ) × IsSought s.turn tables plan (to_try tables plan s.rows) (most_evaluations - s.most) found end
 
--- a witness is that of the first search that gives one
+-- the witness is that of the first search that gives one
 abbrev pub IsSoughtBy : Option Witness → List TableRule → PlanTree → List Search → Type 0
 IsSoughtBy found tables plan [] = found ≡ None
 IsSoughtBy None tables plan (s ∷ ss) = EndsWith None tables plan s × IsSoughtBy None tables plan ss
@@ -61,13 +61,13 @@ IsSoughtBy (Some w) tables plan (s ∷ ss) = EndsWith (Some w) tables plan s ⊎
 abbrev pub IsSoughtIn : Option Witness → List TableRule → PlanTree → Type 0
 IsSoughtIn found tables plan = IsSoughtBy found tables plan (searches plan)
 
--- a text is refused by a number
+-- a text is refused with a number
 pub record AreRefused (schema query : List ℕ) : Type 0 where
   pub error : TextError
   pub cause : HasTextCause schema query error
   pub numbered : IsSome (text_number error)
 
--- the witness of that search for the plan that reads the texts; none also where a text is refused
+-- the witness that the searches give for the plan that reads the texts; none also where a text is refused
 abbrev pub IsSoughtFurther : List ℕ → List ℕ → Option Found → Type 0
 IsSoughtFurther schema query None = AreRefused schema query ⊎ ForReading schema query (IsSoughtIn None)
 IsSoughtFurther schema query (Some found) = ForReading schema query (IsSoughtIn (Some found.witness))

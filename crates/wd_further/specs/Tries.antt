@@ -1,4 +1,4 @@
--- The tries of a further search: for each size of the tables so many candidates.
+-- The tries of a further search: for each size of the tables a number of candidates.
 use Rattle.std.specs.Prelude.{ℕ, ◌*◌, ◌/◌, List, length, map, max, min}
 use Rattle.wd_value.specs.Bags.{positions}
 use Rattle.wd_value.specs.Rows.{Instance}
@@ -9,21 +9,21 @@ use Rattle.wd_varied.specs.Sizes.{paired, sizes}
 use Rattle.wd_varied.specs.Varied.{varied}
 use Rattle.wd_varied.specs.Work.{row_work}
 
--- the most tries in a turn, and the most that all their evaluations do, in parts of about five nanoseconds
+-- the most tries in a turn, and the most work of all their evaluations, in units of about five nanoseconds
 abbrev pub most_tries : ℕ
 most_tries = 600
 
 abbrev pub most_work : ℕ
 most_work = 60000000
 
--- what the evaluations of one try do for all rows to which the tables pair, for each at least 250
+-- what the evaluations of one try cost: for each row to which the tables pair at least 250
 abbrev pub cost : PlanTree → ℕ → ℕ
 cost plan rows = (paired rows plan * evaluations plan) * max 250 (row_work plan)
 
--- how many tries there are of a size: its share of the most, as far as its share of the most work suffices for them
+-- how many tries a size has: its share of the most tries, or fewer where its share of the most work is not enough for them
 abbrev pub tries : PlanTree → ℕ → ℕ
 tries plan rows = min (most_tries / length (sizes plan)) (most_work / (cost plan rows * length (sizes plan)))
 
--- the candidates of a size: tables of so many rows, filled anew in each try
+-- the candidates of a size: tables of `rows` rows, filled anew in each try
 abbrev pub candidates : List TableRule → PlanTree → ℕ → List Instance
 candidates tables plan rows = map (varied tables plan rows) (positions (tries plan rows))

@@ -21,15 +21,15 @@ pub struct Found {
 }
 
 /// A true witness of the query of a text over the schema of a text: two answers that the query has over tables that meet the schema,
-/// under lawful orderings. It is over the first candidate of the search that shows two answers. None where a text is refused, or
+/// under lawful orderings. It is over the first candidate of the search that shows two answers. `None` where a text is refused, or
 /// where no candidate shows two; that says nothing of the query.
 ///
-/// For queries that `decide` leaves open, since its own search comes before. The candidates are tables of 2, 3 and 4 rows, and of one
-/// and two more rows than a count with its offset or than another number in the query, at most 64. Size after size is searched, the
-/// smallest first, so the witness is over the smallest of the tables that show two answers. One that does not meet the schema is passed
-/// over. Of each size rows that tie are turned round in one ordering after another; then the first of them is the last, and then
-/// neighbours are exchanged. Each size has an equal share of 1,000 evaluations in the first of these turns and of 500 in each of the
-/// others, and in each of 600 tries and of a work estimated beforehand.
+/// For queries that `decide` leaves open, since that call's own search comes before. The candidates are tables of 2, 3 and 4 rows, and
+/// of one and two more rows than a count with its offset or than another number in the query, at most 64. Size after size is searched,
+/// the smallest first, so the witness is over the smallest of the tables that show two answers. One that does not meet the schema is
+/// passed over. For each size rows that tie are put in reverse order in one ordering after another; in a second turn the first of them
+/// is moved to the end, and in a third neighbours are exchanged. Each size has an equal share of 1,000 evaluations in the first turn
+/// and of 500 in each of the others, and in each turn of 600 tries and of an amount of work that is estimated beforehand.
 pub fn seek_further(
     alloc: Global,
     schema: &[u8],

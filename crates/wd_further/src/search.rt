@@ -26,22 +26,22 @@ use wd_value::OutOfMemory;
 use wd_varied::{Suggested, paired, row_work, sizes, suggested_by, varied};
 use wd_witness_text::Witness;
 
-/// The most tries of all sizes in one turn.
+/// The most tries of all sizes together in one turn.
 const MOST_TRIES: u32 = 600;
 
-/// The number to which the evaluations of a search count.
+/// The evaluations of a search are counted up to this number.
 const MOST_EVALUATIONS: u32 = 2000;
 
-/// The most evaluations of all sizes with rows that tie turned round.
+/// The most evaluations of all sizes together with rows that tie in reverse order.
 const MOST_TURNED: u32 = 1000;
 
-/// The most evaluations of all sizes with rows that tie in each of the two other orders.
+/// The most evaluations of all sizes together with rows that tie in each of the two other orders.
 const MOST_OTHERWISE: u32 = 500;
 
-/// The most that the evaluations of all sizes in one turn do, in parts of about five nanoseconds.
+/// The most work of the evaluations of all sizes together in one turn, in units of about five nanoseconds.
 const MOST_WORK: u128 = 60_000_000;
 
-/// The least that an evaluation does for each row.
+/// The least work that an evaluation is taken to need for each row.
 const LEAST_WORK: u64 = 250;
 
 /// A witness over the first candidate that shows two answers of a plan.
@@ -97,7 +97,7 @@ fn search_sizes(
     Ok(None)
 }
 
-/// The searches of one size of so many: with rows that tie turned round, and then with them in other orders.
+/// The searches of one size, of `count` sizes: with rows that tie in reverse order, and then in other orders.
 fn search_turned(
     alloc: Global,
     schema: &Schema,
@@ -133,7 +133,7 @@ fn search_turned(
     }
 }
 
-/// The searches of one size of so many with the first of the rows that tie as the last, and with neighbours exchanged.
+/// The searches of one size, of `count` sizes: with the first of the rows that tie moved to the end, and then with neighbours exchanged.
 fn search_neighbours(
     alloc: Global,
     schema: &Schema,
@@ -179,7 +179,7 @@ fn search_neighbours(
     }
 }
 
-/// The tries of a size, one after another, with at most so many evaluations.
+/// The tries of a size, one after another, with at most `most` evaluations.
 fn search_tries(
     alloc: Global,
     schema: &Schema,
@@ -239,7 +239,7 @@ fn try_varied(
     try_candidate(alloc, schema, plan, outline, instance, turn, spent)
 }
 
-/// How many tries there are of a size, of so many sizes.
+/// How many tries a size has, where there are `sizes` sizes.
 fn tries(plan: &Plan, rows: u32, sizes: usize) -> u32
     requires large { 2 ≤ rows }
     requires small { rows ≤ 64 }
@@ -256,7 +256,7 @@ fn tries(plan: &Plan, rows: u32, sizes: usize) -> u32
     )
 }
 
-/// How many tries are the share of one of so many sizes, if the tables pair to so many rows, for each of which so much is done.
+/// How many tries are the share of one of `sizes` sizes, if the tables pair to `paired` rows and each row costs `work`.
 fn share(paired: u64, orderings: u32, work: u64, sizes: u32) -> u32
     requires some { 1 ≤ paired }
     requires small { paired ≤ 2 ^ 28 }
@@ -269,7 +269,7 @@ fn share(paired: u64, orderings: u32, work: u64, sizes: u32) -> u32
     u128::from(MOST_TRIES / sizes).min(MOST_WORK / cost) as u32
 }
 
-/// What the evaluations of a try do: one, and one more for each of so many orderings.
+/// What the evaluations of a try cost: one evaluation, and one more for each of `orderings` orderings.
 fn cost(paired: u64, orderings: u32, work: u64) -> u128
     requires some { 1 ≤ paired }
     requires small { paired ≤ 2 ^ 28 }

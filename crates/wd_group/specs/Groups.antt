@@ -5,11 +5,11 @@ use Rattle.std.specs.declared.vec.Vec.{Vec}
 use Rattle.wd_value.specs.Bags.{positions}
 use Rattle.wd_group.specs.declared.groups.Groups.{Groups}
 
--- the lists that a list of the code shows
+-- the lists of a list of the code
 abbrev pub lists_of : List (Vec ℕ Global) → List (List ℕ)
 lists_of lists = map (λ l. l.items) lists
 
--- the list of a number, and the empty one past the last
+-- the list of a number, the empty one past the last
 abbrev pub list_at : List (List ℕ) → ℕ → List ℕ
 list_at lists number = slice_index_or lists number []
 

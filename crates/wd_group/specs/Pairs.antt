@@ -15,11 +15,11 @@ pub record AreApart {S : Type 0} (met : HashMap (ℕ × ℕ) ℕ S) : Type 0 whe
   pub below : (p : ℕ × ℕ) (n : ℕ) → number_in met p ≡ Some n → n < hash_map_len met
   pub apart : (p q : ℕ × ℕ) (n : ℕ) → number_in met p ≡ Some n → number_in met q ≡ Some n → p ≡ q
 
--- what number a pair has, it keeps
+-- a pair keeps the number that it has
 abbrev pub Keeps : {S : Type 0} → HashMap (ℕ × ℕ) ℕ S → HashMap (ℕ × ℕ) ℕ S → Type 0
 Keeps old new = (p : ℕ × ℕ) (n : ℕ) → number_in old p ≡ Some n → number_in new p ≡ Some n
 
--- a number for each place of two lists, below a bound; two are equal exactly where the pairs there are
+-- a number for each place of two lists, below a bound; two numbers are equal exactly where the pairs there are
 pub record ArePairNumbers (first second : List ℕ) (bound : ℕ) (numbers : List ℕ) : Type 0 where
   pub long : length numbers ≡ length first
   pub below : (k : ℕ) → k < length first → get_or numbers k 0 < bound

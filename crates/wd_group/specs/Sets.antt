@@ -18,11 +18,11 @@ use Rattle.wd_group.specs.Groups.{own_list}
 abbrev pub shown_in : List ℕ → Row → ℕ → Value
 shown_in set row c = if has set c then column_of row c else Null
 
--- what is shown of a group, and after that the values of the calls over its rows
+-- what is shown of the grouping columns, and after that the values of the calls over its rows
 abbrev pub row_over : GroupRule → List ℕ → List Row → Row → Result Row Fault
 row_over rule set rows group = and_then (all_ok (map (group_value set rows) rule.calls)) (λ values. Ok (group ++ values))
 
--- the grouping columns that a set has, of the first so many
+-- the grouping columns that a set has, among the first `columns`
 abbrev pub set_columns : ℕ → List ℕ → List ℕ
 set_columns columns set = filter (has set) (positions columns)
 
@@ -43,7 +43,7 @@ begins_at (q ∷ qs) p = nat_eq q p
 abbrev pub is_met : ClassRule → List Row → ℕ → ℕ → Bool
 is_met class rows n p = list_any (λ q. same_partition class (row_at rows p) (row_at rows q)) (positions n)
 
--- whether the row at a position stands before all others of its group
+-- whether the row at a position is the first of its group
 abbrev pub is_first : ℕ → List ℕ → List Row → ℕ → Bool
 is_first columns set rows p = not (is_met (set_class columns set) rows p p)
 
@@ -51,6 +51,6 @@ is_first columns set rows p = not (is_met (set_class columns set) rows p p)
 abbrev pub row_from : GroupRule → List ℕ → List Row → ℕ → List (Result Row Fault)
 row_from rule set rows p = if is_first rule.columns set rows p then group_row rule rows set (shown rule.columns set (row_at rows p)) ∷ [] else []
 
--- those of the first n positions
+-- the rows of the groups whose first rows are among the first n positions
 abbrev pub rows_from : GroupRule → List ℕ → List Row → ℕ → List (Result Row Fault)
 rows_from rule set rows n = flat_map (row_from rule set rows) (positions n)

@@ -1,4 +1,4 @@
-//! Rows one after another, as far as they are wanted, and the least fault among them.
+//! Rows gathered one after another, as far as they are needed, and the least fault among them.
 
 ghost use Rattle.std.specs.Prelude.{◌≡◌, ℕ, ◌++◌, ◌∷◌, [], Err, IfOk, List, OnOk, Result, false, true};
 ghost use Rattle.wd_group.specs.Gathered.{AreFirst};
@@ -33,7 +33,7 @@ pub(crate) fn nothing(alloc: Global) -> Gathered
     }
 }
 
-/// One row more, or a fault in its place. A row that is not wanted is let go.
+/// Adds one more row, or a fault in its place. A row that is not needed is dropped.
 pub(crate) fn add(
     gathered: &mut Gathered,
     row: Result<Row, Fault>,
@@ -55,7 +55,7 @@ pub(crate) fn add(
     }
 }
 
-/// The rows, or the least fault, or the error that there are more than `most` rows.
+/// The least fault, or the rows, or the error that there are more than `most` rows.
 pub(crate) fn outcome_within(gathered: Gathered, most: u64) -> Result<Outcome, StepError>
     ensures outcome { IfOk result (λ o. (results : List (Result table.Row faults.Fault)) → AreFirst most results gathered → outcome_of o ≡ all_ok results) }
     ensures within { IfOk result (λ o. has_more_rows most (outcome_of o) ≡ false) }

@@ -1,4 +1,4 @@
-//! The groups of rows: those with one number.
+//! The groups of rows: those with the same number.
 
 ghost use Rattle.std.specs.Prelude.{◌≡◌, ℕ, ◌<◌, ◌++◌, [], ◌∷◌, All, IfOk, OnOk, get_or, length, set, slice_index};
 ghost use Rattle.wd_group.specs.Groups as spec;
@@ -42,7 +42,7 @@ fn list_at(lists: &[Vec<u64>], number: u64) -> &[u64]
     }
 }
 
-/// The groups of rows with such numbers. Takes one walk over the rows.
+/// The groups of rows with these numbers. Goes over the rows once.
 pub(crate) fn groups_by(alloc: Global, numbers: Coding) -> Result<Groups, OutOfMemory>
     requires { (p : ℕ) → p < length numbers.codes.items → get_or numbers.codes.items p 0 < numbers.bound }
     ensures numbers { IfOk result (λ g. g.numbers.items ≡ numbers.codes.items) }
@@ -68,7 +68,7 @@ fn lists_by(alloc: Global, numbers: &[u64], bound: u64) -> Result<Vec<Vec<u64>>,
     Ok(lists)
 }
 
-/// So many lists without elements.
+/// `count` lists without elements.
 fn empty_lists(alloc: Global, count: u64) -> Result<Vec<Vec<u64>>, OutOfMemory>
     ensures long { IfOk result (λ v. length (lists_of v.items) ≡ count) }
     ensures empty { IfOk result (λ v. All (λ l. length l ≡ 0) (lists_of v.items)) }
@@ -80,7 +80,7 @@ fn empty_lists(alloc: Global, count: u64) -> Result<Vec<Vec<u64>>, OutOfMemory>
     Ok(lists)
 }
 
-/// Puts a position behind the list of a number.
+/// Appends a position to the list of a number.
 fn push_to(lists: &mut Vec<Vec<u64>>, number: u64, position: u64) -> Result<(), OutOfMemory>
     requires { number < length (lists_of lists.old.items) }
     ensures { OnOk result (lists_of lists.new.items ≡ set (lists_of lists.old.items) number (spec.list_at (lists_of lists.old.items) number ++ position ∷ [])) }

@@ -1,4 +1,4 @@
-//! Numbers that tell the rows of a set's groups apart.
+//! Numbers for rows, equal exactly for rows of one group of a set.
 
 ghost use Rattle.std.specs.Prelude.{◌≡◌, ℕ, ◌<◌, ◌*◌, ◌^◌, [], true, All, IfOk, get_or, length};
 ghost use Rattle.wd_group.specs.Numbered.{AreNumbersOfEach};
@@ -11,8 +11,8 @@ use wd_columns::RowSource;
 use wd_sort::{Coding, paired, value_numbers};
 use wd_value::OutOfMemory;
 
-/// For each of the first so many columns a number for each row, which are equal exactly where the
-/// values are the same. So the texts of a column are looked up here, and not again for each set.
+/// For each of the first `columns` columns a number for each row; two are equal exactly where the values are the same. So the texts of
+/// a column are looked up here, and not again for each set.
 pub(crate) fn column_numbers(
     alloc: Global,
     rows: &RowSource,
@@ -28,7 +28,7 @@ pub(crate) fn column_numbers(
     Ok(found)
 }
 
-/// A number for each row, which are equal exactly where the rows are the same in these columns.
+/// A number for each row; two are equal exactly where the rows are the same in these columns.
 pub(crate) fn row_numbers(
     alloc: Global,
     rows: &RowSource,
@@ -54,8 +54,8 @@ fn one_number(alloc: Global, rows: &RowSource) -> Result<Coding, OutOfMemory>
     Ok(Coding { codes, bound: 1 })
 }
 
-/// Numbers that are equal exactly where both are: two in one where few of the pairs below the bounds
-/// are not met, and otherwise numbers of the pairs that are.
+/// A number for each place of two lists of numbers; two are equal exactly where both numbers are. The two numbers are coded as one
+/// where there are not too many pairs below the bounds (`are_dense`); otherwise the pairs that are met are numbered.
 fn both(alloc: Global, first: Coding, second: &Coding) -> Result<Coding, OutOfMemory>
     requires long { length first.codes.items ≡ length second.now.codes.items }
     requires high { (k : ℕ) → k < length first.codes.items → get_or first.codes.items k 0 < first.bound }

@@ -9,8 +9,8 @@ use std::hash::{DefaultHasher, Hasher};
 use wd_sort::{Coding, Seeded};
 use wd_value::OutOfMemory;
 
-/// A number for each place of two lists, in the order in which the pairs there are met first: two
-/// are equal exactly where the pairs are.
+/// A number for each place of two lists, in the order in which the pairs there are met first: two numbers are equal exactly where the
+/// pairs are.
 pub(crate) fn pair_numbers(
     alloc: Global,
     first: &[u64],
@@ -41,7 +41,7 @@ fn seeded_by(first: &[u64], second: &[u64]) -> Seeded
     Seeded::by(&all)
 }
 
-/// The number of a pair, which is met from then on.
+/// The number of a pair, which counts as met from then on.
 fn pair_number(
     met: &mut HashMap<(u64, u64), u64, Seeded>,
     pair: (u64, u64),

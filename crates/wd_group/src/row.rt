@@ -16,8 +16,8 @@ use wd_plan::{Group, GroupCall, has_column};
 use wd_steps::with_fault;
 use wd_value::{Fault, OutOfMemory, Row, Value};
 
-/// What a set shows of the row at a position, and after that the values of the calls over the rows
-/// at the members' positions; or the least fault of these.
+/// What a set shows of the row at a position, and after that the values of the calls over the rows at the members' positions; or the
+/// least fault of the calls.
 pub(crate) fn group_row(
     alloc: Global,
     group: &Group,
@@ -47,8 +47,7 @@ pub(crate) fn group_row(
     }
 }
 
-/// What a set shows of the row at a position in the first so many columns, with memory for so many
-/// values more.
+/// What a set shows of the row at a position in the first `columns` columns, with memory for `room` more values.
 fn shown_row(
     alloc: Global,
     rows: &RowSource,
@@ -67,7 +66,7 @@ fn shown_row(
     Ok(shown)
 }
 
-/// A copy of the value in a column that the set has, and NULL for another one.
+/// A copy of the value in a column that the set has; NULL for another column.
 fn shown_value(
     alloc: Global,
     rows: &RowSource,

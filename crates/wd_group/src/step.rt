@@ -24,10 +24,9 @@ use wd_plan::{Group, Outcome, has_column};
 use wd_sort::{Coding, all_positions};
 use wd_value::OutOfMemory;
 
-/// For each set in order the rows of its groups, in the order of their first rows, or the least
-/// fault of the calls; or the error that there are more than `most` rows (SQL, group by clause).
-/// Takes time that goes with the rows, for each set: each value is looked up once for all sets, and no
-/// two texts are compared in order. Rows past the most are not kept.
+/// For each set in order the rows of its groups, in the order of their first rows, or the least fault of the calls; or the error that
+/// there are more than `most` rows (SQL, group by clause). Takes time linear in the rows, for each set: each value is looked up once
+/// for all sets, and no two texts are compared in order. Rows past the most are not kept.
 pub fn group_rows(
     alloc: Global,
     group: &Group,
@@ -88,7 +87,7 @@ fn set_groups(
     Ok(groups)
 }
 
-/// The columns of a set, of the first so many.
+/// The columns of a set among the first `columns`.
 fn set_columns(alloc: Global, columns: u16, set: &[u16]) -> Result<Vec<u16>, OutOfMemory>
     ensures { IfOk result (λ v. v.items ≡ sets.set_columns columns set.now) }
 {

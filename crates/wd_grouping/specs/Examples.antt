@@ -7,7 +7,7 @@ use Rattle.wd_lex.specs.declared.token.TokenKind.TheVariants as t
 use Rattle.wd_using.specs.Examples.{a, all_at, b, c, its, k, mark, n}
 use Rattle.wd_grouping.specs.Respelled.{respelled}
 
--- tokens that say the first are written as tokens that say the second
+-- tokens of the first kinds are written as tokens of the second
 abbrev pub Becomes : List TokenKind → List TokenKind → Type 0
 Becomes left right = (at : Span) → respelled (all_at at left) ≡ Ok (all_at at right)
 

@@ -1,5 +1,5 @@
--- The keys of GROUP BY. A key that is a whole number stands for the item of that number, counted from 1. A key that is neither
--- a column nor a list of keys gets a column of its own.
+-- The keys of GROUP BY. A key that is a whole number means the item with this number, counted from 1. A key that is neither a column
+-- nor a list of keys gets a column of its own.
 use Rattle.std.specs.Prelude.{ℕ, ◌+◌, ◌-◌, ◌==◌, ◌&&◌, ◌||◌, not, codes, if◌then◌else◌, nat_lt, Bool, true, false, List, [], ◌∷◌, length, take, drop, Option, Some, None}
 use Rattle.wd_lex.specs.declared.token.Token.{Token}
 use Rattle.wd_clauses.specs.Names.{is_name}
@@ -8,7 +8,7 @@ use Rattle.wd_distinct_on.specs.Lists.{with_front}
 use Rattle.wd_using.specs.Kinds.{ends_value, has}
 use Rattle.wd_grouping.specs.Kinds.{begins_sets, is_over, is_plain, number_of}
 
--- what is grouped by, and the name of the column that stands for it, if it is an expression
+-- what is grouped by, and the name of the column that replaces it, if it is an expression
 pub record GroupKey : Type 0 where
   pub value : List Token
   pub name : Option (List ℕ)
@@ -21,13 +21,13 @@ is_item (Some item) = true
 abbrev pub is_column : List Token → Bool
 is_column tokens = is_item (column_of tokens)
 
--- a list of keys in brackets, or ROLLUP, CUBE or GROUPING SETS; what begins with a bracket or a plus sign is left for one, and so is
--- a key of no tokens
+-- whether a key may be a list of keys in brackets, or ROLLUP, CUBE or GROUPING SETS; what begins with a bracket or a plus sign may be
+-- one, and so may a key of no tokens
 abbrev pub begins_set : List Token → Bool
 begins_set [] = true
 begins_set (first ∷ tokens) = is_plain first.kind || begins_sets first.kind
 
--- a key that is left as it is
+-- whether a key is left as it is
 abbrev pub stays : List Token → Bool
 stays part = begins_set part || is_column part
 
@@ -39,17 +39,17 @@ abbrev pub ordinal_of : List Token → Option ℕ
 ordinal_of (token ∷ []) = number_of token.kind
 ordinal_of tokens = None
 
--- the item of that number
+-- the item with this number
 abbrev pub item_at : ℕ → List (List Token) → Option (List Token)
 item_at ordinal [] = None
 item_at ordinal (item ∷ items) = if ordinal == 1 then Some item else item_at (ordinal - 1) items
 
--- a name stands behind a value
+-- whether tokens are the end of a value and a name that follows it
 abbrev pub is_named_value : List Token → Bool
 is_named_value (before ∷ name ∷ []) = ends_value before.kind && is_name name.kind
 is_named_value tokens = false
 
--- value c, without AS, or a value alone
+-- an item without the name that follows its value without AS
 abbrev pub without_name : List Token → List Token
 without_name item = if is_named_value (drop (length item - 2) item) then take (length item - 1) item else item
 
@@ -65,7 +65,7 @@ abbrev pub value_by : List (List Token) → List Token → Option ℕ → Option
 value_by items part None = Some part
 value_by items part (Some ordinal) = value_of_item (item_at ordinal items)
 
--- what a key stands for: what the item of its number stands for, without its name, or itself
+-- the value of a key: that of the item with its number, without its name, or the key itself
 abbrev pub value_of : List (List Token) → List Token → Option (List Token)
 value_of items part = value_by items part (ordinal_of part)
 
@@ -73,7 +73,7 @@ value_of items part = value_by items part (ordinal_of part)
 abbrev pub most_names : ℕ
 most_names = 8
 
--- the names of columns that stand for expressions
+-- the names of the columns for expressions
 abbrev pub name_at : ℕ → Option (List ℕ)
 name_at number =
     if number == 0 then Some (codes "group 1")
@@ -90,7 +90,7 @@ name_at number =
 abbrev pub most_in_expression : ℕ
 most_in_expression = 256
 
--- an expression that rows may be grouped by: no window call stands in it
+-- whether rows may be grouped by an expression: it has no window call and is not too long
 abbrev pub may_group : List Token → Bool
 may_group value = not (nat_lt most_in_expression (length value)) && not (has is_over value)
 
@@ -102,11 +102,11 @@ abbrev pub grouped_by : ℕ → Option (List Token) → Option GroupKey
 grouped_by number None = None
 grouped_by number (Some value) = if is_column value then Some (record { value = value; name = None }) else named value (name_at number)
 
--- a key, where so many expressions stand before it
+-- a key; the given number of expressions come before it
 abbrev pub key_of : ℕ → List (List Token) → List Token → Option GroupKey
 key_of number items part = if stays part then Some (record { value = part; name = None }) else grouped_by number (value_of items part)
 
--- how many expressions stand before the next key
+-- how many expressions come before the next key
 abbrev pub next : ℕ → Option (List ℕ) → ℕ
 next number None = number
 next number (Some name) = if nat_lt number most_names then number + 1 else number
@@ -115,7 +115,7 @@ abbrev pub with_key : (ℕ → Option (List GroupKey)) → ℕ → Option GroupK
 with_key further number None = None
 with_key further number (Some key) = with_front key (further (next number key.name))
 
--- the keys among such items, if each is read
+-- the keys, by these items, if each is read
 abbrev pub keys_of : ℕ → List (List Token) → List (List Token) → Option (List GroupKey)
 keys_of number items [] = Some []
 keys_of number items (part ∷ parts) = with_key (λ further. keys_of further items parts) number (key_of number items part)
@@ -124,7 +124,7 @@ abbrev pub is_expression : Option (List ℕ) → Bool
 is_expression None = false
 is_expression (Some name) = true
 
--- an expression is among the keys
+-- whether an expression is among the keys
 abbrev pub have_names : List GroupKey → Bool
 have_names [] = false
 have_names (key ∷ keys) = if is_expression key.name then true else have_names keys

@@ -18,7 +18,7 @@ abbrev pub number_of : TokenKind → Option ℕ
 number_of (t.Number number) = Some number
 number_of _ = None
 
--- a bracket or a plus sign: what it begins has the name of a column where it holds one alone
+-- whether a token is a bracket or a plus sign: an expression that begins with it gets the name of a column where it holds one alone
 abbrev pub is_plain : TokenKind → Bool
 is_plain (t.Terminal m.LeftBracket) = true
 is_plain (t.Terminal m.Plus) = true
@@ -29,8 +29,8 @@ abbrev pub begins_sets : TokenKind → Bool
 begins_sets (t.Word text) = bytes_eq text (codes "rollup") || bytes_eq text (codes "cube") || bytes_eq text (codes "grouping")
 begins_sets _ = false
 
--- an operand of its own begins behind it. AND, OR and NOT are none of these: in x AND a OR b, and in x BETWEEN y AND a = b, what
--- stands behind AND is no operand.
+-- whether a separate operand begins after this token. AND, OR and NOT are not among these tokens: in x AND a OR b, and in x BETWEEN y
+-- AND a = b, what follows AND is no separate operand.
 abbrev pub begins_operand : TokenKind → Bool
 begins_operand (t.Terminal m.Select) = true
 begins_operand (t.Terminal m.LeftBracket) = true
@@ -42,7 +42,7 @@ begins_operand (t.Terminal m.Then) = true
 begins_operand (t.Terminal m.Else) = true
 begins_operand _ = false
 
--- a bracket, a comma, AS, a word of CASE, of a frame or of a later clause
+-- whether a token is a bracket, a comma, AS, or a word of CASE, of a frame or of a later clause
 abbrev pub stops_operand : TokenKind → Bool
 stops_operand (t.Terminal m.RightBracket) = true
 stops_operand (t.Terminal m.Semicolon) = true
@@ -63,6 +63,6 @@ stops_operand (t.Terminal m.Offset) = true
 stops_operand (t.Terminal m.Fetch) = true
 stops_operand _ = false
 
--- an operand of its own ends before it
+-- whether a separate operand ends before this token
 abbrev pub ends_operand : TokenKind → Bool
 ends_operand kind = stops_operand kind || is_direction kind

@@ -1,4 +1,4 @@
--- Parts of a select as they are read, without where they lie in memory.
+-- Parts of a select as they are read, as pure data.
 use Rattle.std.specs.Prelude.{option_map}
 use Rattle.wd_using.specs.Named as using
 use Rattle.wd_grouping.specs.declared.key.Key.{Key}

@@ -10,7 +10,7 @@ use Rattle.wd_using.specs.Joins.{Alias, alias_at}
 use Rattle.wd_using.specs.Pieces.{Pieces}
 use Rattle.wd_grouping.specs.Kinds.{is_group}
 
--- a select, its WHERE clause, its keys behind GROUP BY, and the clauses behind them
+-- a select, its WHERE clause, its keys after GROUP BY, and the clauses after them
 pub record GroupedPieces : Type 0 where
   pub select : Pieces
   pub condition : List Token
@@ -19,7 +19,7 @@ pub record GroupedPieces : Type 0 where
   pub keys : List Token
   pub later : List Token
 
--- with GROUP BY behind the WHERE clause
+-- the select, by GROUP BY after the WHERE clause
 abbrev pub with_keys : Pieces → List Token → List Token → Option GroupedPieces
 with_keys select condition (group ∷ by ∷ tokens) =
     if is_group group.kind && is_by by.kind then Some (record { select = select; condition = condition; group = group; by = by; keys = take (reach Later tokens) tokens; later = drop (reach Later tokens) tokens })
@@ -30,17 +30,17 @@ with_keys select condition tokens = None
 abbrev pub grouped_of : Pieces → Option GroupedPieces
 grouped_of select = with_keys select (take (reach Later select.clauses) select.clauses) (drop (reach Later select.clauses) select.clauses)
 
--- FROM, the name by which the columns of its one table are called, and that name again where it stands for the names of several tables
+-- FROM, the name under which the columns of its one table are known, and that name again where the table replaces several tables
 pub record OneTable : Type 0 where
   pub from : Token
   pub alias : Token
   pub qualifier : Option Token
 
--- a table and its alias are all there is
+-- a table, if it and its alias are all that the clause has
 abbrev pub if_all : Token → ℕ → Alias → Option OneTable
 if_all from count alias = if alias.count == count then Some (record { from = from; alias = alias.name; qualifier = None }) else None
 
--- [AS] alias behind a query in brackets
+-- [AS] alias after a query in brackets
 abbrev pub behind_query : Token → Token → List Token → Option OneTable
 behind_query from bracket [] = None
 behind_query from bracket (word ∷ tokens) = if_all from (length (word ∷ tokens) + 1) (alias_at bracket (word ∷ tokens))
@@ -56,10 +56,10 @@ one_table (from ∷ first ∷ tokens) =
     else (if is_name first.kind then if_all from (length tokens + 1) (alias_at first tokens) else None)
 one_table tokens = None
 
--- a table of such a name, which stands for the several ones behind FROM
+-- a table with this name, which replaces the several tables after FROM
 abbrev pub tables_called : Token → Token → OneTable
 tables_called from alias = record { from = from; alias = alias; qualifier = Some alias }
 
--- the table that stands for them is called "grouped"
+-- the table that replaces several is called "grouped"
 abbrev pub grouped_tables : Token → OneTable
 grouped_tables from = tables_called from (added_name (codes "grouped") from)

@@ -1,6 +1,5 @@
--- Tokens in which each expression of a key that stands as an operand of its own is the column that stands for it. The tokens of an
--- expression that are found in another way, as a + b in a + b * 2, stay: their columns are not grouped by, so the profile refuses
--- them.
+-- Tokens in which each expression of a key that is a separate operand is replaced by its column. The tokens of an expression that occur
+-- in another way, as a + b in a + b * 2, stay: their columns are not grouped by, so the profile refuses them.
 use Rattle.std.specs.Prelude.{ℕ, ◌-◌, ◌==◌, ◌&&◌, ◌||◌, if◌then◌else◌, codes, Bool, true, false, List, [], ◌∷◌, ◌++◌, length, Option, Some, None}
 use Rattle.wd_lex.specs.declared.token.Terminal.TheVariants as m
 use Rattle.wd_lex.specs.declared.token.TokenKind.{TokenKind}
@@ -14,12 +13,12 @@ use Rattle.wd_using.specs.Kinds.{is_star}
 use Rattle.wd_grouping.specs.Keys.{GroupKey, begins_set, is_expression}
 use Rattle.wd_grouping.specs.Kinds.{begins_operand, ends_operand}
 
--- the column that stands for an expression, and how many tokens that is
+-- the column that replaces an expression, and how many tokens the expression is
 pub record Operand : Type 0 where
   pub name : List ℕ
   pub count : ℕ
 
--- an operand ends where this is what stands behind it, as a name alone, which is that of an item
+-- whether an operand ends before these tokens: at the end, before a token that ends one, or before a single name, which is that of an item
 abbrev pub ends : Option (List Token) → Bool
 ends None = false
 ends (Some []) = true
@@ -34,16 +33,16 @@ abbrev pub or_else : {A : Type 0} → Option A → Option A → Option A
 or_else None other = other
 or_else (Some found) other = Some found
 
--- the first key whose expression stands first and ends there
+-- the expression of the first key that is an operand at the start of the tokens
 abbrev pub operand_of : List GroupKey → List Token → Option Operand
 operand_of [] tokens = None
 operand_of (key ∷ keys) tokens = or_else (operand_by key.name key.value tokens) (operand_of keys tokens)
 
--- the operand of its own that stands behind such a token
+-- the separate operand after this token, if there is one
 abbrev pub operand_at : List GroupKey → TokenKind → List Token → Option Operand
 operand_at keys before tokens = if begins_operand before then operand_of keys tokens else None
 
--- a token before those; the name of a table becomes that of the one which stands for several
+-- the token before these; if it is a table's name before a column and one table replaces several, that table's name
 abbrev pub its_table : Option Token → Token → List Token → Token
 its_table None token after = token
 its_table (Some table) token after = if begins is_dot after then placed table token else token
@@ -52,7 +51,7 @@ abbrev pub qualified : Option Token → List Token → List Token
 qualified table [] = []
 qualified table (token ∷ tokens) = its_table table token tokens ∷ qualified table tokens
 
--- what is written at a token, and how many further ones it stands for
+-- what is written for a token, and how many further tokens it replaces
 abbrev pub written_at : Option Token → Token → List Token → Option Operand → List Token
 written_at table token after None = its_table table token after ∷ []
 written_at table token after (Some operand) = added_name operand.name token ∷ []
@@ -61,7 +60,7 @@ abbrev pub passed_by : Option Operand → ℕ
 passed_by None = 0
 passed_by (Some operand) = operand.count - 1
 
--- tokens behind such a one, of which so many are passed over
+-- what is written for the tokens after this one, of which the given number are passed over
 unfoldable pub replaced : List GroupKey → Option Token → ℕ → TokenKind → List Token → List Token
 replaced keys table passed before [] = []
 replaced keys table passed before (token ∷ tokens) =
@@ -69,7 +68,7 @@ replaced keys table passed before (token ∷ tokens) =
     then written_at table token tokens (operand_at keys before (token ∷ tokens)) ++ replaced keys table (passed_by (operand_at keys before (token ∷ tokens))) token.kind tokens
     else replaced keys table (passed - 1) token.kind tokens
 
--- an item is nothing but an expression
+-- the column that replaces an item, if the item is nothing but an expression
 abbrev pub if_whole : List Token → Option Operand → Option (List ℕ)
 if_whole item None = None
 if_whole item (Some operand) = if operand.count == length item then Some operand.name else None
@@ -77,7 +76,7 @@ if_whole item (Some operand) = if operand.count == length item then Some operand
 abbrev pub whole : List GroupKey → List Token → Option (List ℕ)
 whole keys item = if_whole item (operand_of keys item)
 
--- an item without a name keeps the one that the profile gives it
+-- an item without a name keeps the name that the profile gives it
 abbrev pub unnamed : List ℕ → Token → List Token
 unnamed name select = added_name name select ∷ added m.As select ∷ added_name (codes "?column?") select ∷ []
 
@@ -94,16 +93,16 @@ ends_with_star [] = false
 ends_with_star (token ∷ []) = is_star token.kind
 ends_with_star (token ∷ next ∷ tokens) = ends_with_star (next ∷ tokens)
 
--- no item stands for all columns
+-- whether an item stands for all columns
 abbrev pub have_star : List (List Token) → Bool
 have_star [] = false
 have_star (item ∷ items) = if ends_with_star item then true else have_star items
 
--- an item is nothing but an expression, and may have the name of a column
+-- whether an item is nothing but an expression, and may get its name from a column
 abbrev pub is_unclear : List GroupKey → List Token → Bool
 is_unclear keys item = is_expression (whole keys item) && begins_set item
 
--- no item is unclear
+-- whether no item is unclear
 abbrev pub are_clear : List GroupKey → List (List Token) → Bool
 are_clear keys [] = true
 are_clear keys (item ∷ items) = if is_unclear keys item then false else are_clear keys items

@@ -1,5 +1,5 @@
 -- A query whose keys of GROUP BY are columns. A select is left as it is where its keys are columns already or lists of keys, where an
--- item stands for all columns, where a number is that of no item, and where there are too many expressions.
+-- item stands for all columns, where a number is not that of an item, and where there are too many expressions.
 use Rattle.std.specs.Prelude.{ℕ, ◌||◌, if◌then◌else◌, List, [], ◌∷◌, ◌++◌, take, drop, Option, Some, None, Result}
 use Rattle.wd_lex.specs.declared.token.Token.{Token}
 use Rattle.wd_clauses.specs.declared.error.RespellError.{RespellError}
@@ -13,7 +13,7 @@ use Rattle.wd_grouping.specs.Pieces.{GroupedPieces, OneTable, grouped_of, groupe
 use Rattle.wd_grouping.specs.Replaced.{are_clear, have_star}
 use Rattle.wd_grouping.specs.Written.{written, written_over}
 
--- what stands for a select behind these tokens, if the name of each item is clear
+-- the replacement of a select after these tokens, if the name of each item is clear
 abbrev pub if_clear : List Token → GroupedPieces → List (List Token) → List GroupKey → OneTable → Option (List Token)
 if_clear front select items keys one = if are_clear keys items then Some (front ++ written select one items keys) else None
 
@@ -21,7 +21,7 @@ abbrev pub over_tables : List Token → GroupedPieces → List (List Token) → 
 over_tables front select items keys [] = None
 over_tables front select items keys (from ∷ tables) = if_clear front select items keys (grouped_tables from)
 
--- over its one table, or one that stands for its several
+-- over its one table, or one table that replaces its several tables
 abbrev pub over_table : List Token → GroupedPieces → List (List Token) → List GroupKey → Option OneTable → Option (List Token)
 over_table front select items keys None = over_tables front select items keys select.select.tables
 over_table front select items keys (Some one) = if_clear front select items keys one
@@ -36,7 +36,7 @@ with_parts front select items found = if all_stay found || have_star items then 
 abbrev pub with_items : List Token → GroupedPieces → List (List Token) → Option (List Token)
 with_items front select items = parts select.keys >>= with_parts front select items
 
--- what stands for a select behind these tokens
+-- the replacement of a select after these tokens
 abbrev pub respelled_select : List Token → GroupedPieces → Option (List Token)
 respelled_select front select = parts select.select.items >>= with_items front select
 

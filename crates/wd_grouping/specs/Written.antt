@@ -1,5 +1,5 @@
--- The select that stands for one with GROUP BY: its keys are columns, and those that stand for expressions are made by
--- FROM ( SELECT * , e AS "group 1" FROM .. WHERE .. ) AS a.
+-- The select that replaces one with GROUP BY: its keys are columns, and those for expressions are made by FROM ( SELECT * , e AS "group
+-- 1" FROM .. WHERE .. ) AS a.
 use Rattle.std.specs.Prelude.{ℕ, List, [], ◌∷◌, ◌++◌, Option, Some, None}
 use Rattle.wd_lex.specs.declared.token.Terminal.TheVariants as m
 use Rattle.wd_lex.specs.declared.token.Token.{Token}
@@ -59,7 +59,7 @@ written_over select keys = before_keys select ++ grouped select None keys ++ sel
 abbrev pub head : GroupedPieces → OneTable → List (List Token) → List GroupKey → List Token
 head select one items keys = select_words select ++ replaced_items keys one.qualifier select.select.select items ++ table select one keys
 
--- GROUP BY columns and the clauses behind them
+-- GROUP BY columns and the clauses after them
 abbrev pub tail : GroupedPieces → OneTable → List GroupKey → List Token
 tail select one keys = grouped select one.qualifier keys ++ replaced keys one.qualifier 0 select.select.select.kind select.later ++ select.select.after
 

@@ -14,14 +14,14 @@ use wd_distinct_on::{column_of, item_of};
 use wd_lex::Token;
 use wd_using::ends_value;
 
-/// What is grouped by, and the name of the column that stands for it, if it is an expression.
+/// What is grouped by, and the name of the column that replaces it, if it is an expression.
 #[derive(Drop)]
 pub struct Key<'t> {
     pub value: &'t [Token],
     pub name: Option<&'static str>,
 }
 
-/// Whether it is `c` or `x.c`.
+/// Whether the tokens are `c` or `x.c`.
 pub fn is_column(tokens: &[Token]) -> bool
     ensures { result ≡ spec.is_column tokens.now }
 {
@@ -31,7 +31,7 @@ pub fn is_column(tokens: &[Token]) -> bool
     }
 }
 
-/// Whether it may be a list of keys.
+/// Whether a key may be a list of keys.
 pub fn begins_set(part: &[Token]) -> bool
     ensures { result ≡ spec.begins_set part.now }
 {
@@ -61,7 +61,7 @@ pub fn all_stay(mut parts: &[&[Token]]) -> bool
     true
 }
 
-/// The number of an item.
+/// The number of an item that a key is, if it is one.
 fn ordinal_of(part: &[Token]) -> Option<u64>
     ensures { result ≡ spec.ordinal_of part.now }
 {
@@ -71,7 +71,7 @@ fn ordinal_of(part: &[Token]) -> Option<u64>
     }
 }
 
-/// The item of that number, counted from 1.
+/// The item with this number, counted from 1.
 fn item_at<'t>(ordinal: u64, items: &[&'t [Token]]) -> Option<&'t [Token]>
     ensures { Finds (λ item. item.now) result (spec.item_at ordinal (map (λ item. item.now) items.now)) }
 {
@@ -87,7 +87,7 @@ fn item_at<'t>(ordinal: u64, items: &[&'t [Token]]) -> Option<&'t [Token]>
     None
 }
 
-/// Whether a name stands behind a value.
+/// Whether the tokens are the end of a value and a name that follows it.
 fn is_named_value(tokens: &[Token]) -> bool
     ensures { result ≡ spec.is_named_value tokens.now }
 {
@@ -97,7 +97,7 @@ fn is_named_value(tokens: &[Token]) -> bool
     }
 }
 
-/// An item without a name that stands behind its value.
+/// An item without the name that follows its value.
 fn without_name(item: &[Token]) -> &[Token]
     ensures { result.now ≡ spec.without_name item.now }
 {
@@ -108,7 +108,7 @@ fn without_name(item: &[Token]) -> &[Token]
     item
 }
 
-/// What an item stands for, without its name.
+/// The value of an item, without its name.
 fn value_in(item: &[Token]) -> &[Token]
     ensures { Finds (λ item. item.now) (Some result) (spec.value_of_item (Some item.now)) }
 {
@@ -118,7 +118,7 @@ fn value_in(item: &[Token]) -> &[Token]
     }
 }
 
-/// What a key stands for.
+/// The value of a key: that of the item with its number, or the key itself.
 fn value_of<'t>(items: &[&'t [Token]], part: &'t [Token]) -> Option<&'t [Token]>
     ensures { Finds (λ value. value.now) result (spec.value_of (map (λ item. item.now) items.now) part.now) }
 {
@@ -131,7 +131,7 @@ fn value_of<'t>(items: &[&'t [Token]], part: &'t [Token]) -> Option<&'t [Token]>
     }
 }
 
-/// The name of the column that stands for an expression, where so many stand before it.
+/// The name of the column for an expression; `number` expressions come before it.
 fn name_at(number: usize) -> Option<&'static str>
     ensures { Finds (λ name. name.now) result (spec.name_at number) }
 {
@@ -154,7 +154,7 @@ const MOST_NAMES: usize = 8;
 // The most tokens of an expression.
 const MOST_IN_EXPRESSION: usize = 256;
 
-/// Whether OVER stands among the tokens.
+/// Whether OVER is among the tokens.
 fn has_over(mut tokens: &[Token]) -> bool
     ensures { result ≡ has kinds.is_over tokens.entry.now }
 {
@@ -174,7 +174,7 @@ fn may_group(value: &[Token]) -> bool
     value.len() <= MOST_IN_EXPRESSION && !has_over(value)
 }
 
-/// An expression as a key, where so many stand before it.
+/// An expression as a key; `number` expressions come before it.
 fn named(number: usize, value: &[Token]) -> Option<Key<'_>>
     ensures { Finds group_key result (spec.named value.now (spec.name_at number)) }
 {
@@ -187,7 +187,7 @@ fn named(number: usize, value: &[Token]) -> Option<Key<'_>>
     }
 }
 
-/// A key, where so many expressions stand before it.
+/// A key; `number` expressions come before it.
 fn key_of<'t>(number: usize, items: &[&'t [Token]], part: &'t [Token]) -> Option<Key<'t>>
     ensures { Finds group_key result (spec.key_of number (map (λ item. item.now) items.now) part.now) }
 {
@@ -204,7 +204,7 @@ fn key_of<'t>(number: usize, items: &[&'t [Token]], part: &'t [Token]) -> Option
     }
 }
 
-/// How many expressions stand before the next key.
+/// How many expressions come before the next key.
 fn next(number: usize, key: &Key) -> usize
     ensures { result ≡ spec.next number (group_key key.now).name }
 {
@@ -214,7 +214,7 @@ fn next(number: usize, key: &Key) -> usize
     }
 }
 
-/// The keys among such items, if each is read.
+/// The keys, by these items, if each is read.
 pub fn keys_of<'t>(
     alloc: Global,
     items: &[&'t [Token]],

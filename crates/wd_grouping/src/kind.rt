@@ -19,7 +19,7 @@ pub fn is_over(kind: &TokenKind) -> bool
     matches!(kind, TokenKind::Terminal(Terminal::Over))
 }
 
-/// The number that stands there.
+/// The number that a token is, if it is one.
 pub fn number_of(kind: &TokenKind) -> Option<u64>
     ensures { result ≡ spec.number_of kind.now }
 {
@@ -29,7 +29,7 @@ pub fn number_of(kind: &TokenKind) -> Option<u64>
     }
 }
 
-/// Whether a bracket or a plus sign stands there.
+/// Whether a token is a bracket or a plus sign.
 pub fn is_plain(kind: &TokenKind) -> bool
     ensures { result ≡ spec.is_plain kind.now }
 {
@@ -39,7 +39,7 @@ pub fn is_plain(kind: &TokenKind) -> bool
     )
 }
 
-/// Whether ROLLUP, CUBE or GROUPING stands there.
+/// Whether a token is ROLLUP, CUBE or GROUPING.
 pub fn begins_sets(kind: &TokenKind) -> bool
     ensures { result ≡ spec.begins_sets kind.now }
 {
@@ -53,7 +53,7 @@ pub fn begins_sets(kind: &TokenKind) -> bool
     }
 }
 
-/// Whether an operand of its own begins behind it.
+/// Whether a separate operand begins after this token.
 pub fn begins_operand(kind: &TokenKind) -> bool
     ensures { result ≡ spec.begins_operand kind.now }
 {
@@ -72,7 +72,7 @@ pub fn begins_operand(kind: &TokenKind) -> bool
     )
 }
 
-/// Whether a bracket, a comma, AS, a word of CASE, of a frame or of a later clause stands there.
+/// Whether a token is a bracket, a comma, AS, or a word of CASE, of a frame or of a later clause.
 fn stops_operand(kind: &TokenKind) -> bool
     ensures { result ≡ spec.stops_operand kind.now }
 {
@@ -100,7 +100,7 @@ fn stops_operand(kind: &TokenKind) -> bool
     )
 }
 
-/// Whether an operand of its own ends before it.
+/// Whether a separate operand ends before this token.
 pub fn ends_operand(kind: &TokenKind) -> bool
     ensures { result ≡ spec.ends_operand kind.now }
 {

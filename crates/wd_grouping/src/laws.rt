@@ -2,7 +2,7 @@
 
 ghost use Rattle.wd_grouping.specs.Examples.{ExpressionsComeOut};
 
-/// Worked queries: what is written in their place, and which are left as they are.
+/// Worked queries: what replaces them, and which stay unchanged.
 pub fn expressions_come_out()
     ensures { ExpressionsComeOut }
 {}

@@ -1,7 +1,7 @@
-//! GROUP BY numbers of items and expressions, by columns: `SELECT x.c AS n, SUM( y ) .. GROUP BY 1` groups by `x.c`, and
+//! GROUP BY with numbers of items and expressions, respelled by columns: `SELECT x.c AS n, SUM( y ) .. GROUP BY 1` groups by `x.c`, and
 //! `SELECT a + b AS s .. FROM t GROUP BY 1` by a column of `( SELECT *, a + b AS "group 1" FROM t ) AS t`. `select` finds the pieces of
-//! such a select and `source` its table, `key` reads its keys, `replace` finds their expressions in its items and later clauses, `write`
-//! writes the select with them, and `respell` goes through a query from its end. `kind` says what single tokens are; `laws` has
+//! such a select and `source` its table, `key` reads its keys, `replace` finds the keys' expressions in its items and later clauses,
+//! `write` writes the select with them, and `respell` goes through a query from its end. `kind` says what single tokens are; `laws` has
 //! worked queries.
 #![tactic(auto)]
 

@@ -1,4 +1,4 @@
-//! Tokens in which each expression of a key that stands as an operand of its own is the column that stands for it.
+//! Tokens in which each expression of a key that is a separate operand is replaced by its column.
 
 ghost use Rattle.std.specs.Prelude.{◌≡◌, ◌∷◌, [], map, option_map};
 ghost use Rattle.wd_clauses.specs.Given.{Finds, Writes};
@@ -15,14 +15,14 @@ use wd_distinct_on::{add_placed, added_name, is_dot, strip};
 use wd_lex::{Terminal, Token, TokenKind};
 use wd_using::is_star;
 
-/// The column that stands for an expression, and how many tokens that is.
+/// The column that replaces an expression, and how many tokens the expression is.
 #[derive(Clone, Copy)]
 pub struct Operand {
     pub name: &'static str,
     pub count: usize,
 }
 
-/// Whether an operand ends before these tokens, as before the name of an item.
+/// Whether an operand ends before these tokens, such as before the name of an item.
 fn ends(tokens: &[Token]) -> bool
     ensures { result ≡ spec.ends (Some tokens.now) }
 {
@@ -33,7 +33,7 @@ fn ends(tokens: &[Token]) -> bool
     }
 }
 
-/// The expression of a key, if it stands first and ends there.
+/// The expression of a key, if it is an operand at the start of the tokens.
 fn operand_by(key: &Key, tokens: &[Token]) -> Option<Operand>
     ensures { Finds named.operand result (spec.operand_by (named.group_key key.now).name (named.group_key key.now).value tokens.now) }
 {
@@ -47,7 +47,7 @@ fn operand_by(key: &Key, tokens: &[Token]) -> Option<Operand>
     }
 }
 
-/// The first key whose expression stands first and ends there.
+/// The expression of the first key that is an operand at the start of the tokens.
 fn operand_of(keys: &[Key], tokens: &[Token]) -> Option<Operand>
     ensures { Finds named.operand result (spec.operand_of (map named.group_key keys.now) tokens.now) }
 {
@@ -61,7 +61,7 @@ fn operand_of(keys: &[Key], tokens: &[Token]) -> Option<Operand>
     None
 }
 
-/// The operand of its own that stands behind such a token.
+/// The separate operand after this token, if there is one.
 fn operand_at(keys: &[Key], before: &TokenKind, tokens: &[Token]) -> Option<Operand>
     ensures { Finds named.operand result (spec.operand_at (map named.group_key keys.now) before.now tokens.now) }
 {
@@ -84,7 +84,7 @@ pub fn add_name(
     Ok(())
 }
 
-/// Whether a dot stands first.
+/// Whether the tokens begin with a dot.
 pub fn begins_dot(tokens: &[Token]) -> bool
     ensures { result ≡ kinds.begins kinds.is_dot tokens.now }
 {
@@ -94,7 +94,7 @@ pub fn begins_dot(tokens: &[Token]) -> bool
     }
 }
 
-/// Adds a token before those; the name of a table becomes that of the one which stands for several.
+/// Adds the token before these; if it is a table's name before a column and one table replaces several, that table's name is added.
 pub fn add_its_table(
     written: &mut Vec<Token>,
     table: Option<&Token>,
@@ -115,7 +115,7 @@ pub fn add_its_table(
     }
 }
 
-/// Adds tokens in which the name of each table is that of the one which stands for several.
+/// Adds tokens; where one table replaces several, its name replaces each table's name before a column.
 pub fn add_qualified(
     written: &mut Vec<Token>,
     table: Option<&Token>,
@@ -131,7 +131,7 @@ pub fn add_qualified(
     Ok(())
 }
 
-/// Adds what is written at a token.
+/// Adds what is written for a token.
 fn add_at(
     alloc: Global,
     written: &mut Vec<Token>,
@@ -154,7 +154,7 @@ fn add_at(
     }
 }
 
-/// How many further tokens an operand is.
+/// How many further tokens belong to an operand.
 fn passed_by(operand: Option<Operand>) -> usize
     ensures { result ≡ spec.passed_by (option_map named.operand operand) }
 {
@@ -193,7 +193,7 @@ pub fn add_replaced(
     Ok(())
 }
 
-/// The column that stands for an item, if it is nothing but an expression.
+/// The column that replaces an item, if the item is nothing but an expression.
 fn whole(keys: &[Key], item: &[Token]) -> Option<&'static str>
     ensures { Finds (λ name. name.now) result (spec.whole (map named.group_key keys.now) item.now) }
 {
@@ -203,7 +203,7 @@ fn whole(keys: &[Key], item: &[Token]) -> Option<&'static str>
     }
 }
 
-/// Adds a column with the name of an item that has none.
+/// Adds a column, with the name that an item without a name gets.
 fn add_unnamed(
     alloc: Global,
     written: &mut Vec<Token>,
@@ -257,7 +257,7 @@ pub fn add_items(
     Ok(())
 }
 
-/// Whether a star stands last.
+/// Whether an item ends with a star.
 fn ends_with_star(item: &[Token]) -> bool
     ensures { result ≡ spec.ends_with_star item.now }
 {
@@ -284,7 +284,7 @@ pub fn have_star(mut items: &[&[Token]]) -> bool
     false
 }
 
-/// Whether an item is nothing but an expression, and may have the name of a column.
+/// Whether an item is nothing but an expression, and may get its name from a column.
 fn is_unclear(keys: &[Key], item: &[Token]) -> bool
     ensures { result ≡ spec.is_unclear (map named.group_key keys.now) item.now }
 {
@@ -294,7 +294,7 @@ fn is_unclear(keys: &[Key], item: &[Token]) -> bool
     }
 }
 
-/// Whether no item that is nothing but an expression may have the name of a column.
+/// Whether no item that is nothing but an expression may get its name from a column.
 pub fn are_clear(keys: &[Key], items: &[&[Token]]) -> bool
     ensures { result ≡ spec.are_clear (map named.group_key keys.now) (map (λ item. item.now) items.now) }
 {

@@ -20,7 +20,7 @@ use wd_using::select_at;
 // The most selects that are looked at.
 const MOST_SELECTS: usize = 128;
 
-/// What stands for a select over its one table, if the name of each item is clear.
+/// The replacement of a select over its one table, if the name of each item is clear.
 fn if_clear(
     alloc: Global,
     front: &[Token],
@@ -38,7 +38,7 @@ fn if_clear(
     Ok(None)
 }
 
-/// What stands for a select over its several tables.
+/// The replacement of a select over its several tables.
 fn over_tables(
     alloc: Global,
     front: &[Token],
@@ -59,7 +59,7 @@ fn over_tables(
     }
 }
 
-/// What stands for a select, by its keys.
+/// The replacement of a select, by its keys.
 fn with_keys(
     alloc: Global,
     front: &[Token],
@@ -85,7 +85,7 @@ fn with_keys(
     }
 }
 
-/// What stands for a select, by the parts of its keys.
+/// The replacement of a select, by the parts of its keys.
 fn with_parts<'t>(
     alloc: Global,
     front: &[Token],
@@ -107,7 +107,7 @@ fn with_parts<'t>(
     }
 }
 
-/// What stands for a select, by its items.
+/// The replacement of a select, by its items.
 fn with_items<'t>(
     alloc: Global,
     front: &[Token],
@@ -125,7 +125,7 @@ fn with_items<'t>(
     }
 }
 
-/// What stands for a select behind these tokens.
+/// The replacement of a select after these tokens.
 fn respelled_select(
     alloc: Global,
     front: &[Token],
@@ -197,7 +197,8 @@ impl Selects for ExpressionKeys {
     }
 }
 
-/// The query with columns for the keys of GROUP BY, as far as its selects are read.
+/// The query with columns for the keys of GROUP BY, as far as its selects are read. The error is `TooLong` where the query, or what is
+/// written, has more than 65,536 tokens.
 pub fn without_expression_keys(alloc: Global, tokens: &[Token]) -> Result<Vec<Token>, RespellError>
     ensures { Gives (λ x. x.items) result (spec.respelled tokens.now) }
 {

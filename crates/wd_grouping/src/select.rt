@@ -12,7 +12,7 @@ use wd_distinct_on::is_by;
 use wd_lex::Token;
 use wd_using::Select;
 
-/// A select, its WHERE clause, its keys behind GROUP BY, and the clauses behind them.
+/// A select, its WHERE clause, its keys after GROUP BY, and the clauses after them.
 #[derive(Drop)]
 pub struct Grouped<'t> {
     pub select: Select<'t>,

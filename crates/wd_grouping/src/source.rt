@@ -11,7 +11,7 @@ use wd_clauses::{closing, is_name};
 use wd_lex::Token;
 use wd_using::{Alias, alias_at, opens};
 
-/// FROM, the name by which the columns of its one table are called, and that name again where it stands for the names of several tables.
+/// FROM, the name under which the columns of its one table are known, and that name again where the table replaces several tables.
 #[derive(Clone, Copy)]
 pub struct OneTable<'t> {
     pub from: &'t Token,
@@ -19,7 +19,7 @@ pub struct OneTable<'t> {
     pub qualifier: Option<&'t Token>,
 }
 
-/// A table of such a name, which stands for the several ones behind FROM.
+/// A table with this name, which replaces the several tables after FROM.
 pub fn tables_called<'t>(from: &'t Token, alias: &'t Token) -> OneTable<'t>
     ensures { named.one_table result ≡ spec.tables_called from.now alias.now }
 {
@@ -30,7 +30,7 @@ pub fn tables_called<'t>(from: &'t Token, alias: &'t Token) -> OneTable<'t>
     }
 }
 
-/// A table, if it and its alias are all there is.
+/// A table, if it and its alias are all that the clause has.
 fn if_all<'t>(from: &'t Token, count: usize, alias: Alias<'t>) -> Option<OneTable<'t>>
     ensures { Finds named.one_table result (spec.if_all from.now count (table_alias alias.entry)) }
 {
@@ -44,7 +44,7 @@ fn if_all<'t>(from: &'t Token, count: usize, alias: Alias<'t>) -> Option<OneTabl
     None
 }
 
-/// `[AS] alias` behind a query in brackets
+/// `[AS] alias` after a query in brackets
 fn behind_query<'t>(
     from: &'t Token,
     bracket: &'t Token,

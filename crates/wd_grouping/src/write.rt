@@ -1,4 +1,4 @@
-//! The select that stands for one with GROUP BY.
+//! The select that replaces one with GROUP BY.
 
 ghost use Rattle.std.specs.Prelude.{◌≡◌, ◌∷◌, ◌++◌, [], map, option_map};
 ghost use Rattle.wd_clauses.specs.Given.{Makes, Writes};
@@ -90,7 +90,7 @@ fn add_named(
     Ok(())
 }
 
-/// Adds the column that stands for a key.
+/// Adds the column for a key.
 fn add_column(
     alloc: Global,
     written: &mut Vec<Token>,
@@ -108,7 +108,7 @@ fn add_column(
     }
 }
 
-/// Adds the columns that stand for keys.
+/// Adds the columns for keys.
 fn add_columns(
     alloc: Global,
     written: &mut Vec<Token>,
@@ -191,7 +191,7 @@ fn add_before_keys(written: &mut Vec<Token>, select: &Grouped) -> Result<(), Res
     Ok(())
 }
 
-/// The select whose keys are columns of its tables, and what follows it, behind these tokens.
+/// The select whose keys are columns of its tables, and what follows it, after these tokens.
 pub fn written_over(
     alloc: Global,
     front: &[Token],
@@ -255,7 +255,7 @@ fn add_tail(
     Ok(())
 }
 
-/// The select over the table that has its keys, and what follows it, behind these tokens.
+/// The select over the table that has its keys, and what follows it, after these tokens.
 pub fn written(
     alloc: Global,
     front: &[Token],

@@ -1,7 +1,7 @@
--- The headline: if `verify` accepts a certificate for a schema and a query, then for every instance that meets the schema, in any
--- order of its rows, under all lawful orderings, the query has one multiset of answer rows or one named fault, and every answer of
--- `run` is that one. (`verify` and `run` may refuse for want of memory, and `run` where a step has more than 10,000,000 rows: then
--- there is no answer of theirs to speak of. The outcomes spoken of here have no such limit.)
+-- The headline: if `verify` accepts a certificate for a schema and a query, then for every instance that meets the schema, in any order
+-- of its rows, under all lawful orderings, the query has one multiset of answer rows or one named fault, and every answer of `run` is
+-- that one. (`verify` and `run` may refuse because memory runs out, and `run` where a step has more than 10,000,000 rows: then the laws
+-- say nothing of their answer. The outcomes of the definitions have no such limit.)
 use Rattle.std.specs.Prelude.{ℕ, List}
 use Rattle.wd_value.specs.Rows.{Instance}
 use Rattle.wd_schema.specs.Meets.{Meets}
@@ -44,14 +44,14 @@ ListHeadline = (schema query certificate : List ℕ) → IsListAccepted schema q
     → IsValidChoice read.plan instance c1 → IsValidChoice read.plan other c2
     → AgreeAsLists (outcome read.plan instance c1) (outcome read.plan other c2)
 
--- What `run` answers over data is that list or fault.
+-- What `run` answers over data is the query's one list or fault.
 abbrev pub RunsGiveTheList : Type 0
 RunsGiveTheList = (schema query certificate : List ℕ) (given : List (List ℕ × List ℕ)) (names : List (List ℕ)) (answer : RowsOrFault)
     → IsListAccepted schema query certificate → (run : IsAnswer schema query given names answer)
     → (other : Instance) (choice : List (List ℕ)) → SameTables run.instance other → IsValidChoice run.read.plan other choice
     → AgreeAsLists answer (outcome run.read.plan other choice)
 
--- No schema and query have both a certificate that is accepted and a witness that is.
+-- No schema and query have both a certificate that is accepted and a witness that is accepted.
 abbrev pub AcceptedIsNotRefuted : Type 0
 AcceptedIsNotRefuted = (schema query certificate witness : List ℕ) → IsAccepted schema query certificate → IsRefuted schema query witness → ⊥
 

@@ -15,7 +15,7 @@ pub fn headline()
     accepted_has_one();
 }
 
-/// And every answer of `run` is that one.
+/// Where `verify` accepts a certificate, every answer of `run` is the query's one answer.
 pub fn runs_give_it()
     ensures { RunsGiveIt }
 {
@@ -31,7 +31,7 @@ pub fn list_headline()
     listed_has_one_list();
 }
 
-/// And every answer of `run` is that one.
+/// Where `verify_list` accepts a certificate, every answer of `run` is the query's one list or fault.
 pub fn runs_give_the_list()
     ensures { RunsGiveTheList }
 {

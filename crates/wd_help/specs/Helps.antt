@@ -16,7 +16,7 @@ pub record IsHelp (schema query : List ℕ) (help : Help) : Type 0 where
   pub certificate : Certificate
   pub decided : IsVerdict schema help.text.items (Deterministic certificate)
 
--- how many lists are tried on a query of so many bytes (this project's choice)
+-- how many lists are tried on a query with the given number of bytes (this project's choice)
 abbrev pub most_lists : ℕ → ℕ
 most_lists bytes = min 1000 (2000000 / max bytes 1)
 
@@ -27,12 +27,12 @@ lists_tried query lists = slice_range lists 0 (min (most_lists (length query)) (
 abbrev pub help_of : Mended → Help
 help_of mended = record { changes = mended.changes; text = mended.text }
 
--- what is mended by one list is the help
+-- a query mended by one list is the help
 abbrev pub Gives : Option Mended → Option Help → Type 0
 Gives None help = ⊤
 Gives (Some mended) help = help ≡ Some (help_of mended)
 
--- where one of the lists mends the query, put at the places of what is open first, the help is the first such
+-- if one of the lists mends the query, put at the places of what is open first, the help is the first such list
 pub record IsFirstHelp (schema query : List ℕ) (sites : List PlanSite) (lists : List (String Global)) (help : Option Help) : Type 0 where
   pub mended : Option Mended
   pub first : IsMendedFirst schema query sites (lists_tried query lists) mended

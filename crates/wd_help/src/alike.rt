@@ -1,4 +1,4 @@
-//! Changes with which rows that tie are treated alike, for all that is open in a query.
+//! Changes with which rows that tie are treated alike, for everything that is open in a query.
 
 use crate::search::{Open, examined, open_in};
 use std::alloc::Global;
@@ -8,8 +8,8 @@ use wd_lex::{Token, lex};
 use wd_sites::PlanSite;
 use wd_value::OutOfMemory;
 
-/// A change at each place that is open in a query. None where nothing is open, where one of the places has no such change, and where
-/// a text is refused.
+/// A change at each place that is open in a query. `None` where nothing is open, where one of the places has no such change, or where a
+/// text is refused.
 pub(crate) fn all_alike(
     alloc: Global,
     schema: &[u8],
@@ -43,7 +43,7 @@ fn changes_for(
     Ok(Some(changes))
 }
 
-/// Adds the changes at the sites of a reason; whether each of them has one, and there are some.
+/// Adds the changes at the sites of a reason. Returns whether there are sites and each has a change.
 fn add_alike(
     alloc: Global,
     tokens: &[Token],
@@ -64,7 +64,7 @@ fn add_alike(
     Ok(some)
 }
 
-/// Adds a change at its place among those of a text.
+/// Inserts a change at its place among those of a text.
 fn insert(changes: &mut Vec<Change>, change: Change) -> Result<(), OutOfMemory> {
     let before = changes.iter().filter(|other| other.at < change.at).count();
     changes.insert(before.min(changes.len()), change)?;

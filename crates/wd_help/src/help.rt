@@ -22,12 +22,12 @@ pub struct Help {
     pub text: Vec<u8>,
 }
 
-/// Sort keys for the window calls and the limits of a query that are open, so that the verdict on the changed text is DETERMINISTIC. Where
-/// the window calls and the limits of the query stand is told, and which lists of sort keys may be tried.
+/// Sort keys for the window calls and the limits of a query that are open, so that the verdict on the changed text is DETERMINISTIC.
+/// The caller says where the query's window calls and limits are, and which lists of sort keys may be tried.
 ///
-/// Of so many lists as a query of this length is asked about, the first with which nothing is open is taken, put where the first call or
-/// limit that is open stands. Where none of them serves, for each ORDER BY the first list is taken with which less is open. None where
-/// no such lists are found, and where nothing is open or a text is refused.
+/// Only as many lists are tried as a query of this length allows. The first with which nothing is open is taken, put at the places of
+/// the first call or limit that is open. If there is none, for each ORDER BY the first list is taken with which less is open. `None`
+/// where no such lists are found, or where nothing is open or a text is refused.
 pub fn help_for(
     alloc: Global,
     schema: &[u8],
@@ -45,7 +45,7 @@ pub fn help_for(
     }
 }
 
-/// The help that a mended text is.
+/// A mended text as a help.
 fn help_of(mended: Mended) -> Help
     ensures { result ≡ help_of mended }
 {
@@ -70,8 +70,8 @@ fn further_help(
 }
 
 /// Changes with which rows that tie are treated alike at each place that is open in a query, so that the verdict on the changed text is
-/// DETERMINISTIC: RANK in the place of ROW_NUMBER, and WITH TIES for a limit without an OFFSET. None where one of the places has no such
-/// change, and where nothing is open or a text is refused.
+/// DETERMINISTIC: RANK in place of ROW_NUMBER, and WITH TIES for a limit without an OFFSET. `None` where one of the places has no such
+/// change, or where nothing is open or a text is refused.
 pub fn alike_for(alloc: Global, schema: &[u8], query: &[u8]) -> Result<Option<Help>, OutOfMemory>
     ensures { IfOk result (λ found. IfSome found (IsHelp schema.now query.now)) }
 {
@@ -81,7 +81,7 @@ pub fn alike_for(alloc: Global, schema: &[u8], query: &[u8]) -> Result<Option<He
     }
 }
 
-/// The changes, where they help.
+/// The changes, if they help.
 fn judged(
     alloc: Global,
     schema: &[u8],
@@ -96,7 +96,7 @@ fn judged(
     }
 }
 
-/// The changes, where the verdict on their text is DETERMINISTIC.
+/// The changes, if the verdict on their text is DETERMINISTIC.
 fn decided(
     alloc: Global,
     schema: &[u8],

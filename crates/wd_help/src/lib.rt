@@ -1,7 +1,7 @@
 //! Changes with which a query that may have several answers has one.
 //!
-//! `search` puts sort keys into the text and asks the analysis which of them close what is open; `alike` has the changes with which
-//! rows that tie are treated alike. `help` asks for the verdict on the text with either.
+//! `search` puts sort keys into the text and asks the analysis with which of them nothing stays open; `alike` has the changes with
+//! which rows that tie are treated alike. `help` asks for the verdict on the changed text.
 #![tactic(auto)]
 
 mod alike;

@@ -1,7 +1,7 @@
-//! Which sort keys close what is open in a query: they are put in, and the analysis is asked what is open then.
+//! Which sort keys leave nothing open in a query: they are put in, and the analysis is asked what is open then.
 //!
-//! Place after place is closed, the first that is open next. A key that closes one may open another, which had no part in the
-//! answer before (two orderings of rows that may be exchanged under one alone): that one's turn comes then.
+//! Place after place is closed, the first that is open next. A key that closes one place may open another one (rows may be exchanged
+//! under only one of two orderings): that place is closed next.
 
 ghost use Rattle.std.specs.Prelude.{◌≡◌};
 ghost use Rattle.wd_help.specs.Helps.{most_lists};
@@ -17,13 +17,13 @@ use wd_value::OutOfMemory;
 /// The most questions about one query.
 const MOST_QUESTIONS: usize = 1000;
 
-/// The most bytes that the texts of all questions about one query have.
+/// The most bytes that the texts of all questions about one query may have together.
 const MOST_BYTES: usize = 2_000_000;
 
 /// The most orderings that are changed.
 const MOST_ROUNDS: usize = 16;
 
-/// What is open in a text, and where its window calls and limits stand.
+/// What is open in a text, and where its window calls and limits are.
 #[derive(Drop)]
 pub(crate) struct Open {
     pub(crate) reasons: Vec<Reason>,
@@ -43,13 +43,13 @@ struct Search<'a> {
     alloc: Global,
     schema: &'a [u8],
     query: &'a [u8],
-    /// Where its window calls and limits stand as it is.
+    /// Where its window calls and limits are in the unchanged text.
     sites: &'a [PlanSite],
     /// The lists of sort keys that are tried.
     candidates: &'a [String],
 }
 
-/// How many lists are tried on a query of so many bytes.
+/// How many lists are tried on a query of `bytes` bytes.
 pub(crate) fn most_lists(bytes: usize) -> usize
     ensures { result ≡ most_lists bytes }
 {
@@ -74,7 +74,7 @@ pub(crate) fn found(
     search.run()
 }
 
-/// What the analysis finds of a text. None where the text is refused.
+/// What the analysis finds of a text. `None` where the text is refused.
 pub(crate) fn examined(
     alloc: Global,
     schema: &[u8],
@@ -122,7 +122,7 @@ impl Search<'_> {
         Ok(None)
     }
 
-    /// What is open with these changes. None where the text is refused then.
+    /// What is open with these changes. `None` where the changed text is refused.
     fn open_with(self, changes: &[Change]) -> Result<Option<Open>, OutOfMemory> {
         let alloc = self.alloc;
         let Some(text) = changed(alloc, self.query, changes)? else {
@@ -134,7 +134,7 @@ impl Search<'_> {
         }
     }
 
-    /// The first further change that closes a place which is open.
+    /// The first further change that closes a place that is open.
     fn closed(self, step: &Step, tried: &mut usize) -> Result<Option<Step>, OutOfMemory> {
         for reason in &step.open.reasons {
             let places = self.places_of(&step.open, *reason)?;
@@ -184,12 +184,12 @@ impl Search<'_> {
         Ok(false)
     }
 
-    /// Whether no further question is asked.
+    /// Whether no further question may be asked.
     fn is_spent(self, tried: usize) -> bool {
         tried >= most_lists(self.query.len())
     }
 
-    /// Where keys can be added for what is open there, each place once.
+    /// Where keys can be added for this reason, each place once.
     fn places_of(self, open: &Open, reason: Reason) -> Result<Vec<KeyPlace>, OutOfMemory> {
         let mut places: Vec<KeyPlace> = Vec::new(self.alloc);
         if open.sites.len() != self.sites.len() {
@@ -244,7 +244,7 @@ impl Search<'_> {
     }
 }
 
-/// Whether a key can be added at one place for both.
+/// Whether two lists of places have a place in common.
 fn share_a_place(some: &[KeyPlace], others: &[KeyPlace]) -> bool {
     some.iter()
         .any(|place| others.iter().any(|other| other.at == place.at))

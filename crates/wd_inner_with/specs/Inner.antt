@@ -1,4 +1,4 @@
--- A query without WITH clauses within brackets. The last one is taken out first, so those within others come before these.
+-- A query without WITH clauses within brackets. The last one is taken out first, so that a clause within another is taken out before it.
 use Rattle.std.specs.Prelude.{ℕ, zero, suc, ◌-◌, ◌==◌, ◌<◌, ◌≡◌, ◌&&◌, if◌then◌else◌, nat_lt, Bool, false, List, [], ◌∷◌, ◌++◌, length, take, drop, Option, Some, None, Result, Ok, Err}
 use Rattle.wd_lex.specs.declared.token.Token.{Token}
 use Rattle.wd_clauses.specs.declared.error.RespellError.{RespellError}
@@ -9,16 +9,16 @@ use Rattle.wd_distinct_on.specs.Kinds.{begins}
 use Rattle.wd_with.specs.Expanded.{Said, expanded}
 use Rattle.wd_with.specs.Members.{is_with}
 
--- a bracket and WITH
+-- whether tokens begin with a bracket and WITH
 abbrev pub begins_inner : List Token → Bool
 begins_inner [] = false
 begins_inner (bracket ∷ tokens) = opens bracket.kind && begins is_with tokens
 
--- a query in brackets, between tokens
+-- a query in brackets, put between tokens
 abbrev pub between : List Token → Token → Said → List Token → Said
 between front bracket inner after = record { tokens = front ++ bracket ∷ (inner.tokens ++ after); read_twice = inner.read_twice }
 
--- the query up to the bracket that closes, between these tokens
+-- the query up to the bracket that closes it, put between these tokens
 abbrev pub up_to : List Token → Token → List Token → Option ℕ → Option Said
 up_to front bracket tokens None = None
 up_to front bracket tokens (Some place) = Some (between front bracket (expanded (take place tokens)) (drop place tokens))
@@ -27,7 +27,7 @@ abbrev pub opened : List Token → List Token → Option Said
 opened front [] = None
 opened front (bracket ∷ tokens) = if begins_inner (bracket ∷ tokens) then up_to front bracket tokens (closing tokens) else None
 
--- a query in which the WITH clause in the bracket at a place is taken out, and the names that are read more than once there
+-- a query without the WITH clause in the bracket at a place, and the names that are read more than once there
 unfoldable pub opened_at : ℕ → List Token → Option Said
 opened_at place tokens = opened (take place tokens) (drop place tokens)
 
@@ -38,7 +38,7 @@ most_inner = 128
 abbrev pub fewer : ℕ → List Token → ℕ
 fewer left tokens = if begins_inner tokens then left - 1 else left
 
--- further names behind those
+-- a query, with these names before the names that are read more than once there
 abbrev pub behind : List Token → Said → Said
 behind names query = record { tokens = query.tokens; read_twice = names ++ query.read_twice }
 
@@ -46,13 +46,13 @@ abbrev pub turned : (Said → Result Said RespellError) → Said → Option Said
 turned go query None = go query
 turned go query (Some new) = if nat_lt most_tokens (length new.tokens) then Err TooLong else go (behind query.read_twice new)
 
--- without the WITH clauses in brackets at the first so many places, from the last to the first, and at most so many of them
+-- a query without the WITH clauses in brackets at the first N places, from the last to the first, at most the given number of them
 unfoldable pub opened_below : ℕ → ℕ → Said → Result Said RespellError
 opened_below left zero query = Ok query
 opened_below left (suc place) query =
     if left == 0 then Ok query else turned (opened_below (fewer left (drop place query.tokens)) place) query (opened_at place query.tokens)
 
--- a query without WITH clauses within brackets, and the names that are read more than once there, of the last clause first
+-- a query without WITH clauses within brackets, and the names that are read more than once there, those of the last clause first
 abbrev pub without_inner : List Token → Result Said RespellError
 without_inner tokens =
     if nat_lt most_tokens (length tokens) then Err TooLong

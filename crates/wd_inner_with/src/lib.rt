@@ -1,5 +1,5 @@
-//! WITH within brackets: `( WITH a AS ( q ) .. )` is `( .. )` with `( q ) AS a` in place of each table `a`, as wd_with takes out
-//! the WITH clause with which a query begins. `opened` takes out one, `walk` all, the last one first.
+//! WITH within brackets: `( WITH a AS ( q ) .. )` is `( .. )` with `( q ) AS a` in place of each table `a`, just as wd_with takes out
+//! the WITH clause at the start of a query. `opened` takes out one clause, `walk` all of them, the last one first.
 #![tactic(auto)]
 
 mod opened;

@@ -12,7 +12,7 @@ use wd_distinct_on::cut;
 use wd_lex::{Terminal, Token, TokenKind};
 use wd_with::{Expanded, without_with};
 
-/// Whether a bracket and WITH stand first.
+/// Whether the tokens begin with a bracket and WITH.
 pub fn begins_inner(tokens: &[Token]) -> bool
     ensures { result ≡ spec.begins_inner tokens.now }
 {
@@ -25,7 +25,7 @@ pub fn begins_inner(tokens: &[Token]) -> bool
     }
 }
 
-/// A query in brackets without its WITH clause, between tokens.
+/// A query in brackets without its WITH clause, put between these tokens.
 fn between(
     alloc: Global,
     front: &[Token],
@@ -46,7 +46,7 @@ fn between(
     })
 }
 
-/// The query up to the bracket that closes, between these tokens.
+/// The query up to the bracket that closes it, put between these tokens.
 fn up_to(
     alloc: Global,
     front: &[Token],
@@ -64,7 +64,7 @@ fn up_to(
     }
 }
 
-/// The query in which the WITH clause in the bracket at a place is taken out.
+/// The query without the WITH clause in the bracket at a place.
 #[tactic(auto, unfolding(crate::specs::Inner::opened_at))]
 pub fn opened_at(
     alloc: Global,

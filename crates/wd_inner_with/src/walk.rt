@@ -18,7 +18,7 @@ const MOST_TOKENS: usize = 65_536;
 // The most WITH clauses within brackets that are looked at.
 const MOST_INNER: usize = 128;
 
-/// How many clauses are left to be looked at, where one may begin at a place.
+/// How many clauses are left to be looked at, if one may begin at a place.
 fn fewer(left: usize, place: usize, tokens: &[Token]) -> usize
     ensures { result ≡ spec.fewer left (drop place tokens.now) }
 {
@@ -29,7 +29,7 @@ fn fewer(left: usize, place: usize, tokens: &[Token]) -> usize
     left
 }
 
-/// Adds names behind others.
+/// Appends names.
 fn add_names(names: &mut Vec<Token>, mut more: &[Token]) -> Result<(), AllocError>
     ensures { IfOk result (λ _. names.new.items ≡ names.old.items ++ more.entry.now) }
 {
@@ -40,8 +40,8 @@ fn add_names(names: &mut Vec<Token>, mut more: &[Token]) -> Result<(), AllocErro
     Ok(())
 }
 
-/// The query without WITH clauses within brackets, and the names of the members of these that are read more than once. An error
-/// if the query, or what is written, is longer than 65,536 tokens, or if memory ran out.
+/// The query without WITH clauses within brackets, and the names of the members of these that are read more than once. An error if the
+/// query, or what is written, is longer than 65,536 tokens, or if memory runs out.
 #[tactic(auto, unfolding(crate::specs::Inner::opened_below))]
 pub fn without_inner_with(alloc: Global, tokens: &[Token]) -> Result<Expanded, RespellError>
     ensures { spec.GivesSaid members.said result (spec.without_inner tokens.now) }

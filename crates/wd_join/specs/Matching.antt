@@ -32,7 +32,7 @@ ascending = record { desc = false; nulls_first = false }
 abbrev pub equal : JoinColumns → Row → Row → Value
 equal c l r = comparison Equal (column_of l c.left) (column_of r c.right)
 
--- those in all of the columns are; NULL equals nothing
+-- a pair's values in all of the columns are equal; NULL equals nothing
 abbrev pub agree : List JoinColumns → Row → Row → Bool
 agree [] l r = true
 agree (c ∷ columns) l r = is_true (equal c l r) && agree columns l r
@@ -41,7 +41,7 @@ agree (c ∷ columns) l r = is_true (equal c l r) && agree columns l r
 abbrev pub matching : List JoinColumns → List Row → List Row → List Row
 matching columns left right = flat_map (λ l. map (λ r. l ++ r) (filter (agree columns l) right)) left
 
--- NULL stands in one of the columns of a left row, which then agrees with no right row
+-- one of the columns of a left row is NULL, which then agrees with no right row
 abbrev pub lacks_key : List JoinColumns → Row → Bool
 lacks_key columns l = list_any (λ c. is_null (column_of l c.left)) columns
 
@@ -60,11 +60,11 @@ right_keys columns = map (λ c. key c.right) columns
 abbrev pub IsSortedBy : List SortColumn → List Row → List ℕ → Type 0
 IsSortedBy keys rows order = IsStableSortOf keys rows (positions (length rows)) order
 
--- a right row against a left one, in two columns
+-- the order of a right row against a left one, by two columns
 abbrev pub compare_in : JoinColumns → Row → Row → Ordering
 compare_in c l r = compare ascending (column_of r c.right) (column_of l c.left)
 
--- at the first columns on which they differ
+-- the order by the first columns on which they differ
 abbrev pub compare_sides : List JoinColumns → Row → Row → Ordering
 compare_sides [] l r = Tie
 compare_sides (c ∷ columns) l r = ordering_then (compare_in c l r) (compare_sides columns l r)
@@ -77,7 +77,7 @@ is_before too order = is_lt order || (too && is_eq order)
 abbrev pub AreBefore : Bool → List JoinColumns → Row → List Row → List ℕ → ℕ → Type 0
 AreBefore too columns l right order n = (k : ℕ) → k < n → is_before too (compare_sides columns l (row_at right (get_or order k 0))) ≡ true
 
--- the right rows up to the start of a stretch come before the left row, and those up to its end come before it or tie with it
+-- the right rows up to the start of a range come before the left row, and those up to its end come before it or tie with it
 pub record IsKnown (columns : List JoinColumns) (l : Row) (right : List Row) (order : List ℕ) (s : Stretch) : Type 0 where
   pub before : AreBefore false columns l right order s.start
   pub reached : AreBefore true columns l right order s.end
@@ -88,13 +88,13 @@ pub record IsEnd (too : Bool) (columns : List JoinColumns) (l : Row) (right : Li
   pub before : AreBefore too columns l right order n
   pub after : (k : ℕ) → n ≤ k → k < length order → is_before too (compare_sides columns l (row_at right (get_or order k 0))) ≡ false
 
--- the stretch of an order of right rows that agree with a left row, in the order of the rows
+-- the range of an order of right rows that agree with a left row, in the order of the rows
 pub record IsStretch (columns : List JoinColumns) (l : Row) (right : List Row) (order : List ℕ) (s : Stretch) : Type 0 where
   pub forwards : s.start ≤ s.end
   pub within : s.end ≤ length order
   pub agreeing : rows_at right (take (s.end - s.start) (drop s.start order)) ≡ filter (agree columns l) right
 
--- that of each left row
+-- the range of each left row
 pub record AreStretches (columns : List JoinColumns) (left right : List Row) (order : List ℕ) (stretches : List Stretch) : Type 0 where
   pub long : length stretches ≡ length left
   pub each : (i : ℕ) (d : Stretch) → i < length left → IsStretch columns (row_at left i) right order (get_or stretches i d)
@@ -104,8 +104,8 @@ AreAgreeing columns left right a = AreStretches columns left right a.order.items
 
 -- ---- conditions
 
--- Where the columns of a pair of rows of these widths differ and are not NULL the condition is false, without a fault; where
--- one of them is NULL it is not true. That is so whatever row follows the pair.
+-- Where the columns of a pair of rows of these widths differ and are not NULL the condition is false, without a fault; where one of
+-- them is NULL it is not true. This holds whatever row follows the pair.
 pub record Decides (left right : ℕ) (e : Expression) (c : JoinColumns) : Type 0 where
   pub where_false : (l r x : Row) → length l ≡ left → length r ≡ right → equal c l r ≡ Truth false → value_of e ((l ++ r) ++ x) ≡ Ok (Truth false)
   pub where_null : (l r x : Row) → length l ≡ left → length r ≡ right → equal c l r ≡ Null → passes (value_of e ((l ++ r) ++ x)) ≡ false
@@ -114,20 +114,20 @@ pub record Decides (left right : ℕ) (e : Expression) (c : JoinColumns) : Type 
 abbrev pub Equates : ℕ → ℕ → Expression → JoinColumns → Type 0
 Equates left right e c = (l r x : Row) → length l ≡ left → length r ≡ right → value_of e ((l ++ r) ++ x) ≡ Ok (equal c l r)
 
--- columns of which each decides were put after those that were there
+-- columns of which each decides were appended
 pub record AreDeciding (left right : ℕ) (e : Expression) (old new : List JoinColumns) : Type 0 where
   pub own : List JoinColumns
   pub grown : new ≡ old ++ own
   pub each : All (Decides left right e) own
 
--- NULL does not stand in the columns
+-- neither of the two columns holds a NULL
 abbrev pub AreWhole : JoinColumns → List Row → List Row → Type 0
 AreWhole c left right = All (λ l. is_null (column_of l c.left) ≡ false) left × All (λ r. is_null (column_of r c.right) ≡ false) right
 
 abbrev pub equality : Expression → Expression → Expression
 equality a b = Compare Equal a b
 
--- the columns that two columns of a pair are, the first of which is the left row's, or the second
+-- two columns of a pair are these columns: the first is the left row's and the second the right row's, or the other way round
 abbrev pub AreSides : ℕ → ℕ → ℕ → ℕ → JoinColumns → Type 0
 AreSides left right a b c = (c.left < left) × (c.right < right) × (((a ≡ c.left) × (b ≡ left + c.right)) ⊎ ((b ≡ c.left) × (a ≡ left + c.right)))
 

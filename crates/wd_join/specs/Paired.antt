@@ -23,11 +23,11 @@ with_each left positions = map (λ p. record { left = left; right = p }) positio
 abbrev pub IsExact : Expression → List JoinColumns → Row → Row → Type 0
 IsExact e columns l r = (v : Value) × (value_of e (l ++ r) ≡ Ok v) × (is_true v ≡ agree columns l r)
 
--- that is so for all pairs
+-- the condition is exact for all pairs
 abbrev pub AreExact : Expression → List JoinColumns → List Row → List Row → Type 0
 AreExact e columns left right = All (λ l. All (λ r. IsExact e columns l r) right) left
 
--- columns were put after those that were there, and the condition agrees with them over all rows of these widths
+-- columns were appended, and the condition agrees with them over all rows of these widths
 pub record HasExact (left right : ℕ) (e : Expression) (old new : List JoinColumns) : Type 0 where
   pub own : List JoinColumns
   pub grown : new ≡ old ++ own
@@ -39,12 +39,12 @@ pub record HasExact (left right : ℕ) (e : Expression) (old new : List JoinColu
 abbrev pub is_left_and_right : ℕ → ℕ → ℕ → ℕ → Bool
 is_left_and_right left right a b = nat_lt a left && (nat_le left b && nat_lt b (left + right))
 
--- two columns, one of either row
+-- whether two expressions are columns, one of either row
 abbrev pub are_of_both : ℕ → ℕ → Expression → Expression → Bool
 are_of_both left right (Column a) (Column b) = is_left_and_right left right a b || is_left_and_right left right b a
 are_of_both left right _ _ = false
 
--- equalities of such columns, joined by AND
+-- whether a condition is equalities of such columns, joined by AND
 abbrev pub are_equalities : ℕ → ℕ → Expression → Bool
 are_equalities left right (Compare Equal a b) = are_of_both left right a b
 are_equalities left right (And a b) = are_equalities left right a && are_equalities left right b

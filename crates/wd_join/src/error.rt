@@ -1,4 +1,4 @@
-//! Why a step gives nothing.
+//! Why a step has no outcome.
 
 ghost use Rattle.std.specs.Prelude.{◌≡◌};
 ghost use Rattle.wd_join.specs.declared.error.StepError.TheVariants as error;
@@ -6,7 +6,7 @@ ghost use Rattle.wd_join.specs.declared.error.StepError.TheVariants as error;
 use std::alloc::AllocFailed;
 use wd_value::OutOfMemory;
 
-/// Why a step gives no outcome.
+/// Why a step has no outcome.
 #[derive(Clone, Copy, PartialEq, Eq)]
 pub enum StepError {
     /// It has more rows than the caller allows.

@@ -11,9 +11,8 @@ use wd_columns::RowSource;
 use wd_plan::{ComparisonOp, Expr};
 use wd_value::OutOfMemory;
 
-/// The columns whose equalities a condition consists of, joined by AND: it has no fault, and is true
-/// for exactly the pairs that agree on them. None where it does not consist of such, or where rows of
-/// a side differ in width, and nowhere else.
+/// The columns whose equalities a condition consists of, joined by AND: it has no fault, and is true for exactly the pairs that agree
+/// on them. `None` exactly where it does not consist of such equalities, or where rows of a side differ in width.
 pub(crate) fn exact_columns(
     alloc: Global,
     condition: &Expr,
@@ -38,8 +37,7 @@ pub(crate) fn exact_columns(
     }
 }
 
-/// Puts the columns of each equality that the condition consists of after those that are there.
-/// False where it does not consist of such.
+/// Appends the columns of each equality that the condition consists of. Returns false where it does not consist of such equalities.
 fn push_exact(
     condition: &Expr,
     widths: Widths,

@@ -42,8 +42,8 @@ impl Kept {
         }
     }
 
-    /// Looks at one more pair where its rows stand: it is added where the condition is true for it and
-    /// there are not more than `most` rows yet.
+    /// Looks at one more pair without building its row first: the row is added where the condition is true for it and there are not
+    /// more than `most` rows yet.
     fn look_at(
         &mut self,
         alloc: Global,
@@ -64,8 +64,8 @@ impl Kept {
     }
 }
 
-/// All pairs of a left and a right row, the left one outermost, for which the condition is true, or
-/// the least fault among all pairs. Where there are more than `most` rows they are not built.
+/// All pairs of a left and a right row, the left one outermost, for which the condition is true, or the least fault among all pairs.
+/// The error is `TooManyRows` where these are more than `most` rows, which are then not built.
 pub fn join_rows(
     alloc: Global,
     condition: Option<&Expr>,
@@ -153,8 +153,8 @@ fn pairs_where(
     Ok(kept)
 }
 
-/// The first rows for which the condition is true, by the pairs that agree on the columns alone. Takes the time of a sort of either
-/// side, and is linear in the number of such pairs.
+/// The first rows for which the condition is true, by the pairs that agree on the columns alone. Takes the time of sorting either side,
+/// and is linear in the number of such pairs.
 fn matching_where(
     alloc: Global,
     condition: &Expr,

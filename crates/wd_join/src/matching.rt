@@ -27,8 +27,8 @@ pub struct Widths {
     pub right: usize,
 }
 
-/// Columns such that a pair that doesn't agree on them has no fault, and the condition isn't true
-/// for it, whatever row follows it.
+/// Columns such that a pair that doesn't agree on them has no fault in the condition, which isn't true for it, whatever row follows the
+/// pair.
 pub(crate) fn matching_columns(
     alloc: Global,
     condition: &Expr,
@@ -50,7 +50,7 @@ pub(crate) fn matching_columns(
     }
 }
 
-/// The lengths of the first rows, and 0 where there is none.
+/// The lengths of the first rows; 0 where there is none.
 pub(crate) fn first_widths(left: &RowSource, right: &RowSource) -> Widths
     ensures left { result.left ≡ pairs.width_of left.now }
     ensures right { result.right ≡ pairs.width_of right.now }
@@ -61,7 +61,7 @@ pub(crate) fn first_widths(left: &RowSource, right: &RowSource) -> Widths
     }
 }
 
-/// Whether each row has so many values.
+/// Whether each row has `width` values.
 pub(crate) fn are_wide(rows: &RowSource, width: usize) -> bool
     ensures wide { result ≡ true → All (λ row. length row ≡ width) rows.now }
     ensures uneven { result ≡ false → All (λ row. length row ≡ width) rows.now → ⊥ }
@@ -74,7 +74,7 @@ pub(crate) fn are_wide(rows: &RowSource, width: usize) -> bool
     true
 }
 
-/// Those of the columns in which NULL doesn't stand.
+/// Those of the columns that hold no NULL.
 fn whole_columns(
     alloc: Global,
     columns: &[JoinColumns],
@@ -92,7 +92,7 @@ fn whole_columns(
     Ok(whole)
 }
 
-/// Whether NULL stands in the columns.
+/// Whether one of the two columns holds a NULL.
 fn have_nulls(columns: JoinColumns, left: &RowSource, right: &RowSource) -> bool
     ensures { result ≡ false → AreWhole columns left.now right.now }
 {
@@ -110,7 +110,7 @@ fn has_null(rows: &RowSource, column: u16) -> bool
     false
 }
 
-/// Whether NULL stands in a column of the row at a position; past the last of either it does.
+/// Whether a column of the row at a position is NULL; past the last row or column it is.
 pub(crate) fn is_null_at(rows: &RowSource, position: u64, column: u16) -> bool
     ensures { result ≡ is_null (column_of (row_at rows.now position) column) }
 {
@@ -124,8 +124,8 @@ fn is_null_value(value: &Value) -> bool
     matches!(value, Value::Null)
 }
 
-/// Puts the columns of each equality of a left and a right column that stands among the conjuncts
-/// of a condition, none before it with arithmetic, after those that are there.
+/// Appends the columns of each equality of a left and a right column among the conjuncts of a condition, as long as no conjunct before
+/// it has arithmetic.
 fn push_deciding(
     condition: &Expr,
     widths: Widths,

@@ -1,4 +1,4 @@
-//! Pairs of rows that a condition above can be true for.
+//! Pairs of rows for which a condition further up can be true.
 
 ghost use Rattle.std.specs.Prelude.{◌≡◌, IfOk};
 ghost use Rattle.wd_plan.specs.Expressions.{expression_of};
@@ -15,9 +15,9 @@ use wd_columns::{RowSource, row_in};
 use wd_plan::Expr;
 use wd_value::{OutOfMemory, Row};
 
-/// Pairs of a left and a right row, the left one outermost, over which a condition gives the same as
-/// over all pairs, whatever rows they are paired with: where it has equalities of a left and a right
-/// column among its conjuncts, the pairs that agree on these.
+/// Pairs of a left and a right row, the left one outermost, over which a condition gives the same outcome as over all pairs, whatever
+/// rows the pairs are joined with next: where it has equalities of a left and a right column among its conjuncts, the pairs that agree
+/// on these.
 pub fn narrowed_pairs(
     alloc: Global,
     condition: &Expr,

@@ -28,10 +28,9 @@ pub struct Pair {
     pub right: u64,
 }
 
-/// The pairs of a left and a right row, the left one outermost, for which the condition is true, by
-/// their positions, where it consists of equalities of a left and a right column; none where it does
-/// not, or where rows of a side differ in width, and nowhere else. Where there are more than `most`
-/// they are not made.
+/// The pairs of a left and a right row, the left one outermost, for which the condition is true, by their positions, where it consists
+/// of equalities of a left and a right column; `None` exactly where it does not, or where rows of a side differ in width. The error is
+/// `TooManyRows` where there are more than `most` pairs, which are then not made.
 pub fn equal_pairs(
     alloc: Global,
     condition: &Expr,
@@ -53,8 +52,7 @@ pub fn equal_pairs(
     }
 }
 
-/// The pairs that agree on the columns. Takes time as a sort of either side, and time that goes with
-/// the number of pairs.
+/// The pairs that agree on the columns. Takes the time of sorting either side, and time linear in the number of pairs.
 fn agreeing_pairs(
     alloc: Global,
     columns: &[JoinColumns],
@@ -78,7 +76,7 @@ fn agreeing_pairs(
     Ok(pairs)
 }
 
-/// Puts a left position with each of some right ones after the pairs that are there.
+/// Appends the pairs of a left position with each of some right ones.
 fn push_each(pairs: &mut Vec<Pair>, left: u64, positions: &[u64]) -> Result<(), OutOfMemory>
     ensures { OnOk result (pairs.new.items ≡ pairs.old.items ++ with_each left positions.now) }
 {
@@ -91,7 +89,7 @@ fn push_each(pairs: &mut Vec<Pair>, left: u64, positions: &[u64]) -> Result<(), 
     Ok(())
 }
 
-/// The pairs with these of their columns, the left row's columns first.
+/// The rows of the pairs, with only these of their columns; the left row's columns are numbered first.
 pub fn paired_columns(
     alloc: Global,
     left: &RowSource,
@@ -141,7 +139,7 @@ fn copied_value(
     Ok(value)
 }
 
-/// The value of a pair in a column, where it is, and `null` past the last.
+/// A reference to the value of a pair in a column; `null` past the last.
 fn paired_value<'a>(
     left: &'a RowSource,
     right: &'a RowSource,

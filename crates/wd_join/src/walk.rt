@@ -14,22 +14,21 @@ use wd_columns::RowSource;
 use wd_sort::{all_positions, sorted_in};
 use wd_value::{OutOfMemory, SortColumn, SortKey, Value, compare};
 
-/// Some positions in an order, one after the other.
+/// Consecutive positions in an order, from `start` up to `end`.
 #[derive(Clone, Copy)]
 pub struct Stretch {
     pub start: usize,
     pub end: usize,
 }
 
-/// The right rows' positions in the order of the columns, and for each left row the stretch of
-/// those that agree with it.
+/// The right rows' positions in the order of the columns, and for each left row the range of those that agree with it.
 #[derive(Drop)]
 pub struct Agreeing {
     pub order: Vec<u64>,
     pub stretches: Vec<Stretch>,
 }
 
-/// The right rows that agree with each left row. Takes time as a sort of either side.
+/// The right rows that agree with each left row. Takes the time of sorting either side.
 pub(crate) fn agreeing_rows(
     alloc: Global,
     columns: &[JoinColumns],
@@ -44,7 +43,7 @@ pub(crate) fn agreeing_rows(
     Ok(Agreeing { order, stretches })
 }
 
-/// The positions of a stretch of an order.
+/// The positions in a range of an order.
 pub(crate) fn positions_in(order: &[u64], stretch: Stretch) -> &[u64]
     requires forwards { stretch.start ≤ stretch.end }
     requires within { stretch.end ≤ length order.now }
@@ -106,9 +105,8 @@ fn sorted_by(alloc: Global, rows: &RowSource, keys: &[SortColumn]) -> Result<Vec
     Ok(order)
 }
 
-/// For each left row the stretch of the right rows that agree with it. In the order of the columns
-/// the stretches of later left rows start and end no earlier, so that each right row is passed once at
-/// a start and once at an end.
+/// For each left row the range of the right rows that agree with it. In the order of the columns the ranges of later left rows start
+/// and end no earlier, so that each right row is passed once at a start and once at an end.
 fn walked(
     alloc: Global,
     columns: &[JoinColumns],
@@ -130,7 +128,7 @@ fn walked(
     Ok(stretches)
 }
 
-/// Puts the stretch at the position, where there is one.
+/// Sets the range of the left row at a position, where there is one.
 fn put_stretch(stretches: &mut Vec<Stretch>, position: u64, stretch: Stretch)
     ensures { stretches.new.items ≡ set stretches.old.items position stretch }
 {
@@ -139,8 +137,8 @@ fn put_stretch(stretches: &mut Vec<Stretch>, position: u64, stretch: Stretch)
     }
 }
 
-/// The stretch of the right rows that agree with the left row at a position. All rows before the
-/// start of the known one are before that row, and those before its end are before it or tie with it.
+/// The range of the right rows that agree with the left row at a position. All rows before the start of the known range are before that
+/// row, and those before its end are before that row or tie with it.
 fn stretch_from(
     columns: &[JoinColumns],
     left: &RowSource,
@@ -164,8 +162,7 @@ fn stretch_from(
     Stretch { start, end }
 }
 
-/// How many rows of the order are before the left row at a position, or with `too` tie with it, of
-/// which so many are known.
+/// How many rows of the order are before the left row at a position, or with `too` tie with it; of the first `from` rows this is known.
 fn end_from(
     columns: &[JoinColumns],
     left: &RowSource,
@@ -196,8 +193,7 @@ fn is_before(too: bool, compared: Ordering) -> bool
     compared.is_lt() || (too && compared.is_eq())
 }
 
-/// The right row at a position against the left one at a position, at the first columns on which
-/// they differ.
+/// The order of the right row at a position against the left one at a position, by the first columns on which they differ.
 fn compare_sides(
     columns: &[JoinColumns],
     left: &RowSource,
@@ -233,7 +229,7 @@ fn compare_in(
     )
 }
 
-/// Whether NULL stands in one of the columns of the left row at a position.
+/// Whether one of the columns of the left row at a position is NULL.
 fn lacks_key(columns: &[JoinColumns], left: &RowSource, position: u64) -> bool
     ensures { result ≡ spec.lacks_key columns.now (row_at left.now position) }
 {

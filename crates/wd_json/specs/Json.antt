@@ -8,7 +8,7 @@ use Rattle.serde_json.specs.View.{items_of}
 abbrev pub number_json : ℕ → Data
 number_json n = number (unsigned n)
 
--- the list of what each element is
+-- the list of the elements' JSON values
 abbrev pub list_json : {A : Type 0} → (A → Data) → List A → Data
 list_json f xs = array (items_of (map f xs))
 

@@ -14,14 +14,14 @@ use wd_value::OutOfMemory;
 
 /// A value that has a JSON form.
 pub trait InJson: Drop {
-    // What contracts say of a value, and the JSON value of that.
+    // What contracts see of a value, and the JSON value of that.
     ghost Said: { Type 0 };
 
     ghost said: { Self → Self.Said };
 
     ghost json: { Self.Said → Data };
 
-    /// The value whose form this is, refused where it is that of none.
+    /// The value that has this form; refused where no value has it.
     fn from_value(alloc: Global, value: &Value) -> Result<Self, Misread>
         ensures ok { IfOk result (λ x. view value.now ≡ Self.json (Self.said x)) }
         ensures refused { IfErr result (λ e. e ≡ misread.Shape → (x : Self.Said) → view value.now ≢ Self.json x) };
@@ -31,7 +31,7 @@ pub trait InJson: Drop {
         ensures { IfOk result (λ v. view v ≡ Self.json (Self.said self.now)) };
 }
 
-/// The elements of a list, refused where one of them is.
+/// The elements of a list; refused where the value is no list or one of the elements is refused.
 pub fn read_list<T: InJson>(alloc: Global, value: &Value) -> Result<Vec<T>, Misread>
     ensures ok { IfOk result (λ v. view value.now ≡ list_json T.json (map T.said v.items)) }
     ensures refused { IfErr result (λ e. e ≡ misread.Shape → (xs : List T.Said) → view value.now ≢ list_json T.json xs) }

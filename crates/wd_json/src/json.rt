@@ -9,8 +9,8 @@ use crate::misread::Misread;
 use serde_json::{Map, Value};
 use std::collections::btree_map;
 
-/// The value of the next member, which must have this name. Members come in the order of their
-/// names, each once, whatever their order in the text.
+/// The value of the next member, which must have this name; refused where there is no member or another one. Members come in the order
+/// of their names, each once, whatever their order in the text.
 pub fn next_member<'v>(
     members: &mut btree_map::Iter<'v, String, Value>,
     name: &str,
@@ -60,7 +60,7 @@ pub fn list<'v>(value: &'v Value) -> Result<&'v [Value], Misread>
     }
 }
 
-/// The values of an object that has these two members and no other, in the order of the names.
+/// The values of an object that has these two members and no other, in the order of the names; any other value is refused.
 pub fn two_members<'v>(
     value: &'v Value,
     first: &str,
@@ -76,7 +76,7 @@ pub fn two_members<'v>(
     Ok((a, b))
 }
 
-/// A whole number below 2^64, written without a fraction or an exponent.
+/// A whole number below 2^64, written without a fraction or an exponent; any other value is refused.
 pub fn number(value: &Value) -> Result<u64, Misread>
     ensures ok { IfOk result (λ n. view value.now ≡ number_json n) }
     ensures refused { IfErr result (λ e. (n : ℕ) → view value.now ≢ number_json n) }
@@ -87,7 +87,7 @@ pub fn number(value: &Value) -> Result<u64, Misread>
     }
 }
 
-/// A number or null.
+/// A number or null; any other value is refused.
 pub fn optional_number(value: &Value) -> Result<Option<u64>, Misread>
     ensures ok { IfOk result (λ o. view value.now ≡ optional_json o) }
     ensures refused { IfErr result (λ e. (o : Option ℕ) → view value.now ≢ optional_json o) }

@@ -1,4 +1,7 @@
-//! The parts of JSON values: members, lists, numbers and texts, and lists of numbers.
+//! The parts of JSON values that formats share: members, lists, numbers and texts.
+//!
+//! `json` reads the parts of a value, `forms` lists of values that have a JSON form, `numbers` lists of numbers, and `misread` says why
+//! a value is not read. The text of a value is read and written by `serde_json`.
 #![tactic(auto)]
 
 mod forms;

@@ -1,4 +1,4 @@
-//! Why a JSON value is not read as what a format has at its place.
+//! Why a JSON value is not read as the part of a format that belongs at its place.
 
 ghost use Rattle.std.specs.Prelude.{◌≡◌};
 ghost use Rattle.wd_json.specs.declared.misread.Misread.TheVariants as misread;
@@ -9,7 +9,7 @@ use wd_value::OutOfMemory;
 /// Why a JSON value is not read.
 #[derive(Clone, Copy)]
 pub enum Misread {
-    /// It is not the value of what is read there.
+    /// It is not a value of the form that is read there.
     Shape,
     OutOfMemory,
 }

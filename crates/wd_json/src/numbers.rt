@@ -44,7 +44,7 @@ impl InJson for Vec<u64> {
     }
 }
 
-/// The numbers of a list, each a whole number below 2^64.
+/// The numbers of a list, each a whole number below 2^64; any other value is refused.
 pub fn read_numbers(alloc: Global, value: &Value) -> Result<Vec<u64>, Misread>
     ensures ok { IfOk result (λ v. view value.now ≡ list_json number_json v.items) }
     ensures refused { IfErr result (λ e. e ≡ misread.Shape → (xs : List ℕ) → view value.now ≢ list_json number_json xs) }

@@ -1,27 +1,27 @@
--- Lines, and the JSON values that they are.
+-- Lines, and the JSON values that they spell.
 use Rattle.std.specs.Prelude.{◌≢◌, ◌≡◌, ℕ, ◌+◌, ◌==◌, not, List, [], ◌∷◌, ◌++◌, take, drop, flat_map}
 use Rattle.std.specs.List.{prefix_len}
 use Rattle.serde_json.specs.Data.{Data}
 use Rattle.serde_json.specs.Written.{compact_text}
 use Rattle.wd_json.specs.Json.{IsJsonOf}
 
--- how many bytes stand before the first line feed, or the end
+-- how many bytes come before the first line feed, or the end
 abbrev pub line_len : List ℕ → ℕ
 line_len bytes = prefix_len (λ b. not (b == 10)) bytes
 
 abbrev pub first_line : List ℕ → List ℕ
 first_line bytes = take (line_len bytes) bytes
 
--- what follows the line feed
+-- what follows the first line feed
 abbrev pub behind_line : List ℕ → List ℕ
 behind_line bytes = drop (line_len bytes + 1) bytes
 
--- the lines of bytes are those of values, one each; behind the last line feed nothing need stand
+-- the lines of bytes are those of values, one each; after the last line feed there need not be anything
 abbrev pub AreLines : {A : Type 0} → (A → Data) → List A → List ℕ → Type 0
 AreLines json [] bytes = bytes ≡ []
 AreLines json (x ∷ xs) bytes = (bytes ≢ []) × IsJsonOf (json x) (first_line bytes) × AreLines json xs (behind_line bytes)
 
--- behind lines of these values comes one that is of none
+-- after lines of these values comes a line that is of no value
 abbrev pub FailBehind : {A : Type 0} → (A → Data) → List A → List ℕ → Type 0
 FailBehind {A} json [] bytes = (bytes ≢ []) × ((x : A) → ¬ IsJsonOf (json x) (first_line bytes))
 FailBehind json (x ∷ xs) bytes = (bytes ≢ []) × IsJsonOf (json x) (first_line bytes) × FailBehind json xs (behind_line bytes)

@@ -12,7 +12,7 @@ abbrev pub refusal_at : Misread → ℕ → LineError
 refusal_at misread.Shape number = error.Unread number
 refusal_at misread.OutOfMemory number = error.OutOfMemory
 
--- it is the first line that is of no value
+-- the line with this number is the first that is of no value
 abbrev pub HasCause : {A : Type 0} → (A → Data) → LineError → List ℕ → Type 0
 HasCause {A} json (error.Unread number) bytes = (xs : List A) × FailBehind json xs bytes × (number ≡ length xs + 1)
 HasCause json error.OutOfMemory bytes = ⊤

@@ -11,7 +11,7 @@ use wd_value::OutOfMemory;
 /// Why lines are not read.
 #[derive(Clone, Copy, Debug)]
 pub enum LineError {
-    /// A line, counted from 1, is no JSON, or JSON of another form. It is the first such line.
+    /// A line, counted from 1, is not JSON, or is JSON of another form. It is the first such line.
     Unread { number: u64 },
     /// The allocator refused a growth.
     OutOfMemory,
@@ -41,7 +41,7 @@ impl<T: Drop> From<AllocFailed<T>> for LineError {
     }
 }
 
-/// The refusal of the line with a number.
+/// The error for the line with a number.
 pub(crate) fn at_line(misread: Misread, number: u64) -> LineError
     ensures { result ≡ refusal_at misread number }
 {

@@ -1,7 +1,7 @@
 //! Lines of JSON: texts of which each line is a value of one form.
 //!
-//! `line` has what a line may be and where one ends, `read` and `write` go through the lines of a text, and `laws` says that what
-//! is written is read again.
+//! `line` has what a line may be and where it ends, `read` and `write` go through the lines of a text, and `laws` says that what is
+//! written is read back.
 #![tactic(auto)]
 
 mod error;

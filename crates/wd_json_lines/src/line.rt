@@ -14,19 +14,19 @@ use wd_value::OutOfMemory;
 
 /// A value that has a line of JSON.
 pub trait InLine: Drop {
-    // What contracts say of a value, and the JSON value of that.
+    // What contracts see of a value, and the JSON value of that.
     ghost Said: { Type 0 };
 
     ghost said: { Self → Self.Said };
 
     ghost json: { Self.Said → Data };
 
-    /// The value of a line, whatever its white space and the order of its members, refused where it is that of none.
+    /// The value of a line, whatever the line's white space and the order of its members; refused where the line is that of no value.
     fn from_line(alloc: Global, line: &[u8]) -> Result<Self, Misread>
         ensures ok { IfOk result (λ x. IsJsonOf (Self.json (Self.said x)) line.now) }
         ensures refused { IfErr result (λ e. e ≡ misread.Shape → (x : Self.Said) → ¬ IsJsonOf (Self.json x) line.now) };
 
-    /// The value's line, without its line feed: JSON without white space, which is read as the value.
+    /// The value's line, without its line feed: JSON without white space, which is read back as the value.
     fn to_line(&self, alloc: Global) -> Result<Vec<u8>, OutOfMemory>
         ensures text { IfOk result (λ b. b.items ≡ compact_text (Self.json (Self.said self.now))) }
         ensures spells { IfOk result (λ b. IsJsonOf (Self.json (Self.said self.now)) b.items) };

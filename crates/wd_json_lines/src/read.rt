@@ -8,7 +8,7 @@ use crate::error::{LineError, at_line};
 use crate::line::{InLine, split_line};
 use std::alloc::Global;
 
-/// The values of the lines of a text. Behind the last line feed nothing need stand. Refused is the first line that is of none.
+/// The values of the lines of a text. After the last line feed there need not be anything. The first line that is of no value is refused.
 pub fn read_lines<T: InLine>(alloc: Global, bytes: &[u8]) -> Result<Vec<T>, LineError>
     ensures ok { IfOk result (λ v. AreLines T.json (map T.said v.items) bytes.now) }
     ensures refused { IfErr result (λ e. HasCause T.json e bytes.now) }

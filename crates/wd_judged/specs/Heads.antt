@@ -8,12 +8,12 @@ use Rattle.wd_judged.specs.declared.judged.Judged.{Judged}
 use Rattle.wd_judged.specs.declared.judged.Judgement.{Judgement}
 use Rattle.wd_judged.specs.declared.judged.Judgement.TheVariants.{Found, Refused}
 
--- the block with the number of a place that is open begins with the line of that place, by what the query counts as
+-- the block of the open place with a number begins with the head line of that place, by what the query counts as
 abbrev pub HaveHeads : (path text : List ℕ) (start : ℕ) → Kind → List OpenPlace → List Block → Type 0
 HaveHeads path text start kind places blocks =
     (n : ℕ) → IfSome (slice_get places n) (λ place. IfSome (slice_get blocks n) (λ (block : Block). BeginsBlock path text start kind place (string_bytes block.text)))
 
--- so do those of a finding, whose statement stands in a file of that path and text
+-- for a finding the blocks begin with the head lines, where the statement is in a file of this path and text
 abbrev pub BeginBlocks : (path text : List ℕ) → Judged → Type 0
 BeginBlocks path text judged = of_judgement judged.judgement
   where

@@ -1,4 +1,4 @@
--- What is judged of a statement.
+-- The judgement of a statement.
 use Rattle.std.specs.Prelude.{◌≡◌, ℕ, List, length, slice_range, IfSome}
 use Rattle.wd_lex.specs.declared.token.Span.{Span}
 use Rattle.wd_decide.specs.Verdicts.{HasCause}
@@ -13,23 +13,23 @@ use Rattle.wd_judged.specs.declared.judged.Judged.{Judged}
 use Rattle.wd_judged.specs.declared.judged.Judgement.{Judgement}
 use Rattle.wd_judged.specs.declared.judged.Judgement.TheVariants.{Found, Refused}
 
--- the text of the statement that stands there
+-- the text of the statement that has this span
 abbrev pub statement_of : List ℕ → Span → List ℕ
 statement_of text span = slice_range text span.start span.end
 
--- a finding is one of the two texts and counts as its verdict, its simpler plan and the further search say; a refusal has its cause in them and is
--- not read
+-- a finding is one of the two texts and counts as its verdict, its simpler plan and the further search say; a refusal has its cause in
+-- the texts and counts as not read
 abbrev pub IsJudgement : List ℕ → List ℕ → Kind → Judgement → Type 0
 IsJudgement schema query kind (Found finding) = IsFinding schema query finding × (kind ≡ kind_of finding.verdict finding.certain finding.further)
 IsJudgement schema query kind (Refused error) = HasCause schema query error × (kind ≡ NotRead)
 
--- how many places are told
+-- how many places are reported
 abbrev pub places_told : Judgement → ℕ
 places_told (Found finding) = length finding.places.items
 places_told (Refused error) = 1
 
--- This is judged of a query's text, which stands there in its file: what is found of it, helps that are some for it, and a block for each
--- place.
+-- The judgement of a query's text, which has this span in its file: what is found of it, helps that are valid for it, and a block for
+-- each place.
 pub record IsJudgedAs (schema query : List ℕ) (span : Span) (judged : Judged) : Type 0 where
   pub stands : judged.span ≡ span
   pub judgement : IsJudgement schema query judged.kind judged.judgement
@@ -37,7 +37,7 @@ pub record IsJudgedAs (schema query : List ℕ) (span : Span) (judged : Judged) 
   pub alike : IfSome judged.alike (IsHelp schema query)
   pub told : length judged.blocks.items ≡ places_told judged.judgement
 
--- this is judged of the statement of a text that stands there
+-- the judgement of the statement of a text that has this span
 abbrev pub IsJudged : List ℕ → List ℕ → Span → Judged → Type 0
 IsJudged schema text span judged = IsJudgedAs schema (statement_of text span) span judged
 

@@ -7,7 +7,7 @@ use Rattle.wd_fix.specs.Fixes.{IsFixed, span_of}
 use Rattle.wd_fix.specs.declared.fix.Fix.{Fix}
 use Rattle.wd_judged.specs.Judgements.{statement_of}
 
--- what takes the place of a statement is the text of a help for it: the statement with sort keys put in, whose verdict is DETERMINISTIC
+-- the text that replaces a statement is that of a help for it: the statement with sort keys put in, whose verdict is DETERMINISTIC
 pub record IsMended (schema text : List ℕ) (fix : Fix) : Type 0 where
   pub help : Help
   pub is_help : IsHelp schema (statement_of text fix.span) help

@@ -1,4 +1,4 @@
-//! What a person reads of a place.
+//! What a person reads about a place.
 
 ghost use Rattle.std.specs.Prelude.{◌≡◌, length, min, slice_get, string_bytes, IfOk, IfSome};
 ghost use Rattle.wd_block.specs.Heads.{BeginsBlock};
@@ -17,18 +17,19 @@ use wd_lines::{add_joined, add_refusal};
 use wd_source::{Position, position_at};
 use wd_value::OutOfMemory;
 
-/// What is told of a place.
+/// What is reported about a place.
 #[derive(Drop)]
 pub struct Block {
     /// Whether the place is one of the query's file or of the schema's.
     pub about: RefusedText,
-    /// The bytes of that file which it is, where they are known.
+    /// The bytes of the place in that file, where they are known.
     pub span: Option<Span>,
-    /// The line and the column at which these begin; those of the statement, or of the file where it is refused, where they are not known.
+    /// The line and the column at which these bytes begin; where they are not known, those of the statement, or of the file if it is
+    /// refused.
     pub position: Position,
-    /// The words that stand there, with one blank for each white space; none where the place is not known.
+    /// The words at the place, with one blank for each white space; empty where the place is not known.
     pub words: String,
-    /// The lines that tell it to a person.
+    /// The lines that a person reads.
     pub text: String,
 }
 
@@ -102,7 +103,7 @@ pub(crate) fn refusal_block(
     block_at(alloc, place.text, file.text, span, first_of(span, 0), text)
 }
 
-/// The first byte of a place, or another one where it is not known.
+/// The first byte of a place, or `other` where the place is not known.
 fn first_of(span: Option<Span>, other: u64) -> u64 {
     match span {
         Some(span) => span.start,
@@ -110,7 +111,7 @@ fn first_of(span: Option<Span>, other: u64) -> u64 {
     }
 }
 
-/// The block for a place of a file, whose first byte is this, with the lines that tell it.
+/// The block for a place of a file, with this first byte and these lines.
 fn block_at(
     alloc: Global,
     about: RefusedText,

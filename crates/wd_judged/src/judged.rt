@@ -1,4 +1,4 @@
-//! What is judged of a statement of a file.
+//! The judgement of a statement of a file.
 
 ghost use Rattle.std.specs.Prelude.{◌≡◌, ◌≤◌, length, option_map, IfOk, IfSome};
 ghost use Rattle.wd_decide.specs.Verdicts.{HasCause};
@@ -35,19 +35,19 @@ pub enum Judgement {
     Refused(DecideError),
 }
 
-/// What is judged of a statement of a file.
+/// The judgement of a statement of a file.
 #[derive(Drop)]
 pub struct Judged {
-    /// Where the statement stands in its file.
+    /// Where the statement is in its file.
     pub span: Span,
-    /// What it counts as.
+    /// What the statement counts as.
     pub kind: Kind,
     pub judgement: Judgement,
-    /// The sort keys with which it has one answer, where some are known; the text with them is in it.
+    /// The sort keys with which it has one answer, where some are known, and the text with them.
     pub help: Option<Help>,
-    /// RANK or WITH TIES, with which it has one answer too, where these serve.
+    /// RANK or WITH TIES, with which it has one answer too, where these help.
     pub alike: Option<Help>,
-    /// What is told of it: a block for each place that is open, or one for the refusal.
+    /// What is reported about it: a block for each place that is open, or one for the refusal.
     pub blocks: Vec<Block>,
 }
 
@@ -67,7 +67,7 @@ impl Judged {
     }
 }
 
-/// What is judged of the statement of a file that stands there, over the schema of another file.
+/// Judges the statement of a file that has this span, over the schema of another file.
 pub fn judge_statement(
     alloc: Global,
     schema: File<'_>,
@@ -87,7 +87,7 @@ pub fn judge_statement(
     }
 }
 
-/// The statement of a file that stands there.
+/// The statement of a file that has this span.
 fn statement_at<'a>(file: File<'a>, span: Span) -> Statement<'a>
     ensures path { result.path.now ≡ file.entry.path.now }
     ensures text { result.text.now ≡ file.entry.text.now }
@@ -101,7 +101,7 @@ fn statement_at<'a>(file: File<'a>, span: Span) -> Statement<'a>
     }
 }
 
-/// What is judged of a query that stands there in a file, and of which this is found.
+/// The judgement of a query that has this span in a file, by what is found of it.
 fn of_finding(
     alloc: Global,
     schema: &[u8],
@@ -128,7 +128,7 @@ fn of_finding(
     })
 }
 
-/// The help for a query of which this is found, where it may have several answers.
+/// The help for a query, by what is found of it, where it may have several answers.
 fn help_where_open(
     alloc: Global,
     schema: &[u8],
@@ -149,7 +149,7 @@ fn help_where_open(
     }
 }
 
-/// Where the window calls and the limits of a plan stand in its query.
+/// Where the window calls and the limits of a plan are in its query.
 fn sites_in(alloc: Global, query: &[u8], plan: &Plan) -> Result<Vec<PlanSite>, OutOfMemory> {
     match lex(alloc, query) {
         Ok(tokens) => sites(alloc, &tokens, plan),
@@ -157,7 +157,7 @@ fn sites_in(alloc: Global, query: &[u8], plan: &Plan) -> Result<Vec<PlanSite>, O
     }
 }
 
-/// RANK or WITH TIES for a query that counts as this, where it may have several answers.
+/// RANK or WITH TIES for a query of this kind, where it may have several answers.
 fn alike_where_open(
     alloc: Global,
     schema: &[u8],
@@ -172,7 +172,7 @@ fn alike_where_open(
     }
 }
 
-/// What is judged of a query that stands there in a file, and that is refused or whose schema is.
+/// The judgement of a query that has this span in a file, where it or its schema is refused.
 fn of_refusal(
     alloc: Global,
     schema: File<'_>,

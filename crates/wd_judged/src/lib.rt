@@ -1,7 +1,7 @@
-//! What is judged of the statements of a file: a value that says of one statement all that any output needs.
+//! The judgement of a file's statements: a value that says of one statement everything that any output needs.
 //!
-//! `judged` has the value and makes it, of what is found of the statement or of why it is refused; `block` makes what a person reads of
-//! each place.
+//! `judged` has the value and makes it, from what is found of the statement or from why it is refused; `block` makes what a person
+//! reads about each place.
 #![tactic(auto)]
 
 mod block;

@@ -1,14 +1,14 @@
--- A text with stretches of it changed.
+-- A text with some of its ranges replaced.
 use Rattle.std.specs.Prelude.{◌≡◌, ◌⊎◌, ℕ, ◌≤◌, List, [], ◌∷◌, ◌++◌, length, drop, Option, Some, None, codes, slice_range, string_bytes}
 use Rattle.wd_sites.specs.declared.site.KeyPlace.{KeyPlace}
 use Rattle.wd_keys.specs.declared.change.Change.{Change}
 
--- the text from a byte on, with each change put in the place of its stretch
+-- the text from a byte on, with each change put in place of its range
 abbrev pub changed_from : List ℕ → ℕ → List Change → List ℕ
 changed_from text start [] = drop start text
 changed_from text start (change ∷ changes) = slice_range text start change.at ++ string_bytes change.text ++ changed_from text change.end changes
 
--- the stretches come in order and apart, from a byte on, within the text
+-- the ranges of the changes come in order without overlapping, from a byte on, within the text
 abbrev pub ComeInOrder : List ℕ → ℕ → List Change → Type 0
 ComeInOrder text start [] = start ≤ length text
 ComeInOrder text start (change ∷ changes) = (start ≤ change.at) × (change.at ≤ change.end) × ComeInOrder text change.end changes
@@ -37,7 +37,7 @@ pub record IsOrderBy (keys text : List ℕ) : Type 0 where
   pub blank_after : IsBlank after
   pub is : text ≡ before ++ codes "ORDER BY " ++ keys ++ after
 
--- what is put in for keys: a comma first where an ORDER BY stands before them
+-- what is put in for keys: a comma first where there is an ORDER BY before them
 abbrev pub IsKeyText : Option ℕ → List ℕ → List ℕ → Type 0
 IsKeyText (Some order) keys text = text ≡ codes ", " ++ keys
 IsKeyText None keys text = IsOrderBy keys text

@@ -9,8 +9,9 @@ use wd_value::OutOfMemory;
 /// The most names of keys that are paired.
 const MOST_PAIRED: usize = 16;
 
-/// The lists of sort keys that may be tried for a query's text, whose plan over a schema is given: first those of one column, then of two, then of three; among those of one length the keys
-/// of the tables first, and then the columns of longer keys. A column is named as it is and behind each name of a table that the query writes.
+/// The lists of sort keys that may be tried for a query's text, whose plan over a schema is given: first those of one column, then of
+/// two, then of three; among those of one length the keys of the tables first, and then the columns of longer keys. A column is named
+/// as it is and after each name of a table that the query writes.
 pub fn candidates(
     alloc: Global,
     schema: &Schema,
@@ -84,7 +85,7 @@ fn add_scans(plan: &Plan, numbers: &mut Vec<u16>) -> Result<(), OutOfMemory> {
     }
 }
 
-/// What may stand before a column's name: nothing, each name that the query writes before a dot, and the tables' names.
+/// What may come before a column's name: nothing, each name that the query writes before a dot, and the tables' names.
 fn prefixes(
     alloc: Global,
     tokens: &[Token],
@@ -163,7 +164,7 @@ fn is_one_word(tokens: &[Token], name: &str) -> bool {
     }
 }
 
-/// Adds a table's keys of so many columns.
+/// Adds a table's keys of `length` columns.
 fn add_keys(
     alloc: Global,
     table: &Table,
@@ -269,7 +270,7 @@ fn add_aliases(
     Ok(())
 }
 
-/// Adds the pairs of the first so many that were found.
+/// Adds the pairs of the first `keys` lists that were found.
 fn add_pairs(alloc: Global, keys: usize, found: &mut Vec<String>) -> Result<(), OutOfMemory> {
     let mut pairs = Vec::new(alloc);
     for (number, first) in found.iter().take(keys).enumerate() {

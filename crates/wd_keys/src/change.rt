@@ -7,12 +7,12 @@ use std::alloc::Global;
 use wd_sites::KeyPlace;
 use wd_value::OutOfMemory;
 
-/// A stretch of a text, and what is put in its place. Sort keys are put in where nothing is taken out.
+/// A range of a text, and what is put in its place. Where sort keys are added the range is empty.
 #[derive(Drop)]
 pub struct Change {
-    /// The byte at which the stretch begins.
+    /// The byte at which the range begins.
     pub at: u64,
-    /// The byte before which it ends.
+    /// The byte before which the range ends.
     pub end: u64,
     /// What is put there: of sort keys a comma or ORDER BY, and the keys.
     pub text: String,
@@ -21,7 +21,7 @@ pub struct Change {
 }
 
 impl Change {
-    /// The first keys at a place of a text: behind a comma, or behind ORDER BY where none stand there.
+    /// The first keys at a place of a text: after a comma, or after ORDER BY where there are no keys yet.
     pub fn first(
         alloc: Global,
         query: &[u8],
@@ -42,7 +42,7 @@ impl Change {
         })
     }
 
-    /// Adds keys behind those that it has. Where memory runs out, it stays as it was.
+    /// Adds keys after those that the change has. Where memory runs out, the change stays as it was.
     pub fn add(&mut self, alloc: Global, keys: &str) -> Result<(), OutOfMemory>
         ensures at { self.new.at ≡ self.old.at }
         ensures end { self.new.end ≡ self.old.end }
@@ -70,7 +70,7 @@ impl Change {
     }
 }
 
-/// A text with keys behind it, after a comma.
+/// A text followed by keys, after a comma.
 fn longer(alloc: Global, text: &str, keys: &str) -> Result<String, OutOfMemory>
     ensures { IfOk result (λ t. string_bytes t ≡ text.now ++ codes ", " ++ keys.now) }
 {
@@ -80,7 +80,7 @@ fn longer(alloc: Global, text: &str, keys: &str) -> Result<String, OutOfMemory>
     Ok(longer)
 }
 
-/// ORDER BY and keys, to be put in at a place of a text: with a blank where a word or a token stands beside it.
+/// ORDER BY and keys, to be put in at a place of a text: with a blank where a word or a token is next to it.
 fn order_by(alloc: Global, query: &[u8], at: usize, keys: &str) -> Result<String, OutOfMemory>
     ensures { IfOk result (λ t. IsOrderBy keys.now (string_bytes t)) }
 {
@@ -89,7 +89,7 @@ fn order_by(alloc: Global, query: &[u8], at: usize, keys: &str) -> Result<String
     Ok(format!(in alloc; "{before}ORDER BY {keys}{after}")?)
 }
 
-/// A blank, where it is wanted.
+/// A blank, where one is needed.
 fn blank_if(is_wanted: bool) -> &'static str
     ensures { IsBlank result.now }
 {
@@ -101,7 +101,8 @@ fn byte_before(text: &[u8], at: usize) -> Option<u8> {
     text.get(at.checked_sub(1)?).copied()
 }
 
-/// A text with changes put in, which come in the order of their places and apart. None where they don't, or one is past the text.
+/// A text with changes put in, which must come in the order of their places without overlapping. `None` where they do not, or where one
+/// reaches past the text.
 pub fn changed(
     alloc: Global,
     text: &[u8],

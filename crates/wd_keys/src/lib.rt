@@ -1,5 +1,8 @@
-//! Changes of a query's text: `candidates` lists the sort keys that may be tried, `alike` has WITH TIES and RANK in the place of a limit
-//! and of ROW_NUMBER, `changed` puts changes in.
+//! Changes of a query's text: `candidates` lists the sort keys that may be tried, `alike` replaces a limit by one WITH TIES and
+//! ROW_NUMBER by RANK, `changed` applies changes to a text.
+//!
+//! The keys come from the schema's tables and the query's own names. Whether a changed text has one answer is not decided here: callers
+//! analyse it anew.
 #![tactic(auto)]
 
 mod candidate;

@@ -11,8 +11,8 @@ use wd_lex::{Span, Terminal, Token, TokenKind};
 use wd_sites::{KeyPlace, PlanSite, Site};
 use wd_value::OutOfMemory;
 
-/// The change at a site of a query's tokens with which rows that tie are treated alike: RANK in the place of ROW_NUMBER, and for a limit
-/// WITH TIES. None where the site has no ORDER BY or the limit an OFFSET, and for other calls.
+/// The change at a site of a query's tokens with which rows that tie are treated alike: RANK in place of ROW_NUMBER, and WITH TIES for
+/// a limit. `None` where the site has no ORDER BY or the limit an OFFSET, and for other calls.
 pub fn alike(
     alloc: Global,
     tokens: &[Token],
@@ -34,7 +34,7 @@ fn is_sorted(site: Site) -> bool {
     matches!(site.key, Some(KeyPlace { order: Some(_), .. }))
 }
 
-/// RANK in the place of ROW_NUMBER, where a call that stands there begins with it.
+/// RANK in place of ROW_NUMBER, where the call at the site begins with that word.
 fn ranked(alloc: Global, tokens: &[Token], span: Span) -> Result<Option<Change>, OutOfMemory>
     ensures { IfOk result (λ found. IfSome found (IsAlike tokens.now)) }
 {
@@ -50,7 +50,7 @@ fn ranked(alloc: Global, tokens: &[Token], span: Span) -> Result<Option<Change>,
     Ok(None)
 }
 
-/// WITH TIES for the limit of a select, where it has no OFFSET.
+/// WITH TIES for the limit of a select, where the select has no OFFSET.
 fn limited(alloc: Global, tokens: &[Token], span: Span) -> Result<Option<Change>, OutOfMemory>
     ensures { IfOk result (λ found. IfSome found (IsAlike tokens.now)) }
 {
@@ -63,14 +63,14 @@ fn limited(alloc: Global, tokens: &[Token], span: Span) -> Result<Option<Change>
     }
 }
 
-/// Whether OFFSET stands there.
+/// Whether OFFSET is among the tokens of a site.
 fn has_offset(tokens: &[Token], span: Span) -> bool {
     tokens
         .iter()
         .any(|token| is_within(token, span) && is_offset(token))
 }
 
-/// FETCH FIRST with ties in the place of LIMIT, where that stands there.
+/// FETCH FIRST with ties in place of LIMIT, where the site has LIMIT.
 fn fetched(alloc: Global, tokens: &[Token], span: Span) -> Result<Option<Change>, OutOfMemory>
     ensures { IfOk result (λ found. IfSome found (IsAlike tokens.now)) }
 {
@@ -82,7 +82,7 @@ fn fetched(alloc: Global, tokens: &[Token], span: Span) -> Result<Option<Change>
     Ok(None)
 }
 
-/// FETCH FIRST with ties in the place of LIMIT, which is the token of this number.
+/// FETCH FIRST with ties in place of LIMIT, which is the token of this number.
 fn fetched_at(
     alloc: Global,
     tokens: &[Token],
@@ -101,7 +101,7 @@ fn fetched_at(
     }
 }
 
-/// FETCH FIRST with ties in the place of a token up to another, where that is a number.
+/// FETCH FIRST with ties in place of the tokens from one up to another, where the last one is a number.
 fn limit_put(alloc: Global, limit: &Token, count: &Token) -> Result<Option<Change>, OutOfMemory>
     ensures { IfOk result (λ found. IfSome found (IsFetch limit.now count.now)) }
 {
@@ -116,7 +116,7 @@ fn limit_put(alloc: Global, limit: &Token, count: &Token) -> Result<Option<Chang
     Ok(Some(put(alloc, stretch, words.as_str())?))
 }
 
-/// WITH TIES in the place of ONLY, where that is the last word there.
+/// WITH TIES in place of ONLY, where that is the last word of the site.
 fn tied(alloc: Global, tokens: &[Token], span: Span) -> Result<Option<Change>, OutOfMemory>
     ensures { IfOk result (λ found. IfSome found (IsAlike tokens.now)) }
 {
@@ -128,7 +128,7 @@ fn tied(alloc: Global, tokens: &[Token], span: Span) -> Result<Option<Change>, O
     Ok(None)
 }
 
-/// Whether a token stands among these bytes.
+/// Whether a token is within these bytes.
 fn is_within(token: &Token, span: Span) -> bool {
     span.start <= token.span.start && token.span.end <= span.end
 }
@@ -156,7 +156,7 @@ fn is_word(token: &Token, wanted: &str) -> bool
     }
 }
 
-/// The change that puts words in the place of a stretch.
+/// The change that puts words in place of a range.
 fn put(alloc: Global, span: Span, words: &str) -> Result<Change, OutOfMemory>
     ensures at { IfOk result (λ c. c.at ≡ span.start) }
     ensures end { IfOk result (λ c. c.end ≡ span.end) }

@@ -47,28 +47,28 @@ ValuesGoByRows = (class : ClassRule) (frame : Frame) (function : Function) (rows
     → p < length rows → q < length others → row_at rows p ≡ row_at others q
     → value_at class frame function rows o1 p ≡ value_at class frame function others o2 q
 
--- the exchange law: two orderings of a class that gives every column put the same rows at each place of each partition
+-- the exchange law: two orderings of a class whose columns determine every column put the same rows at each place of each partition
 abbrev pub SameRowsAtPlaces : Type 0
 SameRowsAtPlaces = (class : ClassRule) (width : ℕ) (rows : List Row) (o1 o2 : List ℕ) (p : ℕ)
     → HasWidth width rows → DeterminesAll rows width (class_columns class) → IsOrdering class rows o1 → IsOrdering class rows o2
     → partition_of class rows o1 p ≡ partition_of class rows o2 p
 
--- the position that stands at a place of a rearrangement; past its end, one that names no row
+-- the position at a place of a rearrangement; past its end, one that names no row
 abbrev pub renamed : List Row → List ℕ → ℕ → ℕ
 renamed rows ps q = slice_index_or ps q (length rows)
 
--- rows rearranged: what stands at these positions of the rows, each of them once
+-- rows rearranged: the rows at these positions, each position once
 pub record IsRearranged (rows others : List Row) (ps : List ℕ) : Type 0 where
   pub once : EachOnce (length rows) ps
   pub shown : rows_at rows ps ≡ others
 
--- two orderings that differ by a renaming that keeps every column: it puts each row where the same one stood, and takes each partition
--- of the first ordering to that of the second
+-- two orderings that differ by a renaming that keeps every column: it puts each row where an equal one was, and takes each partition of
+-- the first ordering to that of the second
 pub record DifferByRenaming (class : ClassRule) (rows : List Row) (o1 o2 : List ℕ) (ps : List ℕ) : Type 0 where
   pub rearranged : IsRearranged rows rows ps
   pub partition : (p : ℕ) → p < length rows → members class rows o2 p ≡ map (renamed rows ps) (members class rows o1 p)
 
--- the exchange law as a renaming: two orderings of a class that gives every column differ by one
+-- the exchange law as a renaming: two orderings of a class whose columns determine every column differ by a renaming
 abbrev pub ExchangeRenames : Type 0
 ExchangeRenames = (class : ClassRule) (width : ℕ) (rows : List Row) (o1 o2 : List ℕ)
     → HasWidth width rows → DeterminesAll rows width (class_columns class) → IsOrdering class rows o1 → IsOrdering class rows o2
@@ -78,8 +78,8 @@ ExchangeRenames = (class : ClassRule) (width : ℕ) (rows : List Row) (o1 o2 : L
 abbrev pub with_results : ClassRule → List (Frame × Function) → List Row → List ℕ → ℕ → Row × List (Result Value Fault)
 with_results class calls rows ordering r = (row_at rows r, map (λ call. value_at class call.0 call.1 rows ordering r) calls)
 
--- The exchange law's other half: under two orderings of a class that gives every column, each row with its results stands
--- equally often, faults included: any test finds as many of them.
+-- The exchange law's other half: under two orderings of a class whose columns determine every column, each row with its results appears
+-- equally often, faults included: any test finds as many under one as under the other.
 abbrev pub SameResults : Type 0
 SameResults = (class : ClassRule) (calls : List (Frame × Function)) (width : ℕ) (rows : List Row) (o1 o2 : List ℕ) (test : Row × List (Result Value Fault) → Bool)
     → HasWidth width rows → DeterminesAll rows width (class_columns class) → IsOrdering class rows o1 → IsOrdering class rows o2
@@ -118,7 +118,7 @@ pub record Commutes (w : WindowRule) (rows : List Row) (ps : List ℕ) (os : Lis
 abbrev pub WindowCommutes : Type 0
 WindowCommutes = (w : WindowRule) (rows : List Row) (ps : List ℕ) (os : List (List ℕ)) → EachOnce (length rows) ps → AreOrderings w (rows_at rows ps) os → Commutes w rows ps os
 
--- ROW_NUMBER over the members of a partition, in their ordering, gives 1 to as many as there are
+-- ROW_NUMBER over the members of a partition, in their ordering, gives 1 up to the number of members
 abbrev pub RowNumbersCount : Type 0
 RowNumbersCount = (class : ClassRule) (frame : Frame) (rows : List Row) (ordering : List ℕ) (p : ℕ)
     → IsOrdering class rows ordering
@@ -143,7 +143,7 @@ pub record StepsCommute : Type 0 where
       → Agree (join_outcome condition (pairs left right)) (join_outcome condition (pairs others more))
   pub distinct : (rows others : List Row) → SameBag same_row rows others → SameBag same_row (distinct rows) (distinct others)
 
--- the groups of a set are those of its columns: rows show the same exactly where they are the same on these
+-- the groups of a set are those of its columns: the set shows the same of two rows exactly where they are the same on these columns
 abbrev pub GroupsGoByColumns : Type 0
 GroupsGoByColumns = (columns : ℕ) (set : List ℕ) (a b : Row) → AreBelow columns set → same_row (shown columns set a) (shown columns set b) ≡ same_row (columns_of set a) (columns_of set b)
 
@@ -159,8 +159,8 @@ GroupsPartRows = (columns : ℕ) (set : List ℕ) (rows : List Row) → AreGroup
 abbrev pub whole_frame : Frame
 whole_frame = record { mode = Rows; start = UnboundedPreceding; end = UnboundedFollowing; exclusion = NoOthers }
 
--- an aggregate of a row's group is what a window call of it gives at the row, partitioned by the set's columns, over the whole
--- partition, under any ordering
+-- an aggregate of a row's group is the value at the row of a window call of the aggregate, partitioned by the set's columns, over the
+-- whole partition, under any ordering
 abbrev pub GroupsAreWindows : Type 0
 GroupsAreWindows = (columns : ℕ) (set : List ℕ) (aggregate : AggregateFunction) (rows : List Row) (ordering : List ℕ) (r : ℕ)
     → AreBelow columns set → EachOnce (length rows) ordering
@@ -170,7 +170,8 @@ GroupsAreWindows = (columns : ℕ) (set : List ℕ) (aggregate : AggregateFuncti
 abbrev pub is_first : List Row → ℕ → Bool
 is_first rows p = not (list_any (λ q. same_row q (row_at rows p)) (take p rows))
 
--- at a row of a group: an aggregate as a window call over the whole partition by the set's columns, or the mask of GROUPING
+-- the value of a group's call at a row of the group: an aggregate as a window call over the whole partition by the set's columns, or
+-- the mask of GROUPING
 abbrev pub value_beside : List ℕ → List Row → List ℕ → ℕ → GroupCall → Result Value Fault
 value_beside set rows ordering p (OfRows aggregate) = value_at (record { partition = set; order = [] }) whole_frame (OfFrame (Aggregate aggregate)) rows ordering p
 value_beside set rows ordering p (Grouping columns) = Ok (Int (pos (mask set columns)))
@@ -179,8 +180,8 @@ value_beside set rows ordering p (Grouping columns) = Ok (Int (pos (mask set col
 abbrev pub row_beside : GroupRule → List ℕ → List Row → List ℕ → ℕ → Result Row Fault
 row_beside rule set rows ordering p = and_then (all_ok (map (value_beside set rows ordering p) rule.calls)) (λ values. Ok (shown rule.columns set (row_at rows p) ++ values))
 
--- A set with columns gives the rows that show what no earlier one does, with the values of a window that is partitioned by its
--- columns: so groups are evaluated as windows are.
+-- A set with columns gives the rows of which it shows what it shows of no earlier one, with the values of a window that is partitioned
+-- by its columns: so groups are evaluated as windows are.
 abbrev pub SetsAreWindows : Type 0
 SetsAreWindows = (rule : GroupRule) (set : List ℕ) (rows : List Row) (ordering : List ℕ)
     → 0 < length set → AreBelow rule.columns set → EachOnce (length rows) ordering
@@ -196,16 +197,16 @@ abbrev pub LimitCommutes : Type 0
 LimitCommutes = (limit : LimitRule) (rows : List Row) (ps ordering : List ℕ)
     → EachOnce (length rows) ps → IsOrdering (limit_class limit) (rows_at rows ps) ordering → CutCommutes limit rows ps ordering
 
--- a node's own orderings, behind those of the nodes below it
+-- a node's own orderings, after those of the nodes below it
 abbrev pub own_orderings : ℕ → ℕ → List (List ℕ) → List (List ℕ)
 own_orderings below number choice = take number (drop below choice)
 
--- orderings of a node's rearranged rows, with each position renamed to where its row stood; without rows nothing is renamed
+-- orderings of a node's rearranged rows, with each position renamed to where its row was; without rows nothing is renamed
 abbrev pub AreRenamedAt : RowsOrFault → RowsOrFault → List (List ℕ) → List (List ℕ) → Type 0
 AreRenamedAt (Ok rows) (Ok others) orderings own = (ps : List ℕ) × IsRearranged rows others ps × (own ≡ map (map (renamed rows ps)) orderings)
 AreRenamedAt rows others orderings own = own ≡ orderings
 
--- a choice over rearranged tables with its positions renamed: each ordering by how its node's rows are rearranged
+-- a choice over rearranged tables with its positions renamed: each ordering by the way its node's rows are rearranged
 abbrev pub AreRenamed : PlanTree → Instance → Instance → List (List ℕ) → List (List ℕ) → Type 0
 AreRenamed (Scan table columns) instance other choice own = ⊤
 AreRenamed (Join condition left right) instance other choice own =
@@ -221,7 +222,7 @@ AreRenamed (Limit limit input) instance other choice own =
     AreRenamed input instance other choice own
     × (let mine = own_orderings (ordering_count input) 1 in AreRenamedAt (outcome input instance own) (outcome input other choice) (mine choice) (mine own))
 
--- the same, with no ordering left over
+-- a renamed choice with no ordering left over
 pub record IsRenamed (plan : PlanTree) (instance other : Instance) (choice own : List (List ℕ)) : Type 0 where
   pub number : length own ≡ ordering_count plan
   pub each : AreRenamed plan instance other choice own
@@ -240,8 +241,8 @@ pub record PlanCommutes : Type 0 where
 abbrev pub frame_takes : ClassRule → Frame → List Row → ℕ → ℕ → Bool
 frame_takes class frame partition m n = in_frame class frame (group_of class partition) m (row_at partition m) n (row_at partition n)
 
--- The frame of the member at place m of a partition list has no gap: it takes each member between two that it takes, up to
--- UNBOUNDED FOLLOWING each one after, from UNBOUNDED PRECEDING each one before, and so its rows are a stretch of the list.
+-- The frame of the member at place m of a partition list has no gap: it takes each member between two that it takes, up to UNBOUNDED
+-- FOLLOWING each one after, from UNBOUNDED PRECEDING each one before, and so its rows are a contiguous range of the list.
 pub record IsContiguous (class : ClassRule) (frame : Frame) (partition : List Row) (m : ℕ) : Type 0 where
   pub between : (i j k : ℕ) → i < j → j < k → k < length partition
       → frame_takes class frame partition m i ≡ true → frame_takes class frame partition m k ≡ true → frame_takes class frame partition m j ≡ true
@@ -257,11 +258,11 @@ FramesAreContiguous = (class : ClassRule) (frame : Frame) (rows : List Row) (ord
     → IsOrdering class rows ordering → frame.exclusion ≡ NoOthers → m < length (partition_of class rows ordering p)
     → IsContiguous class frame (partition_of class rows ordering p) m
 
--- the size of the bucket after g others: how many of so many places have its number
+-- the size of the bucket after g others: how many of the `members` places have its number
 abbrev pub bucket_size : (ℕ → ℕ) → ℕ → ℕ → ℕ
 bucket_size number members g = count_by (λ place. nat_eq (number place) (g + 1)) (positions members)
 
--- So many members are dealt to n buckets, numbered from 1, as evenly as can be: the sizes differ by at most one, the larger
+-- The given number of members are dealt to n buckets, numbered from 1, as evenly as can be: the sizes differ by at most one, the larger
 -- ones come first, and together they are all members. Where there are fewer members than buckets the last ones are empty.
 pub record BucketsAreEven (n members : ℕ) (number : ℕ → ℕ) : Type 0 where
   pub sizes : (g : ℕ) → g < n → bucket_size number members g ≡ members / n + (if nat_lt g (members % n) then 1 else 0)
@@ -276,7 +277,7 @@ abbrev pub NtileIsEven : Type 0
 NtileIsEven = (class : ClassRule) (frame : Frame) (partition : List Row) (n : ℕ) → 0 < n
     → (number : ℕ → ℕ) × ((i : ℕ) → call_value class frame (Ranked (Ntile n)) partition i ≡ Ok (Int (pos (number i)))) × BucketsAreEven n (length partition) number
 
--- v is one of the values, none of them that is not NULL comes before it, and it is NULL only where all are
+-- v is one of the values, no value that is not NULL comes before it, and it is NULL only where all values are
 pub record IsFirstOf (comes_before : Value → Value → Bool) (values : List Value) (v : Value) : Type 0 where
   pub member : 0 < length values → (i : ℕ) × (i < length values) × (slice_index_or values i Null ≡ v)
   pub over_nothing : length values ≡ 0 → v ≡ Null
@@ -296,7 +297,7 @@ HasWidths = (tables : List TableRule) (plan : PlanTree) (instance : Instance) (c
 abbrev pub IsOfKinds : Kinds → Row → Type 0
 IsOfKinds kinds row = (c : ℕ) (kind : ValueKind) → kinds c ≡ Some kind → is_of_kind kind (column_of row c) ≡ true
 
--- and their values are of their columns' kinds
+-- the values of the rows of a node are of their columns' kinds
 abbrev pub HasKinds : Type 0
 HasKinds = (tables : List TableRule) (plan : PlanTree) (instance : Instance) (choice : List (List ℕ))
     → fits tables plan ≡ true → Meets tables instance → AreLawful plan instance choice → AtRows (outcome plan instance choice) (AllByRecursion (IsOfKinds (kinds_of tables plan))) ⊤

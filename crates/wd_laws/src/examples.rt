@@ -10,7 +10,7 @@ ghost use Rattle.wd_laws.specs.examples.Faults.{FaultsComeOut};
 ghost use Rattle.wd_laws.specs.examples.Choosing.{ChoicesComeOut};
 ghost use Rattle.wd_laws.specs.examples.Agreeing.{AgreeingComesOut};
 
-/// What the window functions give over a few rows.
+/// The values of the window functions over a few rows.
 pub fn functions_come_out()
     ensures { FunctionsComeOut }
 {}
@@ -40,7 +40,7 @@ pub fn limits_come_out()
     ensures { LimitsComeOut }
 {}
 
-/// Which fault a step has, and which it has not.
+/// Which fault a step has, and which it does not have.
 pub fn faults_come_out()
     ensures { FaultsComeOut }
 {}

@@ -12,25 +12,24 @@ pub fn agreeing_is_an_equivalence()
     ensures { AgreeingIsAnEquivalence }
 {}
 
-/// Under the rules `peers`, `unique` and `values` a call's value or fault at a row is a function of
-/// the row's columns and of the input's rows, however they are ordered.
+/// Under the rules `peers`, `unique` and `values` a call's value (or fault) at a row is a function of the row's columns and of the
+/// input's rows, whatever their order.
 pub fn values_go_by_rows()
     ensures { ValuesGoByRows }
 {}
 
-/// Two lawful orderings of a class whose columns give every column put the same rows at each place
-/// of each partition.
+/// Two lawful orderings of a class whose columns determine every column put the same rows at each place of each partition.
 pub fn same_rows_at_places()
     ensures { SameRowsAtPlaces }
 {}
 
-/// Two orderings of a class that gives every column differ by a renaming that keeps every column.
+/// Two orderings of a class whose columns determine every column differ by a renaming that keeps every column.
 pub fn exchange_renames()
     ensures { ExchangeRenames }
 {}
 
-/// Under two lawful orderings of a class whose columns give every column each row stands equally
-/// often with the same results of the class's calls, values or faults.
+/// Under two lawful orderings of a class whose columns determine every column, each row appears equally often with the same results of
+/// the class's calls, values or faults.
 pub fn same_results()
     ensures { SameResults }
 {}
@@ -71,13 +70,12 @@ pub fn row_numbers_count()
     ensures { RowNumbersCount }
 {}
 
-/// Over rearranged rows a Filter, a Map, a Group, a Join and a Distinct have rearranged outcomes,
-/// faults included.
+/// Over rearranged rows a Filter, a Map, a Group, a Join and a Distinct have rearranged outcomes too, faults included.
 pub fn steps_commute()
     ensures { StepsCommute }
 {}
 
-/// Rows are of one group of a grouping set exactly where they are the same on its columns.
+/// Rows are of one group of a grouping set exactly where they are the same on the set's columns.
 pub fn groups_go_by_columns()
     ensures { GroupsGoByColumns }
 {}
@@ -87,8 +85,7 @@ pub fn groups_part_rows()
     ensures { GroupsPartRows }
 {}
 
-/// An aggregate of a row's group is what a window call of it gives at the row, over the whole partition
-/// by the set's columns.
+/// An aggregate of a row's group is the value at the row of a window call of the aggregate, over the whole partition by the set's columns.
 pub fn groups_are_windows()
     ensures { GroupsAreWindows }
 {}
@@ -119,7 +116,7 @@ pub fn ntile_is_even()
     ensures { NtileIsEven }
 {}
 
-/// MIN and MAX give one of the values, the least and the greatest, and NULL only where all are.
+/// MIN and MAX give one of the values, the least and the greatest, and NULL only where all are NULL.
 pub fn extremes_are_first()
     ensures { ExtremesAreFirst }
 {}
@@ -129,7 +126,7 @@ pub fn has_widths()
     ensures { HasWidths }
 {}
 
-/// Each value of these rows is of its column's kind.
+/// Each value of the rows of a plan that fits is of its column's kind.
 pub fn has_kinds()
     ensures { HasKinds }
 {}

@@ -30,12 +30,12 @@ abbrev pub IsCertified : Analysis → Type 0
 IsCertified (Certified certificate) = ⊤
 IsCertified (Open reasons marks) = ⊥
 
--- it leaves something open
+-- an analysis leaves something open
 abbrev pub IsOpen : Analysis → Type 0
 IsOpen (Certified certificate) = ⊥
 IsOpen (Open reasons marks) = ⊤
 
--- the two texts have a plan, and of its analysis this holds
+-- the two texts have a plan, and P holds of the analysis of the plan
 pub record Analyses (P : Analysis → Type 0) (schema query : List ℕ) : Type 0 where
   pub planned : PlannedQuery
   pub read : IsRead schema query planned
@@ -43,7 +43,7 @@ pub record Analyses (P : Analysis → Type 0) (schema query : List ℕ) : Type 0
   pub is : IsAnswer (schema_of planned.schema) (plan_of planned.resolved.plan) analysis
   pub holds : P analysis
 
--- a text is refused, for a cause that stands in it
+-- a text is refused, for a cause that it has
 pub record IsRefused (schema query : List ℕ) : Type 0 where
   pub error : TextError
   pub cause : HasTextCause schema query error
@@ -58,7 +58,7 @@ pub record IsMended (schema query : List ℕ) (mended : Mended) : Type 0 where
   pub put : ArePut query mended.changes.items mended.text.items
   pub closed : Analyses IsCertified schema mended.text.items
 
--- the changes put the keys in, and nothing is open then
+-- the changes put the keys in, and nothing is open in the changed text
 pub record Serves (schema query : List ℕ) (places : List KeyPlace) (keys : List ℕ) (mended : Mended) : Type 0 where
   pub are : AreKeyChanges keys places mended.changes.items
   pub mends : IsMended schema query mended
@@ -79,7 +79,7 @@ abbrev pub IsTried : List ℕ → List ℕ → List KeyPlace → List ℕ → Op
 IsTried schema query places keys None = Fails schema query places keys
 IsTried schema query places keys (Some mended) = Serves schema query places keys mended
 
--- the first of the lists that serves, each before it failing; none where all fail
+-- the first of the lists that succeeds, where each list before it fails; none where all fail
 abbrev pub IsFirst : List ℕ → List ℕ → List KeyPlace → List (String Global) → Option Mended → Type 0
 IsFirst schema query places [] None = ⊤
 IsFirst schema query places [] (Some mended) = ⊥
@@ -92,7 +92,7 @@ abbrev pub BeginWith : Reason → List Reason → Type 0
 BeginWith reason [] = ⊥
 BeginWith reason (first ∷ reasons) = first ≡ reason
 
--- this is open first
+-- an analysis has this reason first
 abbrev pub OpensWith : Reason → Analysis → Type 0
 OpensWith reason (Certified certificate) = ⊥
 OpensWith reason (Open reasons marks) = BeginWith reason reasons.items
@@ -102,7 +102,7 @@ abbrev pub IsFirstOpen : List ℕ → List ℕ → Option Reason → Type 0
 IsFirstOpen schema query None = IsRefused schema query ⊎ Analyses IsCertified schema query
 IsFirstOpen schema query (Some reason) = Analyses (OpensWith reason) schema query
 
--- the first of the lists that serves, put at the places of what is open first
+-- the first of the lists that succeeds, put at the places of what is open first
 abbrev pub IsMendedFor : List ℕ → List ℕ → List PlanSite → List (String Global) → Option Reason → Option Mended → Type 0
 IsMendedFor schema query sites lists None found = found ≡ None
 IsMendedFor schema query sites lists (Some reason) found = IsFirst schema query (places_at reason [] sites) lists found

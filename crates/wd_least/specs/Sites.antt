@@ -18,16 +18,16 @@ same_call (Some a) (Some b) = a == b
 abbrev pub is_of : Reason → PlanSite → Bool
 is_of reason found = found.node == reason.node && same_call found.call reason.call
 
--- a place for keys after others, where it is new
+-- places with one more place for keys appended, where it is new
 abbrev pub with_key : List KeyPlace → Option KeyPlace → List KeyPlace
 with_key places None = places
 with_key places (Some key) = if list_any (is_at key) places then places else places ++ key ∷ []
 
--- that of a site after others, where it is one of the call or the limit
+-- places with that of a site appended, where the site is one of the call or the limit
 abbrev pub with_site : Reason → List KeyPlace → PlanSite → List KeyPlace
 with_site reason places found = if is_of reason found then with_key places found.site.key else places
 
--- the places of sites after others
+-- places with those of sites appended
 abbrev pub places_at : Reason → List KeyPlace → List PlanSite → List KeyPlace
 places_at reason places [] = places
 places_at reason places (found ∷ sites) = places_at reason (with_site reason places found) sites

@@ -23,9 +23,9 @@ pub struct Mended {
     pub text: Vec<u8>,
 }
 
-/// The first of the lists of sort keys with which nothing is open in a query, put at each place for keys of the first call or limit that
-/// is open in it: these are among the sites of the query. None where each list leaves something open, or can't be put in, or makes a
-/// text that is refused, and where nothing is open or a text is refused.
+/// The first of the lists of sort keys with which nothing is open in a query, put at each place for keys of the first call or limit
+/// that is open in it: these are among the sites of the query. `None` where each list leaves something open, or can't be put in, or
+/// makes a text that is refused, and where nothing is open or a text is refused.
 pub fn mended_first(
     alloc: Global,
     schema: &[u8],
@@ -45,7 +45,7 @@ pub fn mended_first(
     }
 }
 
-/// The first call or limit that is open in a query. None where nothing is, and where a text is refused.
+/// The first call or limit that is open in a query. `None` where nothing is open, or where a text is refused.
 fn first_open(alloc: Global, schema: &[u8], query: &[u8]) -> Result<Option<Reason>, OutOfMemory>
     ensures { IfOk result (IsFirstOpen schema.now query.now) }
 {
@@ -58,7 +58,7 @@ fn first_open(alloc: Global, schema: &[u8], query: &[u8]) -> Result<Option<Reaso
     }
 }
 
-/// The first that is open in a plan.
+/// The first call or limit that is open in a plan.
 fn first_reason(alloc: Global, planned: PlannedQuery) -> Result<Option<Reason>, OutOfMemory>
     requires { fits (schema_of planned.schema) (plan_of planned.resolved.plan) ≡ true }
     ensures { (schema query : List ℕ) → IsRead schema query planned → IfOk result (IsFirstOpen schema query) }
@@ -88,7 +88,7 @@ fn first_mended(
     Ok(None)
 }
 
-/// The query with these keys, where nothing is open then.
+/// The query with these keys put in, if nothing is open in it then.
 fn tried(
     alloc: Global,
     schema: &[u8],
@@ -121,7 +121,7 @@ fn key_changes(
     Ok(changes)
 }
 
-/// A changed text, where nothing is open in it.
+/// A changed text, if nothing is open in it.
 fn judged(alloc: Global, schema: &[u8], mended: Mended) -> Result<Option<Mended>, OutOfMemory>
     ensures { IfOk result (AnswersKeys schema.now mended) }
 {
@@ -134,7 +134,7 @@ fn judged(alloc: Global, schema: &[u8], mended: Mended) -> Result<Option<Mended>
     }
 }
 
-/// A changed text that has a plan, where nothing is open in it.
+/// A changed text that has a plan, if nothing is open in it.
 fn analysed(
     alloc: Global,
     planned: PlannedQuery,

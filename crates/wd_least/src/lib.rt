@@ -1,6 +1,6 @@
-//! The first list of sort keys with which nothing is open in a query, put where the first call or limit that is open stands.
+//! The first list of sort keys with which nothing is open in a query, added at the places of the first call or limit that is open.
 //!
-//! `place` has the places of that, `least` tries the lists one after the other.
+//! `place` finds these places from the query's sites, `least` tries the lists one after the other.
 #![tactic(auto)]
 
 mod least;

@@ -1,4 +1,4 @@
-//! Where sort keys can be added for what is open.
+//! Where sort keys can be added for a call or a limit that is open.
 
 ghost use Rattle.std.specs.Prelude.{◌≡◌, [], IfOk, OnOk};
 ghost use Rattle.std.specs.List.{list_any};
@@ -24,7 +24,7 @@ pub(crate) fn places_at(
     Ok(places)
 }
 
-/// Adds the place of a site, where it is one of the call or the limit and its place is new.
+/// Adds the place of a site, if the site is one of the call or the limit and the place is new.
 fn add_place(places: &mut Vec<KeyPlace>, reason: Reason, found: PlanSite) -> Result<(), OutOfMemory>
     ensures { OnOk result (places.new.items ≡ spec.with_site reason places.old.items found) }
 {
@@ -39,7 +39,7 @@ fn add_place(places: &mut Vec<KeyPlace>, reason: Reason, found: PlanSite) -> Res
     Ok(())
 }
 
-/// Whether keys are added there already.
+/// Whether the places have this one already.
 fn has_place(places: &[KeyPlace], key: KeyPlace) -> bool
     ensures { result ≡ list_any (spec.is_at key) places.now }
 {

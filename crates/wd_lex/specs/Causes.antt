@@ -1,4 +1,4 @@
--- What stands in a text that is refused.
+-- The causes of refusals: what a text has that is refused.
 use Rattle.std.specs.Prelude.{◌≡◌, ◌≢◌, ℕ, ◌+◌, ◌<◌, ◌≤◌, ◌⊎◌, false, ◌||◌, ◌==◌, codes, List, [], ◌∷◌, ◌++◌, length, Option, Some, None, Result, Ok, Err}
 use Rattle.std.specs.Str.{IsUtf8}
 use Rattle.wd_lex.specs.declared.error.LexError.{LexError}
@@ -35,11 +35,11 @@ abbrev pub BeginsWith : ℕ → List ℕ → Type 0
 BeginsWith b [] = ⊥
 BeginsWith b (first ∷ rest) = first ≡ b
 
--- After an opening quote none closes: where one stands after a whole inside, it is the first of two.
+-- After an opening quote no quote closes: where one follows a whole inside, it is the first of two.
 abbrev pub IsOpen : ℕ → List ℕ → Type 0
 IsOpen quote bytes = (inside rest : List ℕ) → bytes ≡ doubled quote inside ++ quote ∷ rest → BeginsWith quote rest
 
--- a character with which nothing begins: no white space, letter, `_`, digit or quote, and no symbol stands there
+-- a character with which nothing begins: no white space, letter, `_`, digit or quote, and no symbol begins there
 abbrev pub IsUnknown : List ℕ → Type 0
 IsUnknown [] = ⊥
 IsUnknown (b ∷ rest) =
@@ -55,7 +55,7 @@ abbrev pub IsOpenName : List ℕ → Type 0
 IsOpenName bytes = (rest : List ℕ) × (bytes ≡ double_quote ∷ rest)
     × (IsOpen double_quote rest ⊎ ((more : List ℕ) × (rest ≡ double_quote ∷ more) × ¬ (BeginsWith double_quote more)))
 
--- all digits that stand there are a number that is too large, or that a letter, `_` or `.` follows at once
+-- all digits at the place are a number that is too large, or that a letter, `_` or `.` follows at once
 abbrev pub IsBadNumber : List ℕ → Type 0
 IsBadNumber bytes = (digits rest : List ℕ) × (bytes ≡ digits ++ rest) × IsPiece (Number digits) × IsLongest (Number digits) rest × ¬ (IsGoodNumber digits rest)
 
@@ -63,7 +63,7 @@ IsBadNumber bytes = (digits rest : List ℕ) × (bytes ≡ digits ++ rest) × Is
 abbrev pub IsOpenComment : List ℕ → Type 0
 IsOpenComment bytes = (rest : List ℕ) × (bytes ≡ codes "/*" ++ rest) × ((inside more : List ℕ) → EndsComment inside → rest ≢ inside ++ more)
 
--- what stands where a piece is refused
+-- what is at the place where a piece is refused
 abbrev pub IsRefused : LexError → List ℕ → Type 0
 IsRefused (UnknownCharacter place) bytes = IsUnknown bytes
 IsRefused (TextNotClosed place) bytes = IsOpenText bytes
@@ -74,7 +74,7 @@ IsRefused NotUtf8 bytes = ⊥
 IsRefused TooLong bytes = ⊥
 IsRefused OutOfMemory bytes = ⊥
 
--- The text before a place is cut into pieces, and what stands there is refused.
+-- The text before a place is cut into pieces, and what is at the place is refused.
 pub record IsRefusedAt (refusal : LexError) (text : List ℕ) (place : ℕ) : Type 0 where
   pub readable : IsReadable text
   pub pieces : List Piece
@@ -83,7 +83,7 @@ pub record IsRefusedAt (refusal : LexError) (text : List ℕ) (place : ℕ) : Ty
   pub there : place ≡ start_of text + length (spellings pieces)
   pub refused : IsRefused refusal rest
 
--- a refusal's cause stands in the text; where memory runs out none does
+-- a text has the cause of a refusal; running out of memory has none
 abbrev pub HasCause : LexError → List ℕ → Type 0
 HasCause (UnknownCharacter place) text = IsRefusedAt (UnknownCharacter place) text place
 HasCause (TextNotClosed place) text = IsRefusedAt (TextNotClosed place) text place
@@ -94,17 +94,17 @@ HasCause NotUtf8 text = (length text ≤ most_bytes) × ¬ (IsUtf8 text)
 HasCause TooLong text = most_bytes < length text
 HasCause OutOfMemory text = ⊥
 
--- the answer to a text: its tokens, or the refusal whose cause stands in it
+-- the answer to a text: its tokens, or the refusal whose cause it has
 abbrev pub IsAnswer : List ℕ → Result (List Token) LexError → Type 0
 IsAnswer text (Ok tokens) = IsLexed text tokens
 IsAnswer text (Err refusal) = HasCause refusal text
 
--- a refusal is the answer; out of memory may stand for any
+-- a refusal is the answer; out of memory may come in place of any answer
 abbrev pub Fails : {Y : Type 0} → LexError → Result Y LexError → Type 0
 Fails OutOfMemory answer = Unit {0}
 Fails refusal answer = answer ≡ Err refusal
 
--- What a call returned, seen by view, is this answer, unless memory ran out.
+-- What a call returned, seen through `view`, is this answer, unless memory ran out.
 abbrev pub Gives : {X Y : Type 0} → (X → Y) → Result X LexError → Result Y LexError → Type 0
 Gives view (Ok found) answer = answer ≡ Ok (view found)
 Gives view (Err refusal) answer = Fails refusal answer

@@ -22,7 +22,7 @@ underscore = 95
 abbrev pub begins_word : ℕ → Bool
 begins_word b = is_ascii_alphabetic b || b == underscore
 
--- what an unquoted word goes on with: letters, digits, `_` and `$`
+-- what an unquoted word may continue with: letters, digits, `_` and `$`
 abbrev pub goes_on_word : ℕ → Bool
 goes_on_word b = is_ascii_alphanumeric b || b == underscore || b == 36
 

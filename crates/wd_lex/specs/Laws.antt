@@ -18,7 +18,7 @@ HasOneAnswer = (text : List ℕ) (first second : Result (List Token) LexError) �
 abbrev pub HasAnswer : Type 0
 HasAnswer = (text : List ℕ) → (answer : Result (List Token) LexError) × IsAnswer text answer
 
--- No longer front of what a piece begins is a piece.
+-- No longer front of the bytes that a piece begins is a piece.
 abbrev pub IsLongestFront : Type 0
 IsLongestFront = (piece longer : Piece) (rest more : List ℕ) → Stands piece rest → IsPiece longer → spelling piece ++ rest ≡ spelling longer ++ more → length (spelling longer) ≤ length (spelling piece)
 

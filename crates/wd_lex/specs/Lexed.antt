@@ -51,7 +51,7 @@ pub record IsLexed (text : List ℕ) (tokens : List Token) : Type 0 where
 abbrev pub kinds_of : List Token → List TokenKind
 kinds_of tokens = map (λ token. token.kind) tokens
 
--- each token stands after the one before it, and all lie between two places
+-- each token comes after the one before it, and all lie between two places
 abbrev pub AreInOrder : ℕ → List Token → ℕ → Type 0
 AreInOrder start [] end = start ≤ end
 AreInOrder start (token ∷ tokens) end = (start ≤ token.span.start) × (token.span.start < token.span.end) × AreInOrder token.span.end tokens end

@@ -1,5 +1,5 @@
--- The pieces of a text: white space, comments and tokens.
--- They are those of PostgreSQL's manual, section 4.1, but for what is said to be this project's choice.
+-- The pieces of a text: white space, comments and tokens. They are those of PostgreSQL's manual, section 4.1, except where a comment
+-- says that something is this project's choice.
 use Rattle.std.specs.Prelude.{◌≡◌, ◌≢◌, ℕ, ◌≤◌, ◌^◌, Bool, true, false, not, codes, List, [], ◌∷◌, ◌++◌, map, Option, Some, None, IsSome, if◌then◌else◌, ◌==◌}
 use Rattle.std.specs.Char.{to_ascii_lowercase}
 use Rattle.std.specs.List.{flat_map, list_all}
@@ -27,7 +27,7 @@ pub data Piece : Type 0 where
 abbrev pub doubled : ℕ → List ℕ → List ℕ
 doubled quote inside = flat_map (λ b. if b == quote then b ∷ b ∷ [] else b ∷ []) inside
 
--- the same between its quotes
+-- what quotes hold, doubled and between its quotes
 abbrev pub in_quotes : ℕ → List ℕ → List ℕ
 in_quotes quote inside = quote ∷ doubled quote inside ++ quote ∷ []
 
@@ -49,7 +49,7 @@ pub data EndsComment : List ℕ → Type 0 where
   character : (b c : ℕ) (bytes : List ℕ) → b ∷ c ∷ [] ≢ codes "/*" → b ∷ c ∷ [] ≢ codes "*/" → EndsComment (c ∷ bytes) → EndsComment (b ∷ c ∷ bytes)
   comment : (inner bytes : List ℕ) → EndsComment inner → EndsComment bytes → EndsComment (codes "/*" ++ inner ++ bytes)
 
--- a byte to begin with, and any number of others to go on
+-- a byte that may begin the run, and any number of bytes that may continue it
 abbrev pub IsRunOf : (ℕ → Bool) → (ℕ → Bool) → List ℕ → Type 0
 IsRunOf begins goes_on [] = ⊥
 IsRunOf begins goes_on (b ∷ bytes) = (begins b ≡ true) × (list_all goes_on bytes ≡ true)
@@ -71,7 +71,7 @@ abbrev pub IsLongest : Piece → List ℕ → Type 0
 IsLongest piece [] = Unit {0}
 IsLongest piece (next ∷ rest) = (longer : Piece) (more : List ℕ) → IsPiece longer → spelling longer ≢ spelling piece ++ next ∷ more
 
--- the greatest number: the size of the least one of 64 bits with a sign, so that a minus may stand before it
+-- the greatest number: the size of the least one of 64 bits with a sign, so that a minus may come before it
 abbrev pub greatest_number : ℕ
 greatest_number = 2 ^ 63
 
@@ -85,7 +85,7 @@ abbrev pub IsGood : Piece → List ℕ → Type 0
 IsGood (Number digits) rest = IsGoodNumber digits rest
 IsGood _ rest = Unit {0}
 
--- a piece that may stand before these bytes
+-- a piece that may come before these bytes
 pub record Stands (piece : Piece) (rest : List ℕ) : Type 0 where
   pub is : IsPiece piece
   pub longest : IsLongest piece rest
@@ -95,7 +95,7 @@ pub record Stands (piece : Piece) (rest : List ℕ) : Type 0 where
 abbrev pub spellings : List Piece → List ℕ
 spellings pieces = flat_map spelling pieces
 
--- each piece stands before the next, and the last before the rest
+-- each piece may come before the next, and the last before the rest
 abbrev pub ArePieces : List Piece → List ℕ → Type 0
 ArePieces [] rest = Unit {0}
 ArePieces (piece ∷ pieces) rest = Stands piece (spellings pieces ++ rest) × ArePieces pieces rest
@@ -105,7 +105,7 @@ abbrev pub word_kind : List ℕ → Option Terminal → TokenKind
 word_kind word (Some terminal) = k.Terminal terminal
 word_kind word None = k.Word word
 
--- the token that a piece is; white space and comments are none
+-- the token that a piece is; white space and comments are no token
 abbrev pub kind_of : Piece → Option TokenKind
 kind_of (Blanks bytes) = None
 kind_of (LineComment line) = None

@@ -1,5 +1,5 @@
--- Reading a text from left to right, a piece at a time. Contracts of private functions cite it. That it reads just the
--- pieces, and refuses just where a cause stands, is proved in proofs/SoundReading and proofs/CompleteReading.
+-- Reading a text from left to right, a piece at a time. Contracts of private functions cite it. That it reads exactly the pieces, and
+-- refuses exactly where there is a cause, is proved in proofs/SoundReading and proofs/CompleteReading.
 use Rattle.std.specs.Prelude.{ℕ, ◌+◌, ◌-◌, Bool, false, not, ◌&&◌, if◌then◌else◌, ◌==◌, nat_eq, nat_le, codes, List, [], ◌∷◌, ◌++◌, length, take, drop, slice_index, Option, Some, None, is_some, Result, Ok, Err}
 use Rattle.std.specs.List.{prefix_len, take_while, starts_with}
 use Rattle.std.specs.Option.{option_map}
@@ -39,7 +39,7 @@ kind_at bytes =
     else (if starts_with nat_eq bytes (codes "/*") then kind.BlockComment
     else kind.Symbol))))))
 
--- the place after the `*/` that closes a comment, so many comments deep in it, for bytes that begin at a place
+-- the place after the `*/` that closes a comment, `depth` comments deep in it, for bytes that begin at a place
 abbrev pub comment_end : ℕ → ℕ → List ℕ → Option ℕ
 comment_end depth at [] = None
 comment_end depth at (b ∷ []) = None
@@ -47,7 +47,7 @@ comment_end depth at (b ∷ c ∷ bytes) =
     if b == 42 && c == 47 then (if depth == 0 then Some (at + 2) else comment_end (depth - 1) (at + 2) bytes)
     else (if b == 47 && c == 42 then comment_end (depth + 1) (at + 2) bytes else comment_end depth (at + 1) (c ∷ bytes))
 
--- with these bytes in front of the inside
+-- a found inside, with these bytes before it
 abbrev pub behind : List ℕ → Option (List ℕ × List ℕ) → Option (List ℕ × List ℕ)
 behind front found = option_map (λ x. (front ++ x.0, x.1)) found
 
@@ -63,7 +63,7 @@ unquote quote (b ∷ c ∷ bytes) =
 abbrev pub symbol_front : List ℕ → List ℕ
 symbol_front bytes = if is_some (lookup symbols (take 2 bytes)) then take 2 bytes else take 1 bytes
 
--- a letter, `_` or `.` stands first
+-- whether a letter, `_` or `.` comes first
 abbrev pub is_spoiled : List ℕ → Bool
 is_spoiled [] = false
 is_spoiled (b ∷ bytes) = spoils_number b
@@ -90,7 +90,7 @@ abbrev pub read_name : ℕ → Option (List ℕ × List ℕ) → Reading
 read_name place None = Err (NameNotClosed place)
 read_name place (Some found) = if length found.0 == 0 then Err (NameNotClosed place) else Ok (QuotedName found.0, found.1)
 
--- a text, by the same
+-- a text, by what its quotes hold and what follows
 abbrev pub read_text : ℕ → Option (List ℕ × List ℕ) → Reading
 read_text place None = Err (TextNotClosed place)
 read_text place (Some found) = Ok (QuotedText found.0, found.1)

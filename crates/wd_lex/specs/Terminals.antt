@@ -1,4 +1,4 @@
--- Terminals, the reserved words and the symbols: how they are spelled, and a number that tells them apart.
+-- Terminals, the reserved words and the symbols: how they are spelled, and a number for each terminal.
 use Rattle.std.specs.Prelude.{ℕ, codes, List, [], ◌∷◌, Option, Some, None, if◌then◌else◌, slice_index_or}
 use Rattle.std.specs.Str.{bytes_eq}
 use Rattle.wd_lex.specs.declared.token.Terminal.{Terminal}

@@ -10,9 +10,9 @@ ghost use Rattle.wd_lex.specs.Reading.{is_in, drop_while};
 pub enum Class {
     /// White space.
     Blank,
-    /// All but the end of a line.
+    /// All bytes but the ends of lines.
     Line,
-    /// What a word goes on with.
+    /// What a word may continue with.
     Word,
     Digit,
 }

@@ -52,7 +52,7 @@ impl LexError {
         }
     }
 
-    /// The byte at which the refused piece begins, for 101 to 105.
+    /// The byte at which the refused piece begins, for 101 to 105; `None` for the others.
     pub fn place(&self) -> Option<u64>
         ensures { result ≡ place_of self.now }
     {

@@ -18,7 +18,7 @@ pub fn has_answer()
     ensures { HasAnswer }
 {}
 
-/// A piece is the longest front of what it begins that is a piece.
+/// A piece is the longest piece that the bytes from its place on begin with.
 pub fn longest_front()
     ensures { IsLongestFront }
 {}

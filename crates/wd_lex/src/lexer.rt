@@ -63,23 +63,23 @@ fn answer(alloc: Global, text: &[u8]) -> Result<Vec<Token>, LexError>
 
 /// The tokens of a text of SQL.
 ///
-/// White space and comments stand between tokens, and are none. One U+FEFF at the very start is skipped. Texts are at
-/// most 65,536 bytes long. The refusal is 107 where a text is longer, else 106 where it is not UTF-8, else that of the
-/// first piece in the text that is no white space, comment or token.
+/// White space and comments separate tokens, and are no tokens. One U+FEFF at the very start is skipped. Texts are at most 65,536 bytes
+/// long. The refusal is 107 where a text is longer, else 106 where it is not UTF-8, else that of the first piece in the text that is no
+/// white space, comment or token.
 pub fn lex(alloc: Global, text: &[u8]) -> Result<Vec<Token>, LexError>
     // The text is short enough and UTF-8, and the tokens are its own.
     ensures tokens { IfOk result (λ found. IsLexed text.now found.items) }
 
-    // The tokens stand in order, within the text.
+    // The tokens are in order, within the text.
     ensures order { IfOk result (λ found. AreInOrder 0 found.items (length text.now)) }
 
-    // A refusal comes only where its cause stands in the text.
+    // A refusal occurs only where the text has its cause.
     ensures cause { IfErr result (λ refusal. refusal ≢ LexError.OutOfMemory → HasCause refusal text.now) }
 
-    // Where a cause stands, the text is refused so, unless memory runs out.
+    // Where the text has a cause, it is refused with that refusal, unless memory runs out.
     ensures refused { (refusal : LexError) → HasCause refusal text.now → Gives (λ found. found.items) result (Err refusal) }
 
-    // Where none does, its tokens are given, unless memory runs out.
+    // Where the text has tokens, these are the answer, unless memory runs out.
     ensures lexed { (tokens : List Token) → IsLexed text.now tokens → Gives (λ found. found.items) result (Ok tokens) }
 {
     answer(alloc, text)

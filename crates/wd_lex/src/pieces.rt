@@ -34,7 +34,7 @@ pub enum Kind {
 /// The greatest number: a minus before it gives the least whole number of 64 bits.
 const GREATEST_NUMBER: u64 = 1 << 63;
 
-/// The kind of the piece that begins there.
+/// The kind of the piece that begins with these bytes.
 #[tactic(auto, unfolding(crate::specs::Reading::kind_at))]
 fn kind_at(bytes: &[u8]) -> Kind
     ensures { result ≡ spec.kind_at bytes.now }
@@ -165,7 +165,7 @@ fn word(alloc: Global, text: &str) -> Result<(Option<TokenKind>, &str), LexError
     Ok((Some(word_kind(alloc, word)?), rest))
 }
 
-/// The number that digits write, if it is not too large.
+/// The number that the digits write, if it is not too large.
 fn number_value(digits: &str) -> Option<u64>
     requires digits { list_all is_digit digits.now ≡ true }
     requires some { 0 < length digits.now }
@@ -177,7 +177,7 @@ fn number_value(digits: &str) -> Option<u64>
     }
 }
 
-/// Whether a letter, `_` or `.` stands first.
+/// Whether a letter, `_` or `.` comes first.
 fn is_spoiled(text: &str) -> bool
     ensures { result ≡ spec.is_spoiled text.now }
 {

@@ -82,7 +82,7 @@ const SYMBOLS: [(&[u8], Terminal); 17] = [
     (b">=", Terminal::GreaterOrEqual),
 ];
 
-// The terminal that a table has for a spelling.
+// The terminal that a table has for a spelling, if any.
 fn lookup(mut table: &[(&[u8], Terminal)], bytes: &[u8]) -> Option<Terminal>
     ensures { result ≡ lookup (map (λ entry. (entry.0.now, entry.1)) table.entry.now) bytes.now }
 {
@@ -95,14 +95,14 @@ fn lookup(mut table: &[(&[u8], Terminal)], bytes: &[u8]) -> Option<Terminal>
     None
 }
 
-/// The reserved word of that spelling.
+/// The reserved word of that spelling, if any.
 pub fn reserved_word(word: &[u8]) -> Option<Terminal>
     ensures { result ≡ lookup reserved_words word.now }
 {
     lookup(&RESERVED_WORDS, word)
 }
 
-/// The symbol of that spelling.
+/// The symbol of that spelling, if any.
 pub fn symbol(bytes: &[u8]) -> Option<Terminal>
     ensures { result ≡ lookup symbols bytes.now }
 {

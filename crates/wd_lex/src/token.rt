@@ -1,6 +1,6 @@
 use wd_value::Text;
 
-/// Where a token stands: the bytes of the text from `start` up to `end`.
+/// Where a token is: the bytes of the text from `start` up to `end`.
 #[derive(Clone, Copy, PartialEq, Eq)]
 pub struct Span {
     pub start: u64,
@@ -113,7 +113,7 @@ pub enum TokenKind {
     Number(u64),
 }
 
-/// A token, and where it stands.
+/// A token, and where it is.
 #[derive(Drop)]
 pub struct Token {
     pub kind: TokenKind,

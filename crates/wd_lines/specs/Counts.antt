@@ -7,7 +7,7 @@ use Rattle.wd_lines.specs.declared.count.Kind.TheVariants.{Deterministic, Depend
 use Rattle.wd_lines.specs.declared.count.Standing.{Standing}
 use Rattle.wd_lines.specs.declared.count.Standing.TheVariants.{New, Excused, Known}
 
--- a sum as 64 bits hold it, the largest standing for all above
+-- a sum, capped at the largest number of 64 bits
 abbrev pub capped : ℕ → ℕ
 capped n = min n (2 ^ 64 - 1)
 
@@ -42,11 +42,11 @@ with_standing NotRead New counts = record counts { new_not_read = capped (counts
 with_standing NotRead Excused counts = record counts { new_not_read = capped (counts.new_not_read + 1) }
 with_standing NotRead Known counts = with_known counts
 
--- one more query
+-- the counts with one more query
 abbrev pub with_query : Kind → Standing → Bool → Counts → Counts
 with_query kind standing is_mended counts = with_standing kind standing (with_mended is_mended (with_kind kind counts))
 
--- by what is new: a query that is not read, else one that depends or, where that is not allowed, may tie
+-- the exit status by the queries that are new: 2 where one is not read, else 1 where one depends or, unless that is allowed, may tie
 abbrev pub status : (allows_unknown : Bool) → Counts → ℕ
 status allows_unknown counts =
     if nat_lt 0 counts.new_not_read then 2 else (if nat_lt 0 counts.new_depend || (nat_lt 0 counts.new_may_tie && not allows_unknown) then 1 else 0)
@@ -67,7 +67,7 @@ other_words counts = decimal counts.may_tie ++ codes " may tie, " ++ decimal cou
 abbrev pub mended_words : Counts → List ℕ
 mended_words counts = decimal counts.mended ++ codes " can be mended by a key"
 
--- how many there are, where there are any
+-- a count and a word for it, where the count is not 0
 abbrev pub some_words : ℕ → List ℕ → List ℕ
 some_words count word = if nat_lt 0 count then codes "; " ++ decimal count ++ codes " " ++ word else []
 

@@ -69,7 +69,7 @@ fn add_differing(
     add_pairs(out, names, &left, &right)
 }
 
-/// Adds a line for two answers of many rows.
+/// Adds a line for two answers of too many rows to compare.
 fn add_sizes(out: &mut String, first: u64, second: u64) -> Result<(), OutOfMemory> {
     Ok(writeln!(out, "      = answer: {first} rows   or   {second} others")?)
 }
@@ -85,7 +85,7 @@ fn add_outcome(out: &mut String, outcome: &Outcome) -> Result<(), OutOfMemory> {
     }
 }
 
-/// The rows that stand more often in one list than in another.
+/// The rows that appear more often in one list than in another.
 fn lacking<'a>(
     alloc: Global,
     rows: &'a [Row],
@@ -141,7 +141,7 @@ fn add_side(out: &mut String, names: &[Text], row: Option<&&Row>) -> Result<(), 
     }
 }
 
-/// Adds the values of a row, each behind its column's name.
+/// Adds the values of a row, each after its column's name.
 fn add_row(out: &mut String, names: &[Text], row: &[Value]) -> Result<(), OutOfMemory> {
     let mut names = names.iter();
     for (number, value) in row.iter().enumerate() {

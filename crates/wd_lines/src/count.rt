@@ -16,7 +16,7 @@ pub enum Kind {
     NotRead,
 }
 
-/// How a finding is taken.
+/// How a finding counts.
 #[derive(Clone, Copy, Debug, PartialEq, Eq)]
 pub enum Standing {
     /// It is new, and counts against the queries.
@@ -27,7 +27,7 @@ pub enum Standing {
     Known,
 }
 
-/// How many queries count as what, how many of them a key mends, how many are excused or known, and how many are neither.
+/// How many queries are of each kind, how many of them a key mends, how many are excused or known, and how many of each kind are neither.
 #[derive(Clone, Copy, Debug, PartialEq, Eq)]
 pub struct Counts {
     pub deterministic: u64,
@@ -56,8 +56,8 @@ impl Counts {
         new_not_read: 0,
     };
 
-    /// Counts one more query. One that is not read is not excused, since nothing is known of it, and one that is deterministic
-    /// needs no excuse. Past the largest number that 64 bits hold nothing is counted.
+    /// Counts one more query. A query that is not read is not excused, since nothing is known of it, and one that is deterministic
+    /// needs no excuse. A count stops at the largest number of 64 bits.
     pub fn add(&mut self, kind: Kind, standing: Standing, is_mended: bool)
         ensures { self.new ≡ spec.with_query kind standing is_mended self.old }
     {
@@ -87,8 +87,8 @@ impl Counts {
         }
     }
 
-    /// The exit status: 2 where a query is not read, else 1 where one depends or may tie, else 0. What is excused or known counts
-    /// for none of these, nor does what may tie where that is allowed.
+    /// The exit status: 2 where a query is not read, else 1 where one depends or may tie, else 0. Queries that are excused or known do
+    /// not count here, nor do those that may tie where that is allowed.
     pub fn status(&self, allows_unknown: bool) -> u8
         ensures { result ≡ spec.status allows_unknown self.now }
     {
@@ -111,7 +111,7 @@ impl Counts {
             .saturating_add(self.not_read)
     }
 
-    /// Adds how many queries there are, and how many have a witness or a certificate.
+    /// Adds how many queries there are, and how many are deterministic and how many depend.
     fn add_decided(&self, text: &mut String) -> Result<(), OutOfMemory>
         ensures { IfOk result (λ _. string_bytes text.new ≡ string_bytes text.old ++ spec.decided_words self.now) }
     {
@@ -125,7 +125,7 @@ impl Counts {
         )?)
     }
 
-    /// Adds how many have neither, and how many are not read.
+    /// Adds how many may tie, and how many are not read.
     fn add_others(&self, text: &mut String) -> Result<(), OutOfMemory>
         ensures { IfOk result (λ _. string_bytes text.new ≡ string_bytes text.old ++ spec.other_words self.now) }
     {
@@ -166,14 +166,14 @@ impl Counts {
     }
 }
 
-/// What so many queries are called.
+/// The noun for `count` queries.
 fn noun(count: u64) -> &'static str
     ensures { result.now ≡ spec.noun count }
 {
     if count == 1 { "query" } else { "queries" }
 }
 
-/// Adds how many there are of a kind, where there are any.
+/// Adds `count` and the word for a kind, where there are any.
 fn add_some(text: &mut String, count: u64, word: &str) -> Result<(), OutOfMemory>
     ensures { IfOk result (λ _. string_bytes text.new ≡ string_bytes text.old ++ spec.some_words count word.now) }
 {

@@ -1,10 +1,10 @@
 //! The lines of blocks, and the line that counts queries.
 //!
-//! `lines` makes the parts of a block: where something stands, the line of the text with carets, a remark. `tables` shows rows of
-//! tables and `answers` the rows in which two answers differ, by names of columns. `refusal` makes the block of what is not read,
-//! with the sentences of `words` and what `remedy` has for the word at which it stands.
+//! `lines` makes the parts of a block: where something is, the line of the text with carets, a remark. `tables` shows rows of tables
+//! and `answers` the rows in which two answers differ, by names of columns. `refusal` makes the block of what is not read, with the
+//! sentences of `words` and what `remedy` has for the word at which the refusal is.
 //!
-//! What a public call adds to a text is made apart, and appended in one step: where memory runs out, the text stays as it was.
+//! What a public call adds to a text is made separately, and appended in one step: where memory runs out, the text stays as it was.
 #![tactic(auto)]
 
 mod answers;

@@ -11,7 +11,7 @@ use wd_lex::Span;
 use wd_source::{Position, line_around, position_at};
 use wd_value::OutOfMemory;
 
-/// Adds where bytes of a text stand: the path, the line, the column and `: `.
+/// Adds where bytes of a text are: the path, the line, the column and `: `.
 pub fn add_place(out: &mut String, path: &str, text: &[u8], span: Span) -> Result<(), OutOfMemory>
     ensures written { OnOk result (spec.HasPlace path.now text.now span.start (string_bytes out.old) (string_bytes out.new)) }
     ensures kept { OnErr result (string_bytes out.new ≡ string_bytes out.old) }
@@ -22,7 +22,7 @@ pub fn add_place(out: &mut String, path: &str, text: &[u8], span: Span) -> Resul
     Ok(out.push_str(piece.as_str())?)
 }
 
-/// Adds a line and a column, and `: `.
+/// Adds the numbers of a line and a column, and `: `.
 fn add_position(out: &mut String, position: Position) -> Result<(), OutOfMemory>
     ensures { OnOk result (string_bytes out.new ≡ string_bytes out.old ++ spec.position_words position) }
 {
@@ -62,7 +62,7 @@ fn excerpt(alloc: Global, text: &[u8], span: Span) -> Result<String, OutOfMemory
     Ok(lines)
 }
 
-/// How many characters bytes are.
+/// How many characters the bytes are; where they are no UTF-8, how many bytes.
 fn characters(bytes: &[u8]) -> usize {
     match str::from_utf8(bytes) {
         Ok(text) => text.chars().count(),
@@ -94,7 +94,7 @@ fn remark_line(alloc: Global, remark: &str) -> Result<String, OutOfMemory>
     Ok(format!(in alloc; "      = {remark}\n")?)
 }
 
-/// Adds bytes of a text on one line, with one blank for each white space; none where they are no UTF-8.
+/// Adds bytes of a text on one line, with one blank for each white space; nothing where they are not UTF-8.
 pub fn add_joined(out: &mut String, bytes: &[u8]) -> Result<(), OutOfMemory>
     ensures written { OnOk result (IsUtf8 bytes.now → string_bytes out.new ≡ string_bytes out.old ++ spec.joined bytes.now) }
     ensures no_text { OnOk result (¬ (IsUtf8 bytes.now) → string_bytes out.new ≡ string_bytes out.old) }

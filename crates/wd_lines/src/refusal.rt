@@ -12,8 +12,8 @@ use std::fmt::Write;
 use wd_lex::Span;
 use wd_value::OutOfMemory;
 
-/// The sentence of a refusal of this number in a text, and what to write in place of what is refused: by the word at which it
-/// stands, where that says what was meant.
+/// The sentence of a refusal of this number in a text, and what to write in place of what is refused: by the word at which the refusal
+/// is, where that word tells what was meant.
 pub fn refusal_words_at(
     number: u32,
     text: &[u8],
@@ -24,7 +24,7 @@ pub fn refusal_words_at(
     (sentence, meant.unwrap_or(usual))
 }
 
-/// Adds the block of a refusal of this number in a text of a path: where it stands, where a place is known.
+/// Adds the block of a refusal of this number in the text of a path, with its place where that is known.
 pub fn add_refusal(
     out: &mut String,
     path: &str,
@@ -73,7 +73,7 @@ pub fn add_remark(out: &mut String, path: &str, remark: &str) -> Result<(), OutO
     Ok(out.push_str(line.as_str())?)
 }
 
-/// A line about a path, and an empty one behind it.
+/// A line about a path, and an empty line after it.
 fn remark_on(alloc: Global, path: &str, remark: &str) -> Result<String, OutOfMemory>
     ensures { IfOk result (λ line. string_bytes line ≡ spec.remark_on path.now remark.now) }
 {

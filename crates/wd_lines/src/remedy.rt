@@ -1,12 +1,12 @@
 //! What to write in place of a word that is not read.
 //!
-//! A refusal's number says what is wrong in general; the word at which it stands, or else the one before that, often says what its
-//! author meant. So each number that stands at a word has a table of such words here, and `remedy_at` looks one up. The word at the
-//! place comes first: a column may be named `date`.
+//! A refusal's number says what is wrong in general; the word at which it is, or else the word before that, often says what its author
+//! meant. So each number that comes with a word has a table of such words here, and `remedy_at` looks one up. The word at the place
+//! comes first: a column may be named `date`.
 
 use wd_lex::Span;
 
-/// What to write in place of what is refused by this number at a stretch of a text, where its word says so.
+/// What to write in place of what is refused by this number at a range of a text, where the word there tells what was meant.
 pub(crate) fn remedy_at(number: u32, text: &[u8], span: Span) -> Option<&'static str> {
     let start = (span.start as usize).min(text.len());
     let end = (span.end as usize).min(text.len()).max(start);
@@ -36,7 +36,7 @@ fn found(table: &[(&'static str, &'static str)], word: &[u8]) -> Option<&'static
     None
 }
 
-/// The word that stands last in a text, but for white space behind it.
+/// The last word of a text, apart from white space after it.
 fn last_word(text: &[u8]) -> &[u8] {
     let text = text.trim_ascii_end();
     let start = match text.iter().rposition(|byte| !is_of_word(*byte)) {
@@ -108,7 +108,7 @@ const AT_CHARACTER: [(&str, &str); 8] = [
     ("@", "write a value in place of a variable"),
 ];
 
-/// By the word with which no query goes on.
+/// By the word that cannot come next in a query.
 const AT_WORD: [(&str, &str); 40] = [
     (
         "in",
@@ -185,7 +185,7 @@ const AT_WORD: [(&str, &str); 40] = [
     ("unlike_units", UNLIKE),
 ];
 
-/// By the word before the one with which no query goes on.
+/// By the word before the one that cannot come next in a query.
 const AFTER_WORD: [(&str, &str); 13] = [
     (
         "filter",
@@ -252,7 +252,7 @@ const OF_TYPE: [(&str, &str); 24] = [
 
 const TAKE_OUT: &str = "take it out: of the data only NOT NULL, PRIMARY KEY and UNIQUE are asked";
 
-/// By the word with which no schema goes on.
+/// By the word that cannot come next in a schema.
 const IN_SCHEMA: [(&str, &str); 12] = [
     ("default", TAKE_OUT),
     ("check", TAKE_OUT),
@@ -275,7 +275,7 @@ const TODAY: &str = "write the day or the time: what is asked of today changes f
 
 const NO_NUMBER: &str = "a row has no number of its own: name the columns of a key";
 
-/// By a name that stands for no column.
+/// By a name that is no column's.
 const OF_NAME: [(&str, &str); 8] = [
     ("current_date", TODAY),
     ("current_time", TODAY),

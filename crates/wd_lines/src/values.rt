@@ -7,8 +7,7 @@ use std::alloc::Global;
 use std::fmt::Write;
 use wd_value::{OutOfMemory, Value};
 
-/// Adds a text of an input on one line: a blank stands for each control character and for each mark that turns the direction of
-/// what follows.
+/// Adds a text of an input on one line: a blank replaces each control character and each mark that turns the direction of what follows.
 pub fn add_plain(out: &mut String, text: &str) -> Result<(), OutOfMemory>
     ensures written { OnOk result (string_bytes out.new ≡ string_bytes out.old ++ spec.plain text.now) }
     ensures kept { OnErr result (string_bytes out.new ≡ string_bytes out.old) }
@@ -17,7 +16,7 @@ pub fn add_plain(out: &mut String, text: &str) -> Result<(), OutOfMemory>
     Ok(out.push_str(piece.as_str())?)
 }
 
-/// A text of an input on one line.
+/// A text of an input on one line, as `add_plain` writes it.
 pub(crate) fn plain(alloc: Global, text: &str) -> Result<String, OutOfMemory>
     ensures { IfOk result (λ line. string_bytes line ≡ spec.plain text.now) }
 {

@@ -29,6 +29,6 @@ entry_json (Some certificate) = certificate_json (version_number certificate.ver
 abbrev pub IsLock : List (Option CertificateRecord) → List ℕ → Type 0
 IsLock entries bytes = AreLines entry_json entries bytes
 
--- its text as it is written
+-- the text of a lock as it is written
 abbrev pub lock_text : List (Option CertificateRecord) → List ℕ
 lock_text entries = lines_text entry_json entries

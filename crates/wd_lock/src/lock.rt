@@ -19,8 +19,8 @@ pub struct Lock {
 }
 
 impl Lock {
-    /// Reads a lock: a line of JSON for each statement, which is its certificate or `null`. White space within a line and the order
-    /// of members do not matter, and the last line needs no line feed. Refused is the first line that is neither.
+    /// Reads a lock: a line of JSON for each statement, which is its certificate or `null`. White space within a line and the order of
+    /// members do not matter, and the last line needs no line feed. The first line that is neither is refused.
     pub fn read(alloc: Global, bytes: &[u8]) -> Result<Lock, LineError>
         ensures ok { IfOk result (λ lock. IsLock (entries_of lock) bytes.now) }
         ensures refused { IfErr result (λ e. HasCause entry_json e bytes.now) }
@@ -37,7 +37,7 @@ impl Lock {
         write_lines(alloc, &self.entries)
     }
 
-    /// The certificate of the statement with a number, counted from 0.
+    /// The certificate of the statement with a number, counted from 0; `None` where it has none.
     pub fn certificate(&self, number: usize) -> Option<&Certificate>
         ensures { option_map (λ c. certificate_of c.now) result ≡ get_or (entries_of self.now) number None }
     {
@@ -47,7 +47,7 @@ impl Lock {
         }
     }
 
-    /// How many certificates it has.
+    /// How many statements have a certificate.
     pub fn certified(&self) -> u64
         ensures { result ≡ count_by is_certified (entries_of self.now) }
     {

@@ -36,7 +36,7 @@ pub record AgreeingComesOut : Type 0 where
   -- A Limit that cuts between rows that tie may take either: two answers.
   pub limit_that_cuts_through_ties : ¬ Agree (outcome least_two two_columns ((3 ∷ 0 ∷ 2 ∷ 1 ∷ []) ∷ []))
       (outcome least_two two_columns ((3 ∷ 2 ∷ 0 ∷ 1 ∷ []) ∷ []))
-  -- A row that stands twice is not one that stands once.
+  -- A row that appears twice is not the same as a row that appears once.
   pub rows_that_stand_more_often : ¬ Agree (Ok ((n 1 ∷ []) ∷ (n 1 ∷ []) ∷ [])) (Ok ((n 1 ∷ []) ∷ []))
   -- NULL is the same as NULL.
   pub null_in_both : Agree (Ok ((Null ∷ n 1 ∷ []) ∷ [])) (Ok ((Null ∷ n 1 ∷ []) ∷ []))
@@ -44,5 +44,5 @@ pub record AgreeingComesOut : Type 0 where
   pub the_same_fault : Agree (outcome two_outputs zero_and_greatest []) (Err DivisionByZero)
   -- With different faults they are two.
   pub another_fault : ¬ Agree (Err DivisionByZero) (Err OutOfRange)
-  -- So are rows, even none, and a fault.
+  -- Rows, even none, and a fault are two answers too.
   pub rows_and_a_fault : ¬ Agree (Ok []) (Err DivisionByZero)

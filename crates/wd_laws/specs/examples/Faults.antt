@@ -73,12 +73,12 @@ numbered_over_a_fault =
 abbrev pub limited_over_a_fault : PlanTree
 limited_over_a_fault = limited [] 0 (Some 1) false (Map (Arithmetic Divide (num 10) (Column 2) ∷ []) scan_t)
 
--- Which fault a step has, and which it has not.
+-- Which fault a step has, and which it does not have.
 pub record FaultsComeOut : Type 0 where
   -- A step that faults at several rows has the least fault.
   pub least_fault_of_a_step : outcome two_outputs zero_and_greatest []
       ≡ Err DivisionByZero
-  -- The order of the records doesn't change the fault.
+  -- The order of the rows doesn't change the fault.
   pub least_fault_with_the_records_exchanged : outcome two_outputs (only (row 2 b (n 9223372036854775807) ∷ row 1 a (n 0) ∷ [])) []
       ≡ Err DivisionByZero
   -- A step that faults at several expressions has the least fault.
@@ -93,28 +93,28 @@ pub record FaultsComeOut : Type 0 where
   -- A remainder by zero is a division by zero.
   pub remainder_by_zero : outcome remaining four_rows []
       ≡ Err DivisionByZero
-  -- A row without v has none.
+  -- A row whose v is NULL has no fault.
   pub remainder_of_null_by_zero : outcome remaining one_row []
       ≡ Ok ((Null ∷ []) ∷ [])
-  -- The least number has no negative of 64 bits.
+  -- The negative of the least number is not a number of 64 bits.
   pub least_number_negated : outcome negated_v (only (row 1 a (minus 9223372036854775808) ∷ [])) []
       ≡ Err OutOfRange
-  -- Below the least number there is none.
+  -- There is no number of 64 bits below the least one.
   pub least_number_less_one : outcome less_one (only (row 1 a (minus 9223372036854775808) ∷ [])) []
       ≡ Err OutOfRange
   -- A condition that faults at one row makes the step fault, and the steps above it.
   pub fault_of_a_condition : outcome filtered (only (row 1 a (n 10) ∷ row 2 b (n 0) ∷ [])) []
       ≡ Err DivisionByZero
-  -- A row that an earlier step leaves out makes no fault.
+  -- A row that an earlier step leaves out causes no fault.
   pub row_that_is_left_out : outcome filtered_first (only (row 1 a (n 10) ∷ row 2 b (n 0) ∷ [])) []
       ≡ Ok ((n 1 ∷ []) ∷ [])
   -- A join whose left input faults has that fault, though the right input's is less.
   pub fault_of_the_left_input : outcome joined_faults greatest_beside_zero []
       ≡ Err OutOfRange
-  -- Else its right input's.
+  -- Otherwise it has its right input's fault.
   pub fault_of_the_right_input : outcome joined_faults (only ((n 1 ∷ a ∷ n 1 ∷ n 0 ∷ []) ∷ [])) []
       ≡ Err DivisionByZero
-  -- Else its own.
+  -- Otherwise it has its own fault.
   pub fault_of_a_join : outcome joined_by_a_fault (only (row 1 a (n 1) ∷ row 2 b (n 0) ∷ [])) []
       ≡ Err DivisionByZero
   -- A total outside 64 bits is a fault.

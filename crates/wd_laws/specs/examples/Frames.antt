@@ -1,4 +1,4 @@
--- Worked examples of frames: which rows stand in the frame of each row.
+-- Worked examples of frames: which rows are in the frame of each row.
 use Rattle.std.specs.Prelude.{◌≡◌, ℕ, List, [], ◌∷◌, Ok, map, length, reverse}
 use Rattle.wd_value.specs.declared.value.Value.{Value}
 use Rattle.wd_value.specs.declared.value.Value.TheVariants.{Null}
@@ -50,7 +50,7 @@ far_before =
     (window (over [] (ascending 1 ∷ []) ∷ []) (call_in (between Rows (Preceding 7) (Preceding 8)) 0 (sum 0) ∷ call_in (between Rows (Preceding 7) (Preceding 8)) 0 (count 0) ∷ [])
     (select (2 ∷ 0 ∷ []) scan_t))
 
--- the rows 1 to 6, as they stand in their ordering, with the keys 10, 10, 20, 25, NULL and NULL
+-- the rows 1 to 6, in their ordering, with the keys 10, 10, 20, 25, NULL and NULL
 abbrev pub six_rows : List Row
 six_rows = (n 1 ∷ n 10 ∷ []) ∷ (n 2 ∷ n 10 ∷ []) ∷ (n 3 ∷ n 20 ∷ []) ∷ (n 4 ∷ n 25 ∷ []) ∷ (n 5 ∷ Null ∷ []) ∷ (n 6 ∷ Null ∷ []) ∷ []
 
@@ -62,7 +62,7 @@ frames_over item frame rows = map (λ i. map (λ r. column_of r 0) (frame_of (ov
 abbrev pub frames : Frame → List (List Value)
 frames frame = frames_over (ascending 1) frame six_rows
 
--- OVER (ORDER BY v DESC ..): the six rows stand the other way round
+-- OVER (ORDER BY v DESC ..): the six rows in reverse order
 abbrev pub frames_descending : Frame → List (List Value)
 frames_descending frame = frames_over (descending 1) frame (reverse six_rows)
 
@@ -169,7 +169,8 @@ pub record FramesComeOut : Type 0 where
   -- RANGE BETWEEN 5 PRECEDING AND 10 PRECEDING
   pub range_turned_round : frames (between Range (Preceding 5) (Preceding 10))
       ≡ are ([] ∷ [] ∷ [] ∷ [] ∷ (5 ∷ 6 ∷ []) ∷ (5 ∷ 6 ∷ []) ∷ [])
-  -- ORDER BY v DESC RANGE BETWEEN 10 PRECEDING AND 5 FOLLOWING: under DESC an offset PRECEDING reaches larger keys, and FOLLOWING smaller ones.
+  -- ORDER BY v DESC RANGE BETWEEN 10 PRECEDING AND 5 FOLLOWING: under DESC an offset PRECEDING reaches larger keys, and FOLLOWING
+  -- smaller ones.
   pub range_descending_about_the_row : frames_descending (between Range (Preceding 10) (Following 5))
       ≡ are ((6 ∷ 5 ∷ []) ∷ (6 ∷ 5 ∷ []) ∷ (4 ∷ 3 ∷ []) ∷ (4 ∷ 3 ∷ []) ∷ (3 ∷ 2 ∷ 1 ∷ []) ∷ (3 ∷ 2 ∷ 1 ∷ []) ∷ [])
   -- ORDER BY v DESC RANGE BETWEEN 10 PRECEDING AND 5 PRECEDING
@@ -178,7 +179,7 @@ pub record FramesComeOut : Type 0 where
   -- ORDER BY v DESC RANGE BETWEEN 5 FOLLOWING AND 10 FOLLOWING
   pub range_descending_behind_the_row : frames_descending (between Range (Following 5) (Following 10))
       ≡ are ((6 ∷ 5 ∷ []) ∷ (6 ∷ 5 ∷ []) ∷ (3 ∷ []) ∷ (2 ∷ 1 ∷ []) ∷ [] ∷ [] ∷ [])
-  -- ORDER BY v DESC RANGE BETWEEN UNBOUNDED PRECEDING AND CURRENT ROW: NULL stands first.
+  -- ORDER BY v DESC RANGE BETWEEN UNBOUNDED PRECEDING AND CURRENT ROW: NULL comes first.
   pub range_descending_up_to_the_row : frames_descending (between Range UnboundedPreceding CurrentRow)
       ≡ are ((6 ∷ 5 ∷ []) ∷ (6 ∷ 5 ∷ []) ∷ (6 ∷ 5 ∷ 4 ∷ []) ∷ (6 ∷ 5 ∷ 4 ∷ 3 ∷ []) ∷ (6 ∷ 5 ∷ 4 ∷ 3 ∷ 2 ∷ 1 ∷ []) ∷ (6 ∷ 5 ∷ 4 ∷ 3 ∷ 2 ∷ 1 ∷ []) ∷ [])
   -- RANGE BETWEEN 0 PRECEDING AND 0 FOLLOWING: an offset of zero reaches the peers.
@@ -214,10 +215,10 @@ pub record FramesComeOut : Type 0 where
   -- RANGE BETWEEN 10 PRECEDING AND 5 FOLLOWING EXCLUDE TIES
   pub range_leaving_the_ties_out : frames (excluding (between Range (Preceding 10) (Following 5)) exclude.Ties)
       ≡ are ((1 ∷ []) ∷ (2 ∷ []) ∷ (1 ∷ 2 ∷ 3 ∷ 4 ∷ []) ∷ (3 ∷ 4 ∷ []) ∷ (5 ∷ []) ∷ (6 ∷ []) ∷ [])
-  -- ROWS BETWEEN 1 FOLLOWING AND 2 FOLLOWING EXCLUDE TIES: no exclusion adds the row.
+  -- ROWS BETWEEN 1 FOLLOWING AND 2 FOLLOWING EXCLUDE TIES: an exclusion never adds the row.
   pub no_exclusion_adds_the_row : frames (excluding (between Rows (Following 1) (Following 2)) exclude.Ties)
       ≡ are ((3 ∷ []) ∷ (3 ∷ 4 ∷ []) ∷ (4 ∷ 5 ∷ []) ∷ (5 ∷ 6 ∷ []) ∷ [] ∷ [] ∷ [])
-  -- Under DESC the comparisons of RANGE are mirrored; a NULL key meets NULL keys alone.
+  -- Under DESC the comparisons of RANGE are mirrored; a NULL key meets only NULL keys.
   pub count_in_a_descending_range : outcome counted_behind four_rows ((3 ∷ 2 ∷ 0 ∷ 1 ∷ []) ∷ [])
       ≡ Ok ((n 1 ∷ n 3 ∷ []) ∷ (n 2 ∷ n 3 ∷ []) ∷ (n 3 ∷ n 1 ∷ []) ∷ (n 4 ∷ n 1 ∷ []) ∷ [])
   -- Under DESC an offset PRECEDING reaches larger keys, here none.

@@ -23,8 +23,8 @@ numbered_by_v =
     (window (over [] (ascending 0 ∷ []) ∷ []) (call 0 row_number ∷ [])
     (select (2 ∷ []) scan_t))
 
--- SELECT id, RANK() OVER w, DENSE_RANK() OVER w, COUNT(*) OVER (w RANGE BETWEEN 5 PRECEDING AND 10 FOLLOWING), LAG(id, 2, -1) OVER w FROM t WINDOW w
--- AS (ORDER BY v)
+-- SELECT id, RANK() OVER w, DENSE_RANK() OVER w, COUNT(*) OVER (w RANGE BETWEEN 5 PRECEDING AND 10 FOLLOWING), LAG(id, 2, -1) OVER w
+-- FROM t WINDOW w AS (ORDER BY v)
 abbrev pub ranked : PlanTree
 ranked =
     select (0 ∷ 2 ∷ 3 ∷ 4 ∷ 5 ∷ [])
@@ -49,8 +49,8 @@ led =
     (window (over [] (ascending 0 ∷ []) ∷ []) (call 0 (lead 1 1 (n 0)) ∷ [])
     (select (0 ∷ 2 ∷ []) scan_t))
 
--- SELECT id, FIRST_VALUE(v) OVER w, NTH_VALUE(v, 2) OVER w, COUNT(v) OVER w FROM t WINDOW w AS (ORDER BY id DESC ROWS BETWEEN 1 PRECEDING AND CURRENT
--- ROW)
+-- SELECT id, FIRST_VALUE(v) OVER w, NTH_VALUE(v, 2) OVER w, COUNT(v) OVER w FROM t WINDOW w AS (ORDER BY id DESC ROWS BETWEEN 1
+-- PRECEDING AND CURRENT ROW)
 abbrev pub first_and_second : PlanTree
 first_and_second =
     select (0 ∷ 2 ∷ 3 ∷ 4 ∷ [])
@@ -108,8 +108,8 @@ greatest_text =
     (window (over (2 ∷ []) [] ∷ []) (call 0 (min 1) ∷ call 0 (max 1) ∷ [])
     (select (0 ∷ 1 ∷ 2 ∷ []) scan_t))
 
--- SELECT id, RANK() OVER w, DENSE_RANK() OVER w, ROW_NUMBER() OVER w, SUM(v) OVER w, COUNT(*) OVER (PARTITION BY g) FROM t WINDOW w AS (PARTITION BY
--- g ORDER BY v DESC)
+-- SELECT id, RANK() OVER w, DENSE_RANK() OVER w, ROW_NUMBER() OVER w, SUM(v) OVER w, COUNT(*) OVER (PARTITION BY g) FROM t WINDOW w AS
+-- (PARTITION BY g ORDER BY v DESC)
 abbrev pub ranked_in_groups : PlanTree
 ranked_in_groups =
     select (0 ∷ 3 ∷ 4 ∷ 5 ∷ 6 ∷ 7 ∷ [])
@@ -137,12 +137,12 @@ looked_about =
     (window (over [] (ascending 0 ∷ []) ∷ []) (call 0 (lag 1 0 Null) ∷ call 0 (lag 1 1 Null) ∷ call 0 (lead 1 2 (n 7)) ∷ [])
     (select (0 ∷ 2 ∷ []) scan_t))
 
--- What the window functions give over a few rows.
+-- The values of the window functions over a few rows.
 pub record FunctionsComeOut : Type 0 where
   -- The given ordering decides the row numbers of rows that tie.
   pub evaluate_row_number_with_identity : outcome numbered_by_v four_rows (positions 4 ∷ [])
       ≡ Ok ((n 10 ∷ n 1 ∷ []) ∷ (n 10 ∷ n 2 ∷ []) ∷ (n 20 ∷ n 3 ∷ []) ∷ (Null ∷ n 4 ∷ []) ∷ [])
-  -- The given ordering decides the row numbers of rows that tie: here the other way round.
+  -- The given ordering decides the row numbers of rows that tie: here in reverse order.
   pub evaluate_row_number_with_ties_exchanged : outcome numbered_by_v four_rows ((1 ∷ 0 ∷ 2 ∷ 3 ∷ []) ∷ [])
       ≡ Ok ((n 10 ∷ n 2 ∷ []) ∷ (n 10 ∷ n 1 ∷ []) ∷ (n 20 ∷ n 3 ∷ []) ∷ (Null ∷ n 4 ∷ []) ∷ [])
   -- Ranks, a RANGE frame with offsets and LAG with a default.
@@ -160,7 +160,7 @@ pub record FunctionsComeOut : Type 0 where
   -- Over an empty table the answer has no rows.
   pub ntile_of_no_rows : outcome dealt (only []) ([] ∷ [])
       ≡ Ok []
-  -- The default stands where no later row is, not where its value is NULL.
+  -- The default is taken where there is no later row, not where that row's value is NULL.
   pub lead_with_a_default : outcome led four_rows (positions 4 ∷ [])
       ≡ Ok ((n 1 ∷ n 10 ∷ []) ∷ (n 2 ∷ n 20 ∷ []) ∷ (n 3 ∷ Null ∷ []) ∷ (n 4 ∷ n 0 ∷ []) ∷ [])
   -- NULLs are not skipped; where the frame has no second row, its value is NULL; COUNT(v) leaves NULL out.
@@ -178,7 +178,7 @@ pub record FunctionsComeOut : Type 0 where
   -- Numbers begin at 1 in each partition.
   pub run_first_of_each_group_by_value_and_key : outcome first_of_each four_rows (positions 4 ∷ [])
       ≡ Ok ((n 1 ∷ a ∷ []) ∷ (n 2 ∷ b ∷ []) ∷ (n 3 ∷ c ∷ []) ∷ (n 4 ∷ d ∷ []) ∷ [])
-  -- Of the two partitions each gives its first row by v, then by id.
+  -- Each of the two partitions contributes its first row by v, then by id.
   pub first_of_two_groups : outcome first_of_each two_groups ((2 ∷ 4 ∷ 0 ∷ 1 ∷ 3 ∷ []) ∷ [])
       ≡ Ok ((n 2 ∷ b ∷ []) ∷ (n 3 ∷ a ∷ []) ∷ [])
   -- A window over the value of another; the choice has an ordering for each, in postorder.
@@ -187,7 +187,7 @@ pub record FunctionsComeOut : Type 0 where
   -- The upper ordering alone decides the numbers.
   pub numbering_by_a_rank_with_ties_exchanged : outcome numbered_by_a_rank four_rows (positions 4 ∷ (1 ∷ 0 ∷ 2 ∷ 3 ∷ []) ∷ [])
       ≡ Ok ((n 10 ∷ n 1 ∷ n 2 ∷ []) ∷ (n 10 ∷ n 1 ∷ n 1 ∷ []) ∷ (n 20 ∷ n 3 ∷ n 3 ∷ []) ∷ (Null ∷ n 4 ∷ n 4 ∷ []) ∷ [])
-  -- Each class has its own ordering; under DESC NULL stands first.
+  -- Each class has its own ordering; under DESC NULL comes first.
   pub numbering_in_two_classes : outcome in_two_classes four_rows (positions 4 ∷ (3 ∷ 2 ∷ 1 ∷ 0 ∷ []) ∷ [])
       ≡ Ok ((n 1 ∷ n 1 ∷ n 4 ∷ []) ∷ (n 2 ∷ n 2 ∷ n 3 ∷ []) ∷ (n 3 ∷ n 3 ∷ n 2 ∷ []) ∷ (n 4 ∷ n 4 ∷ n 1 ∷ []) ∷ [])
   -- Without sort keys all rows of a partition are peers; NULL makes a partition of its own.

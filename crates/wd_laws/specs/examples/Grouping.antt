@@ -11,7 +11,7 @@ use Rattle.wd_plan.specs.Outcomes.{Agree, outcome}
 use Rattle.wd_plan.specs.Plans.{GroupCall, OfRows, Grouping, PlanTree, Filter, Group}
 use Rattle.wd_laws.specs.examples.Literals.{n, num, ascending, descending, row_number, sum, over, call, window, select, scan_t, only, row, four_rows, two_groups, greatest_and_more, a, b, c, d}
 
--- of the first so many columns these sets, and of each group these calls
+-- these grouping sets of the first N columns, with these calls for each group
 abbrev pub group : ℕ → List (List ℕ) → List GroupCall → PlanTree → PlanTree
 group columns sets calls input = Group (record { columns = columns; sets = sets; calls = calls }) input
 
@@ -100,9 +100,9 @@ past_the_greatest = only (row 1 a (n 9223372036854775807) ∷ row 2 b (n 1) ∷ 
 abbrev pub one_of_each : Instance
 one_of_each = only ((n 1 ∷ a ∷ n 1 ∷ n 1 ∷ []) ∷ (n 2 ∷ b ∷ n 2 ∷ n 2 ∷ []) ∷ [])
 
--- What groups give.
+-- The rows of groups.
 pub record GroupsComeOut : Type 0 where
-  -- The sets in order, each one's groups in order of their first row; outside its set a column is NULL, which GROUPING tells.
+  -- The sets in order, the groups of each in the order of their first rows; a column outside the set is NULL, which GROUPING tells.
   pub run_rollup_with_grouping : outcome rolled_up four_rows []
       ≡ Ok ((a ∷ n 1 ∷ n 10 ∷ n 0 ∷ []) ∷ (b ∷ n 1 ∷ n 10 ∷ n 0 ∷ []) ∷ (c ∷ n 1 ∷ n 20 ∷ n 0 ∷ []) ∷ (d ∷ n 1 ∷ Null ∷ n 0 ∷ []) ∷ (Null ∷ n 4 ∷ n 40 ∷ n 1 ∷ []) ∷ [])
   -- Over no rows the empty set has one group and the other sets none.
@@ -111,7 +111,7 @@ pub record GroupsComeOut : Type 0 where
   -- HAVING keeps groups.
   pub run_having_more_than_one_row : outcome more_than_one four_rows []
       ≡ Ok ((n 10 ∷ n 2 ∷ []) ∷ [])
-  -- A window stands over the groups.
+  -- A window is over the groups.
   pub run_running_sum_of_sums : outcome running_sum_of_sums four_rows (positions 4 ∷ [])
       ≡ Ok ((a ∷ n 10 ∷ []) ∷ (b ∷ n 20 ∷ []) ∷ (c ∷ n 40 ∷ []) ∷ (d ∷ n 40 ∷ []) ∷ [])
   -- Numbers over a rollup; where g is never NULL the rows are told apart, but g alone does not show it.
@@ -119,7 +119,7 @@ pub record GroupsComeOut : Type 0 where
       ≡ Ok ((a ∷ n 1 ∷ n 1 ∷ []) ∷ (b ∷ n 1 ∷ n 2 ∷ []) ∷ (c ∷ n 1 ∷ n 3 ∷ []) ∷ (d ∷ n 1 ∷ n 4 ∷ []) ∷ (Null ∷ n 4 ∷ n 5 ∷ []) ∷ [])
   pub numbering_of_a_rollup_by_grouping : outcome numbered_rollup_told_apart four_rows (positions 5 ∷ [])
       ≡ Ok ((a ∷ n 1 ∷ n 1 ∷ []) ∷ (b ∷ n 1 ∷ n 2 ∷ []) ∷ (c ∷ n 1 ∷ n 3 ∷ []) ∷ (d ∷ n 1 ∷ n 4 ∷ []) ∷ (Null ∷ n 4 ∷ n 5 ∷ []) ∷ [])
-  -- Groups of as many rows tie: two answers.
+  -- Groups with the same number of rows tie: two answers.
   pub numbering_of_groups_by_their_count : ¬ Agree (outcome numbered_by_count one_of_each (positions 2 ∷ [])) (outcome numbered_by_count one_of_each ((1 ∷ 0 ∷ []) ∷ []))
   -- A repeated set repeats its rows.
   pub run_a_repeated_set : outcome twice_the_same four_rows []
@@ -130,7 +130,7 @@ pub record GroupsComeOut : Type 0 where
       ∷ (a ∷ Null ∷ n 0 ∷ n 5 ∷ n 10 ∷ n 1 ∷ []) ∷ (b ∷ Null ∷ n 0 ∷ n 20 ∷ n 20 ∷ n 1 ∷ [])
       ∷ (Null ∷ n 10 ∷ n 0 ∷ n 10 ∷ n 10 ∷ n 2 ∷ []) ∷ (Null ∷ n 20 ∷ n 0 ∷ n 20 ∷ n 20 ∷ n 2 ∷ []) ∷ (Null ∷ n 5 ∷ n 0 ∷ n 5 ∷ n 5 ∷ n 2 ∷ []) ∷ (Null ∷ Null ∷ n 0 ∷ Null ∷ Null ∷ n 2 ∷ [])
       ∷ (Null ∷ Null ∷ n 0 ∷ n 5 ∷ n 20 ∷ n 3 ∷ []) ∷ [])
-  -- Without calls each group shows its columns alone; over no rows there is none.
+  -- Without calls each group shows only its columns; over no rows there is no group.
   pub grouping_without_calls : outcome grouped_alone two_groups []
       ≡ Ok ((a ∷ []) ∷ (b ∷ []) ∷ [])
   pub grouping_of_no_rows : outcome grouped_alone (only []) []

@@ -29,7 +29,8 @@ pairs_of_both = select (0 ∷ 1 ∷ []) (Join None (Scan 0 1) (Scan 1 1))
 abbrev pub pairs_above_one : PlanTree
 pairs_above_one = select (0 ∷ 1 ∷ []) (Join (Some (Compare Greater (Column 1) (num 1))) (Scan 0 1) (Scan 1 1))
 
--- SELECT * FROM (SELECT g FROM t ORDER BY g FETCH FIRST 1 ROW ONLY) AS x CROSS JOIN (SELECT w FROM s ORDER BY w DESC FETCH FIRST 2 ROWS ONLY) AS y
+-- SELECT * FROM (SELECT g FROM t ORDER BY g FETCH FIRST 1 ROW ONLY) AS x CROSS JOIN (SELECT w FROM s ORDER BY w DESC FETCH FIRST 2 ROWS
+-- ONLY) AS y
 abbrev pub joined_limits : PlanTree
 joined_limits =
     select (0 ∷ 1 ∷ [])
@@ -68,7 +69,7 @@ pub record JoinsComeOut : Type 0 where
   -- A condition that is NULL keeps no pair; the first key decides before the second.
   pub run_numbering_of_a_self_join_by_both_keys : outcome numbered_self_join four_rows (positions 5 ∷ [])
       ≡ Ok ((n 1 ∷ n 1 ∷ n 1 ∷ []) ∷ (n 1 ∷ n 2 ∷ n 2 ∷ []) ∷ (n 2 ∷ n 1 ∷ n 3 ∷ []) ∷ (n 2 ∷ n 2 ∷ n 4 ∷ []) ∷ (n 3 ∷ n 3 ∷ n 5 ∷ []) ∷ [])
-  -- The same rows last to first give the same answer rows as a multiset.
+  -- With the rows from last to first the answer has the same rows as a multiset.
   pub run_numbering_of_a_self_join_by_both_keys_records_reversed : outcome numbered_self_join four_rows_reversed ((4 ∷ 3 ∷ 2 ∷ 1 ∷ 0 ∷ []) ∷ [])
       ≡ Ok ((n 3 ∷ n 3 ∷ n 5 ∷ []) ∷ (n 2 ∷ n 2 ∷ n 4 ∷ []) ∷ (n 2 ∷ n 1 ∷ n 3 ∷ []) ∷ (n 1 ∷ n 2 ∷ n 2 ∷ []) ∷ (n 1 ∷ n 1 ∷ n 1 ∷ []) ∷ [])
   -- All pairs, the left row outermost.
@@ -77,13 +78,13 @@ pub record JoinsComeOut : Type 0 where
   -- The pairs for which the condition is true.
   pub join_by_a_condition_on_one_side : outcome pairs_above_one two_tables []
       ≡ Ok ((a ∷ n 2 ∷ []) ∷ (a ∷ n 3 ∷ []) ∷ (b ∷ n 2 ∷ []) ∷ (b ∷ n 3 ∷ []) ∷ [])
-  -- The left side's ordering stands before the right side's.
+  -- The left side's ordering comes before the right side's in the choice.
   pub join_of_two_limits : outcome joined_limits two_tables (positions 2 ∷ (2 ∷ 1 ∷ 0 ∷ []) ∷ [])
       ≡ Ok ((a ∷ n 3 ∷ []) ∷ (a ∷ n 2 ∷ []) ∷ [])
   -- A row passes where the condition is true: not where it is false or NULL.
   pub condition_on_a_value : outcome with_ten four_rows []
       ≡ Ok ((n 1 ∷ []) ∷ (n 2 ∷ []) ∷ [])
-  -- NOT of NULL is NULL, so the row without v passes neither condition.
+  -- NOT of NULL is NULL, so the row whose v is NULL passes neither condition.
   pub null_does_not_pass_under_not : outcome not_with_ten four_rows []
       ≡ Ok ((n 3 ∷ []) ∷ [])
   -- No row is left to number; the ordering is of the rows that the condition leaves.

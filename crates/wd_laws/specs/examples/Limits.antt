@@ -102,13 +102,13 @@ pub record LimitsComeOut : Type 0 where
   -- WITH TIES adds the peers of the last row taken.
   pub ties_after_an_offset : outcome third_with_ties four_rows ((3 ∷ 2 ∷ 0 ∷ 1 ∷ []) ∷ [])
       ≡ Ok ((n 1 ∷ []) ∷ (n 2 ∷ []) ∷ [])
-  -- LIMIT and OFFSET stand in either order; NULL stands first under DESC.
+  -- LIMIT and OFFSET may be written in either order; NULL comes first under DESC.
   pub limit_before_offset : outcome second_by_v four_rows ((3 ∷ 2 ∷ 0 ∷ 1 ∷ []) ∷ [])
       ≡ Ok ((n 3 ∷ []) ∷ [])
   -- The peer of the first row comes too.
   pub run_first_rows_with_ties : outcome first_with_ties four_rows (positions 4 ∷ [])
       ≡ Ok ((n 1 ∷ n 10 ∷ []) ∷ (n 2 ∷ n 10 ∷ []) ∷ [])
-  -- Peers of the last row taken alone are added: here it has none after it.
+  -- Only peers of the last row taken are added: here there are none after it.
   pub ties_that_are_taken_already : outcome first_two_with_ties four_rows (positions 4 ∷ [])
       ≡ Ok ((n 1 ∷ n 10 ∷ []) ∷ (n 2 ∷ n 10 ∷ []) ∷ [])
   -- The rows after the offset, where there are fewer than the count.
@@ -117,10 +117,10 @@ pub record LimitsComeOut : Type 0 where
   -- A count of zero gives no row with ties either.
   pub zero_rows_with_ties : outcome none_with_ties four_rows (positions 4 ∷ [])
       ≡ Ok []
-  -- Without a count all rows after the offset come, in the ordering.
+  -- Without a count all rows after the offset are taken, in the ordering.
   pub offset_without_a_count : outcome all_but_two four_rows ((3 ∷ 2 ∷ 1 ∷ 0 ∷ []) ∷ [])
       ≡ Ok ((n 2 ∷ b ∷ []) ∷ (n 1 ∷ a ∷ []) ∷ [])
-  -- After the last row there is none.
+  -- After the last row there are no rows.
   pub offset_past_the_last_row : outcome past_the_last four_rows (positions 4 ∷ [])
       ≡ Ok []
   -- Without sort keys any two rows may come.
@@ -132,6 +132,6 @@ pub record LimitsComeOut : Type 0 where
   -- Another lower ordering gives other rows: here row 1 in place of row 2.
   pub limit_of_another_choice : outcome limit_of_limited four_rows ((3 ∷ 2 ∷ 0 ∷ 1 ∷ []) ∷ (2 ∷ 1 ∷ 0 ∷ []) ∷ [])
       ≡ Ok ((n 1 ∷ []) ∷ (n 3 ∷ []) ∷ [])
-  -- The Limit's ordering stands after the Window's; a row that ties on the first key alone is no peer.
+  -- The Limit's ordering comes after the Window's in the choice; a row that ties only on the first key is no peer.
   pub limit_over_a_window : outcome greatest_total four_rows (positions 4 ∷ (2 ∷ 3 ∷ 1 ∷ 0 ∷ []) ∷ [])
       ≡ Ok ((n 3 ∷ []) ∷ [])

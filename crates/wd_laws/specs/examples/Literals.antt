@@ -28,7 +28,7 @@ use Rattle.wd_plan.specs.Plans.{ClassRule, PlanTree, Scan, Map, Window, Limit}
 abbrev pub n : ℕ → Value
 n k = Int (pos k)
 
--- a whole number with a minus
+-- a whole number with a minus sign
 abbrev pub minus : ℕ → Value
 minus k = Int (neg_ℤ (pos k))
 
@@ -58,11 +58,11 @@ num k = Literal (n k) Number
 
 -- ---- sort keys
 
--- NULL stands last
+-- NULL comes last
 abbrev pub ascending : ℕ → SortColumn
 ascending column = record { column = column; key = record { desc = false; nulls_first = false } }
 
--- NULL stands first
+-- NULL comes first
 abbrev pub descending : ℕ → SortColumn
 descending column = record { column = column; key = record { desc = true; nulls_first = true } }
 
@@ -80,11 +80,11 @@ dense_rank = Ranked ranking.DenseRank
 abbrev pub ntile : ℕ → Function
 ntile buckets = Ranked (ranking.Ntile buckets)
 
--- of a column, so many rows earlier, with this default
+-- LAG of a column, the given number of rows earlier, with this default
 abbrev pub lag : ℕ → ℕ → Value → Function
 lag column offset default = Shifted (record { direction = way.Lag; argument = column; offset = offset; default = default })
 
--- so many rows later
+-- LEAD of a column, the given number of rows later, with this default
 abbrev pub lead : ℕ → ℕ → Value → Function
 lead column offset default = Shifted (record { direction = way.Lead; argument = column; offset = offset; default = default })
 
@@ -94,7 +94,7 @@ first_value column = OfFrame (ValueAt frame_row.First column)
 abbrev pub last_value : ℕ → Function
 last_value column = OfFrame (ValueAt frame_row.Last column)
 
--- of a column, at the row with this number
+-- NTH_VALUE of a column, at the row with this number
 abbrev pub nth_value : ℕ → ℕ → Function
 nth_value column number = OfFrame (ValueAt (frame_row.Nth number) column)
 
@@ -164,7 +164,7 @@ only rows = rows ∷ []
 abbrev pub four_rows : Instance
 four_rows = only (row 1 a (n 10) ∷ row 2 b (n 10) ∷ row 3 c (n 20) ∷ row 4 d Null ∷ [])
 
--- the same rows last to first
+-- these rows from last to first
 abbrev pub four_rows_reversed : Instance
 four_rows_reversed = only (row 4 d Null ∷ row 3 c (n 20) ∷ row 2 b (n 10) ∷ row 1 a (n 10) ∷ [])
 

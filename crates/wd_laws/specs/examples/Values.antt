@@ -14,7 +14,7 @@ use Rattle.wd_plan.specs.Plans.{PlanTree, Map}
 use Rattle.wd_laws.specs.examples.Literals.{n, minus, text, truth, num, scan_t, four_rows, one_row}
 use Rattle.wd_plan.specs.declared.expression.ValueKind.TheVariants as kind
 
--- a literal of a whole number with a minus
+-- a literal of a whole number with a minus sign
 abbrev pub neg : ℕ → Expression
 neg k = Literal (minus k) Number
 
@@ -74,11 +74,11 @@ pub record ValuesComeOut : Type 0 where
   pub greatest_sum : value (Arithmetic Add (num 9223372036854775806) (num 1)) ≡ Ok (n 9223372036854775807)
   -- -4611686018427387904 * 2: the least number of 64 bits.
   pub least_product : value (Arithmetic Multiply (neg 4611686018427387904) (num 2)) ≡ Ok (minus 9223372036854775808)
-  -- The greatest number with its sign turned round.
+  -- The greatest number, negated.
   pub negated_greatest : value (Negate (num 9223372036854775807)) ≡ Ok (minus 9223372036854775807)
   -- A NULL operand gives NULL.
   pub null_in_arithmetic : value (Arithmetic Add (num 1) no_number) ≡ Ok Null
-  -- NULL / 0: NULL, also beside a zero divisor.
+  -- NULL / 0: NULL, even with a zero divisor.
   pub null_by_zero : value (Arithmetic Divide no_number (num 0)) ≡ Ok Null
   -- NULL = NULL: a side that is NULL gives NULL.
   pub null_compared : value (Compare Equal no_number no_number) ≡ Ok Null
@@ -86,15 +86,15 @@ pub record ValuesComeOut : Type 0 where
   pub null_is_null : value (IsNull no_number) ≡ Ok (truth true)
   -- NULL IS NOT NULL.
   pub null_is_not_null : value (IsNotNull no_number) ≡ Ok (truth false)
-  -- 'ab' < 'b': texts go by their bytes.
+  -- 'ab' < 'b': texts are compared by their bytes.
   pub texts_by_bytes : value (Compare Less (Literal (text (codes "ab")) kind.Text) (Literal (text (codes "b")) kind.Text)) ≡ Ok (truth true)
-  -- 'ab' < 'a': a text stands after what it begins with.
+  -- 'ab' < 'a': a text comes after what it begins with.
   pub prefix_of_a_text : value (Compare Less (Literal (text (codes "ab")) kind.Text) (Literal (text (codes "a")) kind.Text)) ≡ Ok (truth false)
   -- FALSE < TRUE.
   pub false_before_true : value (Compare Less (is (truth false)) (is (truth true))) ≡ Ok (truth true)
-  -- FALSE AND 1 / 0 = 1: the right side is not looked at.
+  -- FALSE AND 1 / 0 = 1: the right side is not evaluated.
   pub and_not_looked_at : value (And (is (truth false)) (Compare Equal (Arithmetic Divide (num 1) (num 0)) (num 1))) ≡ Ok (truth false)
-  -- TRUE OR 1 / 0 = 1: neither here.
+  -- TRUE OR 1 / 0 = 1: not here either.
   pub or_not_looked_at : value (Or (is (truth true)) (Compare Equal (Arithmetic Divide (num 1) (num 0)) (num 1))) ≡ Ok (truth true)
   -- CASE WHEN TRUE THEN 1 ELSE 1 / 0 END: only what is reached is evaluated.
   pub case_that_is_reached : value (Case First (is (truth true)) (num 1) (Arithmetic Divide (num 1) (num 0))) ≡ Ok (n 1)
