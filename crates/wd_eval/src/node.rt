@@ -71,7 +71,7 @@ pub(crate) fn evaluate(
             let below = evaluate(alloc, input, tables, handed, orderings, first, made, 0)?;
             let outcome = filtered(alloc, tables, condition, below.outcome)?;
             Ok(Evaluated {
-                outcome: Produced::Made(outcome),
+                outcome,
                 next: below.next,
             })
         }

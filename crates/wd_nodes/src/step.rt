@@ -24,7 +24,7 @@ use wd_group::group_rows;
 use wd_join::{Pair, StepError, equal_pairs, filter_pairs, join_rows, paired_columns};
 use wd_plan::{Expr, Group, Outcome};
 use wd_steps::{
-    copy_filtered, distinct_positions, filter_rows, map_own_rows, map_rows_with_room, shown_columns,
+    distinct_positions, map_own_rows, map_rows_with_room, passing_positions, shown_columns,
 };
 use wd_value::{OutOfMemory, Row};
 
@@ -164,25 +164,34 @@ pub fn filtered(
     instance: &[Vec<Row>],
     condition: &Expr,
     input: Produced,
-) -> Result<Outcome, OutOfMemory>
-    ensures { IfOk result (λ o. outcome_of o ≡ and_then (produced_of (instance_of instance.now) input) (spec.filter_outcome (expression_of condition.now))) }
+) -> Result<Produced, OutOfMemory>
+    ensures { IfOk result (λ o. produced_of (instance_of instance.now) o ≡ and_then (produced_of (instance_of instance.now) input) (spec.filter_outcome (expression_of condition.now))) }
 {
     match input {
-        Produced::Table(table) => copy_filtered(alloc, condition, table_in(instance, table)),
-        Produced::Made(Outcome::Rows(rows)) => filter_rows(alloc, condition, rows),
-        Produced::Made(Outcome::Fault(fault)) => Ok(Outcome::Fault(fault)),
-        Produced::ByColumn(columns) => {
-            let rows = columns.into_rows(alloc, 0)?;
-            filter_rows(alloc, condition, rows)
-        }
         Produced::Pairs(left, right) => {
             let left = narrowed(alloc, instance, condition, Box::into_inner(left))?;
-            pairs_where(alloc, instance, condition, &left, &right)
+            let outcome = pairs_where(alloc, instance, condition, &left, &right)?;
+            Ok(Produced::Made(outcome))
         }
-        Produced::Joined(left, right, pairs) => {
-            let rows = joined_rows(alloc, instance, left, right, &pairs)?;
-            filter_rows(alloc, condition, rows)
-        }
+        other => match side_from(alloc, instance, other)? {
+            Ok(side) => passing(alloc, instance, condition, side),
+            Err(fault) => Ok(Produced::Made(Outcome::Fault(fault))),
+        },
+    }
+}
+
+/// The rows for which the condition is true.
+fn passing(
+    alloc: Global,
+    instance: &[Vec<Row>],
+    condition: &Expr,
+    side: Side,
+) -> Result<Produced, OutOfMemory>
+    ensures { IfOk result (λ o. produced_of (instance_of instance.now) o ≡ spec.filter_outcome (expression_of condition.now) (side_of (instance_of instance.now) side)) }
+{
+    match passing_positions(alloc, condition, &source(&side, instance))? {
+        Ok(kept) => picked(alloc, instance, side, &kept),
+        Err(fault) => Ok(Produced::Made(Outcome::Fault(fault))),
     }
 }
 

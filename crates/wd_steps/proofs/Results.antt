@@ -1,5 +1,5 @@
 -- The least fault and the values of several results, where one more comes.
-use Rattle.std.proofs.Common.{◌≡◌, ℕ, ◌+◌, ◌<◌, Bool, true, false, cond, ◌||◌, List, [], ◌∷◌, ◌++◌, map, take, length, get_or, Option, Some, None, Result, Ok, Err, refl, sym, ap, ◌∙◌}
+use Rattle.std.proofs.Common.{◌≡◌, ℕ, suc, ◌+◌, ◌<◌, Bool, true, false, cond, ◌||◌, List, [], ◌∷◌, ◌++◌, map, take, length, get_or, Option, Some, None, Result, Ok, Err, refl, sym, ap, ◌∙◌}
 use Rattle.std.specs.List.{list_any}
 use Rattle.std.proofs.lemmas.List.{take_more, map_push}
 use Rattle.wd_value.specs.declared.value.Fault.{Fault}
@@ -75,3 +75,16 @@ module _ {X : Type 0} {rs more : List (Result X Fault)} {values values' : List X
     values_are = v ∙ g.values_are ∙ sym (ap values_among (longer ∙ ap (λ y. rs ++ y ∷ []) is) ∙ values_among-push_err rs found);
     fault_is = f ∙ ap (λ o. with_fault o found) g.fault_is ∙ sym (ap least_fault (longer ∙ ap (λ y. rs ++ y ∷ []) is) ∙ least_fault-push rs (Err found));
   }
+
+-- ---- without a fault
+
+some_fault : (b : Bool) → cond b (Some DivisionByZero) (Some OutOfRange) ≡ None → ⊥
+some_fault true e = cc e
+some_fault false e = cc e
+
+-- there are as many values as results
+pub all_values : {X : Type 0} (rs : List (Result X Fault)) → least_fault rs ≡ None → length (values_among rs) ≡ length rs
+all_values [] e = refl
+all_values (Ok x ∷ rs) e = ap suc (all_values rs e)
+all_values (Err DivisionByZero ∷ rs) e = absurd (cc e)
+all_values (Err OutOfRange ∷ rs) e = absurd (some_fault (list_any (has_fault DivisionByZero) rs) e)

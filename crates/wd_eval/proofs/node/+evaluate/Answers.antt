@@ -33,9 +33,9 @@ returns-in_ok-outcome-in-Filter t c = λ instance held. (
     let o = c.in_ok-outcome-in-Filter.outcome in
     let condition = expression_of c.in-Filter.condition in
     let b = subst (λ p. IsWalked (plan_of p) tables instance orderings first old new below) c.deref-in-Filter.ensures (c.in_ok-below-in-Filter.ensures instance below_held).ok in
-    let is : outcome_of o ≡ and_then (produced_of tables below.outcome) (filter_outcome condition) = search rules in
+    let is : produced_of tables o ≡ and_then (produced_of tables below.outcome) (filter_outcome condition) = search rules in
     record {
-      ok = subst (λ p. IsWalked p tables instance orderings first old new (record { outcome = Made o; next = below.next })) (sym (ap plan_of c.in-Filter.is)) (filter_walked tables instance first old (plan_of c.in-Filter.input.value) new below (Made o) orderings condition b is);
+      ok = subst (λ p. IsWalked p tables instance orderings first old new (record { outcome = o; next = below.next })) (sym (ap plan_of c.in-Filter.is)) (filter_walked tables instance first old (plan_of c.in-Filter.input.value) new below o orderings condition b is);
       refused = tt;
     })
 
