@@ -1,4 +1,4 @@
--- Texts as they stand in HTML.
+-- Texts as they are in HTML.
 use Rattle.std.specs.Prelude.{◌≡◌, ◌≢◌, ◌⊎◌, ℕ, ◌+◌, ◌/◌, ◌%◌, ◌≤◌, Bool, ◌||◌, ◌&&◌, nat_lt, nat_le, nat_eq, not, All, List, [], ◌∷◌, ◌++◌, flat_map, codes, chars, encode_utf8, if◌then◌else◌}
 use Rattle.std.specs.Str.Lossy.{utf8_lossy}
 
@@ -34,7 +34,7 @@ escaped_char c = if nat_eq c 38 then codes "&amp;" else if nat_eq c 60 then code
 abbrev pub escaped_chars : List ℕ → List ℕ
 escaped_chars text = flat_map escaped_char (chars text)
 
--- A text, character by character. Where its bytes are no UTF-8, U+FFFD stands in their place.
+-- A text, character by character. Where its bytes are no UTF-8, U+FFFD is in their place.
 abbrev pub escaped : List ℕ → List ℕ
 escaped text = escaped_chars (utf8_lossy text)
 

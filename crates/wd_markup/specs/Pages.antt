@@ -26,7 +26,7 @@ id_words n = codes " id='q" ++ decimal n ++ codes "'>"
 abbrev pub share_words : ℕ → List ℕ
 share_words n = codes " style='flex-grow:" ++ decimal n ++ codes "'>"
 
--- A piece as it stands in a page. The words of the file's head and its style are those of two constants.
+-- A piece as it is in a page. The words of the file's head and its style are those of two constants.
 abbrev pub shown_piece : Piece → List ℕ
 shown_piece Begin = BEGIN.now
 shown_piece End = END.now
@@ -40,6 +40,6 @@ shown_piece (Text text) = escaped text
 abbrev pub shown : List Piece → List ℕ
 shown pieces = flat_map shown_piece pieces
 
--- Bytes of a page: all of them are tags of fixed words, and escaped texts. So what comes from an input stands in it only escaped.
+-- Bytes of a page: all of them are tags of fixed words, and escaped texts. So what comes from an input is in it only escaped.
 abbrev pub IsPage : List ℕ → Type 0
 IsPage bytes = ∥ ((pieces : List Piece) × (bytes ≡ shown pieces)) ∥₁

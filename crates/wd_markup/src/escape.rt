@@ -1,4 +1,4 @@
-//! Texts as they stand in HTML.
+//! Texts as they are in HTML.
 
 ghost use Rattle.std.specs.Prelude.{◌≡◌, ◌++◌, ◌<◌, [], ◌∷◌, IfOk, OnOk, string_bytes};
 ghost use Rattle.wd_markup.specs.Escapes as spec;

@@ -1,7 +1,7 @@
 //! Pages of HTML in which texts from outside stand escaped.
 //!
 //! A page is a sequence of pieces: tags of the fixed words of `vocabulary`, and texts. A tag has nothing of an input in it but
-//! numbers; a text, whatever its bytes, stands between tags, and `escape` writes it so that it begins no tag, ends none, and hides
+//! numbers; a text, whatever its bytes, is between tags, and `escape` writes it so that it begins no tag, ends none, and hides
 //! nothing from a reader. `page` keeps a page in the making, and `style` has what begins and ends the file.
 #![tactic(auto)]
 

@@ -13,7 +13,7 @@ use std::fmt::Write;
 use std::marker::Model;
 
 /// A page in the making, which contracts see as its bytes so far. Each is of a tag, or of an escaped text. Where a call is
-/// refused for want of memory, the page is as it was.
+/// refused where memory runs out, the page is as it was.
 #[derive(Drop)]
 pub struct Page {
     alloc: Global,
@@ -39,7 +39,7 @@ impl Page {
         }
     }
 
-    /// Writes what stands before the contents of a file: its head with the style, and the tag of its body.
+    /// Writes what comes before the contents of a file: its head with the style, and the tag of its body.
     pub fn begin(&mut self) -> Result<(), AllocError>
         ensures written { OnOk result (self.new ≡ self.old ++ shown_piece piece.Begin) }
         ensures kept { OnErr result (self.new ≡ self.old) }
@@ -47,7 +47,7 @@ impl Page {
         self.push(BEGIN)
     }
 
-    /// Writes what stands behind the contents of a file.
+    /// Writes what follows the contents of a file.
     pub fn end(&mut self) -> Result<(), AllocError>
         ensures written { OnOk result (self.new ≡ self.old ++ shown_piece piece.End) }
         ensures kept { OnErr result (self.new ≡ self.old) }

@@ -98,7 +98,7 @@ details > pre, details > div { margin-top: .4rem; }
 <main>
 ";
 
-/// What stands behind the contents of a file.
+/// What follows the contents of a file.
 pub const END: &str = "</main>
 </body>
 </html>

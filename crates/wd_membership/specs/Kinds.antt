@@ -26,7 +26,7 @@ abbrev pub is_ours : TokenKind → Bool
 is_ours (t.Quoted text) = starts_with nat_eq text (codes "in ") || starts_with nat_eq text (codes "exists ")
 is_ours _ = false
 
--- behind such a token, a star among the items of a select stands for the columns of all its tables
+-- after such a token, a star among the items of a select stands for the columns of all its tables
 abbrev pub stands_for_all : TokenKind → Token → Bool
 stands_for_all before token = is_star token.kind && begins_columns before && not (is_dot before)
 

@@ -51,14 +51,14 @@ abbrev pub is_value : List Token → Bool
 is_value items = is_end (drop (clauses.reach Comma items) items) && not (begins is_star (drop (length items - 1) items))
 
 -- The query has one item and no ORDER BY, LIMIT, OFFSET or FETCH. It may have GROUP BY, HAVING and WINDOW: DISTINCT takes what
--- is left of its rows behind all of these, as IN does.
+-- is left of its rows after all of these, as IN does.
 abbrev pub in_query : List Token → Token → Pieces → Option Membership
 in_query operand word select =
     if is_value select.items && not (stands extent.Limit select.clauses) then
     Some (record { test = test.In; word = word; pairs = record { outer = operand; inner = value_of select.items } ∷ []; select = select.select; tables = select.tables; conjuncts = []; clauses = select.clauses })
     else None
 
--- behind an operand, which is not nothing
+-- after an operand, which is not nothing
 abbrev pub behind_operand : List Token → List Token → Option Membership
 behind_operand operand [] = None
 behind_operand operand (word ∷ tokens) = if is_end operand || not (is_in word.kind) then None else query_in tokens >>= in_query operand word
@@ -94,7 +94,7 @@ abbrev pub behind_column : Token → List Token → List Token → Option Pair
 behind_column alias left [] = None
 behind_column alias left (word ∷ right) = if is_equals word.kind then if_columns alias left right else None
 
--- a.k = t.j or t.j = a.k, unless it stands behind the AND of BETWEEN
+-- a.k = t.j or t.j = a.k, unless it comes after the AND of BETWEEN
 abbrev pub pair_in : Token → Bool → List Token → Option Pair
 pair_in alias is_behind tokens = if is_behind then None else behind_column alias (take 3 tokens) (drop 3 tokens)
 
@@ -116,7 +116,7 @@ abbrev pub others_in : Token → Bool → List Conjunct → List Conjunct
 others_in alias is_behind [] = []
 others_in alias is_behind (conjunct ∷ conjuncts) = unless_pair conjunct (pair_in alias is_behind conjunct.test) (others_in alias (stands extent.Between conjunct.test) conjuncts)
 
--- no name of another table's column stands there
+-- no name of another table's column is there
 abbrev pub is_own : Token → List Token → Bool
 is_own alias [] = true
 is_own alias (name ∷ tokens) = if begins is_dot tokens && not (is_same_name alias.kind name.kind) then false else is_own alias tokens
@@ -139,7 +139,7 @@ with_conjuncts word select alias conjuncts = parted word select (pairs_in alias 
 abbrev pub with_conditions : Token → Pieces → List Token → Token → Option Membership
 with_conditions word select tokens alias = conjuncts tokens >>= with_conjuncts word select alias
 
--- The query has one table, and no clause behind WHERE. What its items are does not matter, but none may be a call: with an
+-- The query has one table, and no clause after WHERE. What its items are does not matter, but none may be a call: with an
 -- aggregate the query has a row always.
 abbrev pub exists_query : Token → Pieces → Option Membership
 exists_query word select =
@@ -165,7 +165,7 @@ pub record Member : Type 0 where
   pub conjunct : Conjunct
   pub membership : Option Membership
 
--- a conjunct as it is read; what stands behind the AND of BETWEEN is not looked at
+-- a conjunct as it is read; what follows the AND of BETWEEN is not looked at
 abbrev pub member_of : Bool → Conjunct → Member
 member_of is_behind conjunct = record { conjunct = conjunct; membership = (if is_behind then None else membership_at conjunct.test) }
 

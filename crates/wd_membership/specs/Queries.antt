@@ -9,7 +9,7 @@ use Rattle.wd_using.specs.Joins.{is_end}
 use Rattle.wd_using.specs.Pieces.{Pieces, pieces_at}
 use Rattle.wd_membership.specs.Conjuncts.{stands}
 
--- no other select stands at its level, as one does behind UNION, EXCEPT and INTERSECT
+-- no other select is at its level, as one does after UNION, EXCEPT and INTERSECT
 abbrev pub if_alone : Pieces → Option Pieces
 if_alone select = if stands extent.Select select.items || stands extent.Select select.tables || stands extent.Select select.clauses then None else Some select
 
@@ -21,7 +21,7 @@ select_at tokens = pieces_at tokens >>= if_alone
 abbrev pub conditions : Pieces → List Token
 conditions select = take (reach Later select.clauses) select.clauses
 
--- what stands behind WHERE
+-- what follows WHERE
 abbrev pub later : Pieces → List Token
 later select = drop (reach Later select.clauses) select.clauses
 

@@ -35,7 +35,7 @@ pub fn is_equals(kind: &TokenKind) -> bool
     matches!(kind, TokenKind::Terminal(Terminal::Equals))
 }
 
-/// Whether nothing stands there.
+/// Whether nothing is there.
 pub fn is_end(tokens: &[Token]) -> bool
     ensures { result ≡ is_end tokens.now }
 {
@@ -45,7 +45,7 @@ pub fn is_end(tokens: &[Token]) -> bool
     }
 }
 
-/// Whether a dot stands first.
+/// Whether a dot comes first.
 pub fn begins_dot(tokens: &[Token]) -> bool
     ensures { result ≡ kinds.begins kinds.is_dot tokens.now }
 {
@@ -55,7 +55,7 @@ pub fn begins_dot(tokens: &[Token]) -> bool
     }
 }
 
-/// Whether a star stands first.
+/// Whether a star comes first.
 pub fn begins_star(tokens: &[Token]) -> bool
     ensures { result ≡ kinds.begins single.is_star tokens.now }
 {

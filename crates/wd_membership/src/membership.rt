@@ -97,7 +97,7 @@ fn in_query<'t>(
     }))
 }
 
-/// `IN ( query )` behind an operand
+/// `IN ( query )` after an operand
 fn behind_operand<'t>(
     alloc: Global,
     operand: &'t [Token],

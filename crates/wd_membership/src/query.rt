@@ -12,7 +12,7 @@ use wd_clauses::closing;
 use wd_lex::Token;
 use wd_using::{Extent, Select, opens, pieces_at};
 
-/// The select that begins with the tokens, if no other stands at its level.
+/// The select that begins with the tokens, if no other is at its level.
 pub fn select_at(tokens: &[Token]) -> Option<Select<'_>>
     ensures { Finds pieces result (spec.select_at tokens.now) }
 {

@@ -309,7 +309,7 @@ fn add_select(
     Ok(())
 }
 
-/// What stands for a select behind these tokens.
+/// What stands for a select after these tokens.
 pub fn written(
     alloc: Global,
     front: &[Token],

@@ -39,7 +39,7 @@ unfoldable pub ends_item : List Token → Bool
 ends_item [] = true
 ends_item (token ∷ tokens) = not (is_comparison token.kind) && not (is_field token.kind)
 
--- a literal of a moment or a span stands among tokens
+-- a literal of a moment or a span is among tokens
 unfoldable pub holds_amount : List Token → Bool
 holds_amount [] = false
 holds_amount (token ∷ tokens) = is_some (amount_at (token ∷ tokens)) || holds_amount tokens
@@ -48,7 +48,7 @@ abbrev pub is_number : TokenKind → Bool
 is_number (t.Number number) = true
 is_number _ = false
 
--- a number stands among tokens, with a point or not
+-- a number is among tokens, with a point or not
 unfoldable pub holds_number : List Token → Bool
 holds_number [] = false
 holds_number (token ∷ tokens) = is_number token.kind || is_some (numeral_at (token ∷ tokens)) || holds_number tokens
@@ -85,6 +85,6 @@ item_of operand rest (Some unit) = if ends_item rest && is_written unit operand 
 abbrev pub item_by : Option Counts → List Token → ℕ → Option Item
 item_by unit tokens length = item_of (take length tokens) (drop length tokens) unit
 
--- the operand at the start and its frame, where it counts a moment or a decimal, and literals or numbers stand in them
+-- the operand at the start and its frame, where it counts a moment or a decimal, and literals or numbers are in them
 unfoldable pub item_at : Known → List Token → Option Item
 item_at known tokens = operand_at tokens >>= λ found. item_by (unit_of known found.0) tokens (length found.0 + frame_length found.1)

@@ -1,5 +1,5 @@
 -- Operators between amounts of which no equation in whole numbers is: products of decimals, quotients of decimals, and sums, comparisons,
--- branches and defaults of what counts two units, or of which it isn't clear what it counts. A word stands in place of such an operator,
+-- branches and defaults of what counts two units, or of which it isn't clear what it counts. A word is in place of such an operator,
 -- at which the profile refuses the query.
 use Rattle.std.specs.Prelude.{ℕ, ◌+◌, ◌==◌, ◌&&◌, ◌||◌, not, codes, is_some, Bool, true, false, if◌then◌else◌, List, [], ◌∷◌, length, take, Option, Some, None}
 use Rattle.wd_lex.specs.declared.token.Token.{Token}
@@ -54,7 +54,7 @@ abbrev pub opens : TokenKind → Bool
 opens (t.Literal text) = true
 opens kind = is_left_bracket kind || is_case kind
 
--- neither a text nor a bracket nor CASE stands among tokens
+-- neither a text nor a bracket nor CASE is among tokens
 unfoldable pub is_simple : List Token → Bool
 is_simple [] = true
 is_simple (token ∷ tokens) = not (opens token.kind) && is_simple tokens
@@ -84,7 +84,7 @@ term_ahead known tokens = unit_of known (take (part_length Sign tokens) tokens)
 unfoldable pub factor_ahead : Known → List Token → Option Counts
 factor_ahead known tokens = unit_of known (take (part_length Operator (unsigned tokens)) (unsigned tokens))
 
--- an operator outside brackets, and the tokens after it; a sign right after what stands between factors is that of a factor
+-- an operator outside brackets, and the tokens after it; a sign right after what is between factors is that of a factor
 abbrev pub clash_at_operator : Known → Standing → TokenKind → List Token → Option Clash
 clash_at_operator known here kind tokens =
     if is_sign kind && not here.is_factor then clash_if (are_apart here.is_simple here.sum (term_ahead known tokens) (joined kind here.sum (term_ahead known tokens))) Units
@@ -93,7 +93,7 @@ clash_at_operator known here kind tokens =
 abbrev pub clash_here : Known → Standing → TokenKind → List Token → Option Clash
 clash_here known here kind tokens = if here.depth == 0 then clash_at_operator known here kind tokens else None
 
--- after a sign a term begins, and after what stands between factors a factor
+-- after a sign a term begins, and after what is between factors a factor
 abbrev pub stands_after : Known → Standing → TokenKind → List Token → Standing
 stands_after known here kind tokens =
     if here.depth == 0 && (is_sign kind && not here.is_factor) then record { place = here.place + 1; depth = 0; sum = joined kind here.sum (term_ahead known tokens); product = factor_ahead known tokens; is_factor = false; is_simple = here.is_simple }
@@ -140,7 +140,7 @@ branch_ahead known tokens = unit_of known (take (part_length Branch tokens) toke
 abbrev pub unit_after : Known → ℕ → Option Counts → TokenKind → List Token → Option Counts
 unit_after known depth unit kind tokens = if depth == 0 && is_branch kind then branched kind unit (branch_ahead known tokens) else unit
 
--- between CASE and its END, where so many tokens stand before, so many brackets are open and the values count so much: the first THEN or
+-- between CASE and its END, where so many tokens come before, so many brackets are open and the values count so much: the first THEN or
 -- ELSE after which it isn't clear what they count
 unfoldable pub branch_from : Known → ℕ → ℕ → Option Counts → List Token → Option Unlike
 branch_from known place depth unit [] = None
@@ -159,7 +159,7 @@ case_clash known count tokens = cased (take (nest_length tokens) tokens) >>= bra
 abbrev pub is_mixed : Known → List Token → List Token → Bool
 is_mixed known value default = not (length default == 0) && counts_unclear (either (unit_of known value) (unit_of known default))
 
--- the name of a call with such a default; so many tokens stand before it
+-- the name of a call with such a default; so many tokens come before it
 abbrev pub call_clash : Known → ℕ → List Token → Option Unlike
 call_clash known count call = picked_argument call >>= λ value. unlike_at count (clash_if (is_mixed known value (default_of call)) Units)
 
@@ -183,7 +183,7 @@ clash_within known count kind tokens =
 abbrev pub clash_first : Known → ℕ → Bool → TokenKind → List Token → Option Unlike
 clash_first known count begins kind tokens = or_else (clash_begun known count begins tokens) (clash_within known count kind tokens)
 
--- the first such operator, where so many tokens stand before, and an operand may begin or not
+-- the first such operator, where so many tokens come before, and an operand may begin or not
 unfoldable pub unlike_from : Known → ℕ → Bool → List Token → Option Unlike
 unlike_from known count begins [] = None
 unlike_from known count begins (token ∷ tokens) =

@@ -85,7 +85,7 @@ fn ends_item(tokens: &[Token]) -> bool
     }
 }
 
-/// Whether a literal of a moment or a span stands among tokens.
+/// Whether a literal of a moment or a span is among tokens.
 #[tactic(auto, unfolding(crate::specs::Items::holds_amount))]
 fn holds_amount(tokens: &[Token]) -> bool
     ensures { result ≡ spec.holds_amount tokens.now }
@@ -100,7 +100,7 @@ fn holds_amount(tokens: &[Token]) -> bool
     false
 }
 
-/// Whether a number stands among tokens, with a point or not.
+/// Whether a number is among tokens, with a point or not.
 #[tactic(auto, unfolding(crate::specs::Items::holds_number))]
 fn holds_number(tokens: &[Token]) -> bool
     ensures { result ≡ spec.holds_number tokens.now }
@@ -126,7 +126,7 @@ fn is_written(unit: Unit, tokens: &[Token]) -> bool
     }
 }
 
-/// Whether RANGE stands among tokens.
+/// Whether RANGE is among tokens.
 #[tactic(auto, unfolding(crate::specs::Items::holds_range))]
 fn holds_range(tokens: &[Token]) -> bool
     ensures { result ≡ spec.holds_range tokens.now }
@@ -168,7 +168,7 @@ fn item_of<'t>(unit: Option<Unit>, tokens: &'t [Token], count: usize) -> Option<
     }
 }
 
-/// The operand at the start and its frame, where it counts a moment or a decimal, and literals or numbers stand in them.
+/// The operand at the start and its frame, where it counts a moment or a decimal, and literals or numbers are in them.
 #[tactic(auto, unfolding(crate::specs::Items::item_at))]
 pub fn item_at<'t>(known: &KnownNames, tokens: &'t [Token]) -> Option<Item<'t>>
     ensures { Finds item_seen result (spec.item_at (known_seen known.now) tokens.now) }

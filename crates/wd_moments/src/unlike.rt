@@ -1,5 +1,5 @@
 //! Operators between amounts of which no equation in whole numbers is: products and quotients of decimals, and sums, comparisons, branches
-//! and defaults of what counts two units, or of which it isn't clear what it counts. A word stands in place of such an operator, at which
+//! and defaults of what counts two units, or of which it isn't clear what it counts. A word is in place of such an operator, at which
 //! the profile refuses the query.
 //!
 //! Each operand of a query is gone through once, with what its sum and its product count so far; of a CASE and of a call with a default it
@@ -34,7 +34,7 @@ pub enum Clash {
     Units,
 }
 
-/// An operator that is not read, and how many tokens stand before it.
+/// An operator that is not read, and how many tokens come before it.
 #[derive(Clone, Copy)]
 pub struct Unlike {
     pub place: usize,
@@ -44,7 +44,7 @@ pub struct Unlike {
 /// Where a token of an operand stands.
 #[derive(Clone, Copy)]
 pub struct Standing {
-    /// How many tokens stand before it.
+    /// How many tokens come before it.
     pub place: usize,
     /// How many brackets are open.
     pub depth: usize,
@@ -125,7 +125,7 @@ fn opens(kind: &TokenKind) -> bool
     }
 }
 
-/// Whether neither a text nor a bracket nor CASE stands among tokens.
+/// Whether neither a text nor a bracket nor CASE is among tokens.
 #[tactic(auto, unfolding(crate::specs::Unlike::is_simple))]
 fn is_simple(tokens: &[Token]) -> bool
     ensures { result ≡ spec.is_simple tokens.now }
@@ -160,7 +160,7 @@ fn has_no_product(
         && ((is_known(before) && is_known(next)) || (is_simple && is_half_known(before, next)))
 }
 
-/// What stands between the product of the factors before and the next one.
+/// What is between the product of the factors before and the next one.
 fn clash_between(
     is_simple: bool,
     kind: &TokenKind,
@@ -312,7 +312,7 @@ fn operand_clash(known: &KnownNames, count: usize, tokens: &[Token]) -> Option<U
     None
 }
 
-/// The sign of a comparison whose sides count two units, where so many tokens stand before its left side.
+/// The sign of a comparison whose sides count two units, where so many tokens come before its left side.
 fn unlike_sides(known: &KnownNames, count: usize, left: &[Token], right: &[Token]) -> Option<Unlike>
     requires { count + length left.now ≤ 9223372036854775807 }
     ensures { result ≡ spec.unlike_sides (known_seen known.now) count left.now right.now }
@@ -392,8 +392,8 @@ fn unit_after(
     }
 }
 
-/// The first THEN or ELSE after which it isn't clear what the values of a CASE count; this stands between CASE and its END, and so many
-/// tokens stand before it.
+/// The first THEN or ELSE after which it isn't clear what the values of a CASE count; this is between CASE and its END, and so many
+/// tokens come before it.
 #[tactic(auto, unfolding(crate::specs::Unlike::branch_from))]
 fn branches_clash(known: &KnownNames, count: usize, inside: &[Token]) -> Option<Unlike>
     requires { count + length inside.now ≤ 9223372036854775807 }
@@ -498,7 +498,7 @@ fn clash_within(
     }
 }
 
-/// What is not read at the start, where so many tokens stand before, and an operand may begin or not.
+/// What is not read at the start, where so many tokens come before, and an operand may begin or not.
 fn clash_first(
     known: &KnownNames,
     count: usize,
@@ -534,7 +534,7 @@ pub fn first_unlike(known: &KnownNames, tokens: &[Token]) -> Option<Unlike>
     None
 }
 
-/// The word that stands in place of an operator that is not read.
+/// The word that is in place of an operator that is not read.
 fn word_of(clash: Clash) -> &'static str
     ensures { result.now ≡ spec.word_of clash }
 {

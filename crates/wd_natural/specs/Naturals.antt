@@ -13,14 +13,14 @@ use Rattle.wd_using.specs.Kinds.{begins_table, is_inner}
 use Rattle.wd_using.specs.Reach.{reach}
 use Rattle.wd_natural.specs.Kinds.{begins_condition, is_join, is_natural}
 
--- NATURAL, if it stands there, FROM or JOIN, and what follows
+-- NATURAL, if it is there, FROM or JOIN, and what follows
 pub record Head : Type 0 where
   pub natural : Option Token
   pub join : Token
   pub behind : List Token
 
 -- a table as it is joined: NATURAL, if it is joined so, FROM or JOIN, the table with its alias, its columns, and what stands
--- behind it: a condition, or INNER before the next JOIN
+-- after it: a condition, or INNER before the next JOIN
 pub record NaturalTable : Type 0 where
   pub natural : Option Token
   pub join : Token
@@ -32,7 +32,7 @@ abbrev pub behind_inner : List Token → List Token
 behind_inner [] = []
 behind_inner (word ∷ tokens) = if is_inner word.kind then tokens else word ∷ tokens
 
--- JOIN behind NATURAL
+-- JOIN after NATURAL
 abbrev pub natural_head : Token → List Token → Option Head
 natural_head word [] = None
 natural_head word (join ∷ tokens) = if is_join join.kind then Some (record { natural = Some word; join = join; behind = tokens }) else None
@@ -44,7 +44,7 @@ head_at (word ∷ tokens) =
     if is_natural word.kind then natural_head word (behind_inner tokens)
     else (if begins_table word.kind then Some (record { natural = None; join = word; behind = tokens }) else None)
 
--- nothing, or INNER before the next JOIN, stands behind a table, or its condition, which no NATURAL JOIN has
+-- nothing, or INNER before the next JOIN, comes after a table, or its condition, which no NATURAL JOIN has
 abbrev pub fits : Option Token → List Token → Bool
 fits None rest = ends rest || begins begins_condition rest
 fits (Some natural) rest = ends rest
@@ -68,7 +68,7 @@ with_source head tokens source = record {
   rest = drop source.alias.count tokens;
 }
 
--- a table, its alias, and what stands behind it
+-- a table, its alias, and what follows it
 abbrev pub joined_at : List TableRule → Head → List Token → Option NaturalTable
 joined_at schema head tokens = source_at schema tokens >>= λ source. if_read (with_source head tokens source)
 
@@ -93,7 +93,7 @@ abbrev pub with_further : (List Token → Option (List NaturalTable)) → Option
 with_further further None = None
 with_further further (Some found) = with_next further found.0 found.1
 
--- the tables of a FROM clause, at most so many
+-- the tables of a FROM clause, at most N
 unfoldable pub joined_tables : List TableRule → ℕ → List Token → Option (List NaturalTable)
 joined_tables schema zero tokens = None
 joined_tables schema (suc more) tokens = with_further (joined_tables schema more) (table_at schema tokens)

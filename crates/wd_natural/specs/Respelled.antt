@@ -14,7 +14,7 @@ use Rattle.wd_natural.specs.Kinds.{is_natural}
 use Rattle.wd_natural.specs.Naturals.{NaturalTable, joined_tables, most_tables}
 use Rattle.wd_natural.specs.Written.{all_joined}
 
--- the tables of a FROM clause, if NATURAL stands in it
+-- the tables of a FROM clause, if NATURAL is in it
 abbrev pub tables_in : List TableRule → List Token → Option (List NaturalTable)
 tables_in schema clause = if has is_natural clause then joined_tables schema most_tables clause else None
 

@@ -31,7 +31,7 @@ pub fn is_select(kind: &TokenKind) -> bool
     matches!(kind, TokenKind::Terminal(Terminal::Select))
 }
 
-/// Whether FROM or JOIN stands there, before a table.
+/// Whether FROM or JOIN is there, before a table.
 pub fn begins_table(kind: &TokenKind) -> bool
     ensures { result ≡ joining.begins_table kind.now }
 {
@@ -45,7 +45,7 @@ pub fn begins_condition(kind: &TokenKind) -> bool
     matches!(kind, TokenKind::Terminal(Terminal::On | Terminal::Using))
 }
 
-/// Whether FROM stands first.
+/// Whether FROM comes first.
 pub fn starts_with_from(tokens: &[Token]) -> bool
     ensures { result ≡ kinds.begins kinds.is_from tokens.now }
 {
@@ -55,7 +55,7 @@ pub fn starts_with_from(tokens: &[Token]) -> bool
     }
 }
 
-/// Whether NATURAL stands among the tokens.
+/// Whether NATURAL is among the tokens.
 pub fn has_natural(mut tokens: &[Token]) -> bool
     ensures { result ≡ joining.has spec.is_natural tokens.entry.now }
 {

@@ -19,7 +19,7 @@ use wd_schema::Schema;
 // The most FROM clauses that are looked at.
 const MOST_CLAUSES: usize = 128;
 
-/// The tables of a FROM clause, if NATURAL stands in it.
+/// The tables of a FROM clause, if NATURAL is in it.
 fn tables_in<'t>(
     alloc: Global,
     schema: &'t Schema,

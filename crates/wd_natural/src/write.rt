@@ -42,7 +42,7 @@ fn common<'t>(alloc: Global, left: &[&str], columns: &[&'t str]) -> Result<Vec<&
     Ok(names)
 }
 
-/// Adds a name behind a terminal.
+/// Adds a name after a terminal.
 fn add_name(
     alloc: Global,
     written: &mut Vec<Token>,
@@ -96,7 +96,7 @@ fn add_condition(
     Ok(())
 }
 
-/// Adds the condition of a NATURAL JOIN with a table, behind tables with these columns.
+/// Adds the condition of a NATURAL JOIN with a table, after tables with these columns.
 fn add_condition_if(
     alloc: Global,
     written: &mut Vec<Token>,
@@ -115,7 +115,7 @@ fn add_condition_if(
     }
 }
 
-/// Adds a table behind tables with these columns, and the condition on which it is joined.
+/// Adds a table after tables with these columns, and the condition on which it is joined.
 fn add_joined(
     alloc: Global,
     written: &mut Vec<Token>,
@@ -131,7 +131,7 @@ fn add_joined(
     Ok(())
 }
 
-/// Adds columns behind others.
+/// Adds columns after others.
 fn add_columns<'t>(left: &mut Vec<&'t str>, mut columns: &[&'t str]) -> Result<(), AllocError>
     ensures { IfOk result (λ _. map (λ column. column.now) left.new.items ≡ map (λ column. column.now) left.old.items ++ map (λ column. column.now) columns.entry.now) }
 {

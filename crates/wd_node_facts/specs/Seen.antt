@@ -119,7 +119,7 @@ is_group (Window w input) = false
 is_group (Distinct input) = false
 is_group (Limit limit input) = false
 
--- a node's own facts beside those of its sides; those of a Group stand first
+-- a node's own facts beside those of its sides; those of a Group come first
 abbrev pub with_own : Bool → FactList → List Fact → List Fact → FactList
 with_own first own left right = record {
   columns = own.columns;

@@ -30,7 +30,7 @@ pub struct Followed {
     pub set: Set,
 }
 
-/// A kept fact: the number of its trace, and what the trace's columns give, each once.
+/// A kept fact: the number of its trace, and what the trace's columns determine, each once.
 #[derive(Drop)]
 pub struct KeptFact {
     pub trace: usize,
@@ -52,8 +52,8 @@ pub struct Side {
     pub row: Member,
 }
 
-/// The given facts of a node, in their order: of a Group those that it gives stand before what its child keeps, of another node
-/// behind that.
+/// The given facts of a node, in their order: of a Group those that it gives come before what its child keeps, of another node
+/// after that.
 #[derive(Drop)]
 pub struct NodeFacts {
     /// How many columns the facts speak of.
@@ -216,7 +216,7 @@ fn is_group(plan: &Plan) -> bool
     matches!(plan, Plan::Group { .. })
 }
 
-/// A node's own facts beside those that its children keep; those of a Group stand first.
+/// A node's own facts beside those that its children keep; those of a Group come first.
 fn node_facts(alloc: Global, is_group: bool, own: Facts, left: Side, right: Side) -> NodeFacts
     ensures seen { seen_of result ≡ spec.with_own is_group (facts_of own) (spec.side_facts left) (spec.side_facts right) }
     ensures left { result.left ≡ left }

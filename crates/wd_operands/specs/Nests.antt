@@ -48,7 +48,7 @@ end_or_on count None on = 0
 end_or_on count (Some []) on = count
 end_or_on count (Some (bracket ∷ unclosed)) on = on (bracket ∷ unclosed)
 
--- how many tokens stand up to the one after which nothing is open; so many stand before these, and so much is open
+-- how many tokens stand up to the one after which nothing is open; so many come before these, and so much is open
 unfoldable pub nest_from : ℕ → List Bracket → List Token → ℕ
 nest_from count unclosed [] = 0
 nest_from count unclosed (token ∷ tokens) = end_or_on (count + 1) (open_after unclosed (step_of token.kind)) (λ now. nest_from (count + 1) now tokens)

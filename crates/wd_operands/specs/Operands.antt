@@ -10,11 +10,11 @@ use Rattle.wd_operands.specs.Nests.{nest_length}
 
 -- ---- single tokens
 
--- a word that stands between an operand and the next is no name
+-- a word that is between an operand and the next is no name
 abbrev pub is_test_word : List ℕ → Bool
 is_test_word text = bytes_eq text (codes "between") || bytes_eq text (codes "in") || bytes_eq text (codes "like") || bytes_eq text (codes "ilike") || bytes_eq text (codes "similar")
 
--- a name is a word, or it stands in quotes
+-- a name is a word, or it is in quotes
 abbrev pub is_name : TokenKind → Bool
 is_name (t.Word text) = not (is_test_word text)
 is_name (t.Quoted text) = true
@@ -127,7 +127,7 @@ primary_length tokens = or_else (or_else (nest_length tokens) (call_length token
 
 -- ---- operands
 
--- how many signs stand first; so many stand before these
+-- how many signs come first; so many come before these
 unfoldable pub signs_from : ℕ → List Token → ℕ
 signs_from count [] = count
 signs_from count (token ∷ tokens) = if is_sign token.kind then signs_from (count + 1) tokens else count

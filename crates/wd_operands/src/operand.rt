@@ -23,7 +23,7 @@ fn is_operator(kind: &TokenKind) -> bool
     )
 }
 
-/// How many signs stand first.
+/// How many signs come first.
 #[tactic(auto, unfolding(crate::specs::Operands::signs_from))]
 fn signs_length(tokens: &[Token]) -> usize
     ensures value { result ≡ signs_from 0 tokens.now }
@@ -68,7 +68,7 @@ fn link_length(tokens: &[Token]) -> usize
     if factor == 0 { 0 } else { 1 + factor }
 }
 
-/// How many tokens the longest arithmetic operand takes that stands at the start. 0 where none does.
+/// How many tokens the longest arithmetic operand takes that is at the start. 0 where none does.
 #[tactic(auto, unfolding(crate::specs::Operands::operand_length, crate::specs::Operands::links_from))]
 pub fn operand_length(tokens: &[Token]) -> usize
     ensures value { result ≡ operand_length tokens.now }

@@ -1,4 +1,4 @@
-//! What an operand is made of: names, calls, constants, and what stands in brackets.
+//! What an operand is made of: names, calls, constants, and what is in brackets.
 
 ghost use Rattle.std.specs.Prelude.{◌≡◌, ◌≤◌, length, drop, true};
 ghost use Rattle.wd_operands.specs.Operands.{brackets_length, call_length, call_tail_length, constant_length, filter_length, is_column, is_constant, is_filter, is_left_bracket, is_name, is_over, is_test_word, name_length, over_length, or_else, primary_length, typed_length, window_length};
@@ -14,7 +14,7 @@ pub fn past(tokens: &[Token], count: usize) -> &[Token]
     tokens.split_at(count).1
 }
 
-/// Whether a word begins what stands between an operand and the next, so that it is no name.
+/// Whether a word begins what is between an operand and the next, so that it is no name.
 fn is_test_word(text: &str) -> bool
     ensures { result ≡ is_test_word text.now }
 {
@@ -177,7 +177,7 @@ fn typed_length(tokens: &[Token]) -> usize
     }
 }
 
-/// Whether `. name` stands first.
+/// Whether `. name` comes first.
 fn is_column(tokens: &[Token]) -> bool
     ensures value { result ≡ is_column tokens.now }
     ensures within { result ≡ true → 2 ≤ length tokens.now }

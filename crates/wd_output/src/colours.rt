@@ -3,7 +3,7 @@
 use std::alloc::Global;
 use wd_value::OutOfMemory;
 
-/// The lines of blocks in colours: where something stands in bold, its carets in red, its help in green.
+/// The lines of blocks in colours: where something is in bold, its carets in red, its help in green.
 pub(crate) fn coloured(alloc: Global, text: &[u8]) -> Result<Vec<u8>, OutOfMemory> {
     let mut out = Vec::new(alloc);
     let mut is_head = true;

@@ -10,7 +10,7 @@ use std::time::Instant;
 pub(crate) struct Progress {
     /// When it began; none where nothing is shown.
     began: Option<Instant>,
-    /// Whether a line stands on the terminal.
+    /// Whether a line is on the terminal.
     is_shown: bool,
     /// How many queries are done.
     done: u64,

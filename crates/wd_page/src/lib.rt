@@ -2,7 +2,7 @@
 //!
 //! `query` says what there is to show of a query, `section` makes its part of the page of what `wd_page_parts` has, with the
 //! words of `words`, and `report` keeps what is found and lays out the file. All of it is written through `wd_markup`, so that
-//! whatever comes from an input stands in the file as an escaped text.
+//! whatever comes from an input is in the file as an escaped text.
 #![tactic(auto)]
 
 mod query;

@@ -27,7 +27,7 @@ pub struct Report {
     counts: Counts,
 }
 
-/// What is found of a query, as it stands in the page.
+/// What is found of a query, as it is in the page.
 #[derive(Drop)]
 struct Entry {
     kind: Kind,
@@ -55,7 +55,7 @@ impl Report {
     }
 
     /// Adds a query that is read: the calls and the limits that are open, and the text with which it has one answer, where one
-    /// is known. Refused for want of memory, the report is as it was.
+    /// is known. Refused where memory runs out, the report is as it was.
     pub fn add_judged(
         &mut self,
         query: Query<'_, '_, '_>,
@@ -71,7 +71,7 @@ impl Report {
         self.add(entry)
     }
 
-    /// Adds a query that is not read. Refused for want of memory, the report is as it was.
+    /// Adds a query that is not read. Refused where memory runs out, the report is as it was.
     pub fn add_refused(
         &mut self,
         query: Query<'_, '_, '_>,
@@ -191,7 +191,7 @@ fn add_share(alloc: Global, page: &mut Page, kind: Kind, count: u64) -> Result<(
     Ok(page.element(Tag::Item, kind_class(kind), words.as_bytes())?)
 }
 
-/// Adds what stands below all sections.
+/// Adds what is below all sections.
 fn add_footer(page: &mut Page) -> Result<(), OutOfMemory> {
     Ok(page.element(
         Tag::Footer,

@@ -161,7 +161,7 @@ fn add_open(alloc: Global, page: &mut Page, place: Place) -> Result<(), OutOfMem
     Ok(page.close(Tag::Item)?)
 }
 
-/// Adds a number behind a word.
+/// Adds a number after a word.
 pub(crate) fn add_number(
     alloc: Global,
     page: &mut Page,

@@ -8,7 +8,7 @@ use wd_markup::{Class, Page, Tag};
 use wd_source::line_around;
 use wd_value::OutOfMemory;
 
-/// Adds a text with marks at these spans of it, which stand in their order. Of spans that overlap, the first is marked.
+/// Adds a text with marks at these spans of it, which are in their order. Of spans that overlap, the first is marked.
 pub fn add_marked(
     alloc: Global,
     page: &mut Page,

@@ -1,4 +1,4 @@
-//! The plan of a query as boxes within one another: each node stands below what it reads.
+//! The plan of a query as boxes within one another: each node is below what it reads.
 
 ghost use Rattle.std.specs.Prelude.{◌≡◌, length, take, OnErr, OnOk};
 
@@ -26,7 +26,7 @@ pub struct Grounds<'s, 'c, 'p> {
     pub places: &'p [Place],
 }
 
-/// Adds the box of a plan, whose nodes are numbered from one on; the number behind them.
+/// Adds the box of a plan, whose nodes are numbered from one on; the number after them.
 pub fn add_plan(
     alloc: Global,
     page: &mut Page,
@@ -55,7 +55,7 @@ struct At {
     scan: usize,
 }
 
-/// What is drawn of a plan: where the walk is behind it, and the names of its columns.
+/// What is drawn of a plan: where the walk is after it, and the names of its columns.
 #[derive(Drop)]
 struct Drawn {
     behind: At,
@@ -141,7 +141,7 @@ fn above(
     }
 }
 
-/// What stands before the names of a table's columns, where several tables are read.
+/// What comes before the names of a table's columns, where several tables are read.
 fn qualifier(tables: &[Text], scan: usize) -> Option<&str> {
     if tables.len() < 2 {
         return None;

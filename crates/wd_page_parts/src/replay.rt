@@ -1,4 +1,4 @@
-//! What PostgreSQL may be asked: the tables of a witness, filled in one order and in the other, with the query behind each.
+//! What PostgreSQL may be asked: the tables of a witness, filled in one order and in the other, with the query after each.
 
 ghost use Rattle.std.specs.Prelude.{◌≡◌, length, take, OnErr, OnOk};
 

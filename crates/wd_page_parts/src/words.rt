@@ -36,7 +36,7 @@ pub(crate) fn value_text(alloc: Global, value: &Value) -> Result<String, OutOfMe
     Ok(text)
 }
 
-/// What stands before an item of a list with this number.
+/// What comes before an item of a list with this number.
 pub(crate) fn separator(number: usize) -> &'static str {
     if number > 0 { ", " } else { "" }
 }

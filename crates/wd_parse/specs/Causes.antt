@@ -1,4 +1,4 @@
--- Refusals: their numbers and places, and what stands in the tokens where they are answered.
+-- Refusals: their numbers and places, and what is in the tokens where they are answered.
 use Rattle.std.specs.Prelude.{◌≡◌, ℕ, Option, Some, None, Result, Ok, Err}
 use Rattle.wd_syntax.specs.declared.query.Query.{Query}
 use Rattle.wd_read_cursor.specs.Tokens.{Kinds}

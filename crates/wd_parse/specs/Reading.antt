@@ -207,7 +207,7 @@ select_at limit depth inside ts =
     order_at (read limit depth whole_height) windows.1 >>= λ order. limits_at order.1 >>= λ limits.
     Ok (select (record { quantifier = (quantifier_at r).0; items = items.0; tail = record { filter = filter.0; grouping = grouping.0; windows = windows.0; order = keys_of order.0; limits = limits.0 } }) tables.0.0 (joins_of tables.0.1), limits.1)
 
--- a select with so many levels left
+-- a select with the given number of levels left
 unfoldable pub selects : ℕ → ℕ → Parser SelectTree
 selects limit zero = select_at limit zero None
 selects limit (suc depth) = select_at limit (suc depth) (Some (selects limit depth))

@@ -9,7 +9,7 @@ use wd_lex::{Terminal, Token, TokenKind};
 use wd_read_cursor::{KeyWord, Refusal, eat, eat_word, expect_word, number_at, unexpected};
 use wd_syntax::{Count, FetchWord, Limits, Offset, RowWord};
 
-/// `ROW` or `ROWS`, where it stands first.
+/// `ROW` or `ROWS`, where it comes first.
 #[tactic(auto, unfolding(crate::specs::Reading::row_at))]
 fn row_at(tokens: &[Token]) -> Option<(RowWord, &[Token])>
     ensures { Finds (λ x. (x.0, kinds_of x.1.now)) result (row_at (kinds_of tokens.now)) }

@@ -95,7 +95,7 @@ fn alias_at(alloc: Global, tokens: &[Token]) -> Result<(Option<Alias>, &[Token])
     }
 }
 
-/// `name . *`, where it stands first.
+/// `name . *`, where it comes first.
 #[tactic(auto, unfolding(crate::specs::Reading::star_at))]
 fn star_at(alloc: Global, tokens: &[Token]) -> Result<Option<(Name, &[Token])>, Refusal>
     ensures { MayFind (λ x. (x.0, kinds_of x.1.now)) result (star_at (kinds_of tokens.now)) }
@@ -112,7 +112,7 @@ fn star_at(alloc: Global, tokens: &[Token]) -> Result<Option<(Name, &[Token])>, 
     }
 }
 
-/// Reads the members of a select list, with so many levels left.
+/// Reads the members of a select list, with the given number of levels left.
 #[derive(Clone, Copy)]
 struct Items {
     depth: u8,
@@ -162,7 +162,7 @@ fn filter(alloc: Global, depth: u8, tokens: &[Token]) -> Result<(Option<Expr>, &
     }
 }
 
-/// Reads windows `name AS ( .. )`, with so many levels left.
+/// Reads windows `name AS ( .. )`, with the given number of levels left.
 #[derive(Clone, Copy)]
 struct NamedWindows {
     depth: u8,

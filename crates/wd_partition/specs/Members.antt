@@ -55,7 +55,7 @@ pub record ArePartitions (class : ClassRule) (numbers : Bool) (rows : List Row) 
   pub lawful : IsOrdering class rows ordering
   pub each : members ≡ members_of class numbers rows ordering
 
--- a stretch of a list
+-- a range of a list
 abbrev pub stretch : {X : Type 0} → Place → List X → List X
 stretch {X} place xs = take (place.end - place.start) (drop place.start xs)
 
@@ -68,7 +68,7 @@ member_at grouped groups numbers place = record {
   place = place.index - place.start;
 }
 
--- a stretch of a list of n elements, and one of its elements
+-- a range of a list of n elements, and one of its elements
 pub record IsWithin (n : ℕ) (place : Place) : Type 0 where
   pub starts : place.start ≤ place.index
   pub ends : place.start ≤ place.end

@@ -60,7 +60,7 @@ impl Partitions {
     }
 }
 
-/// The numbers of a stretch, where there are numbers.
+/// The numbers of a range, where there are numbers.
 fn numbers_at(numbers: &[Value], place: Place) -> &[Value]
     requires ends { place.start ≤ place.end }
     requires within { 0 < length numbers.now → place.end ≤ length numbers.now }

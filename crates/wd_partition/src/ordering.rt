@@ -48,7 +48,7 @@ pub fn sorted_ordering(
 }
 
 /// Whether the list is an ordering that the class allows: each position of the rows once, and the
-/// rows of each partition sorted by the keys, where rows that tie may stand in any order (SQL,
+/// rows of each partition sorted by the keys, where rows that tie may appear in any order (SQL,
 /// window clause). Takes n log n comparisons.
 pub fn is_ordering(
     alloc: Global,
@@ -66,7 +66,7 @@ pub fn is_ordering(
 }
 
 /// The positions of an ordering, one partition after another and in each as the ordering has them,
-/// with the step to each; none where the list is no ordering of the class. Where each position stands once, the list is
+/// with the step to each; none where the list is no ordering of the class. Where each position appears once, the list is
 /// one exactly if its stable sort by partition is sorted by all columns.
 pub fn grouped(
     alloc: Global,

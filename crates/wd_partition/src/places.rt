@@ -1,6 +1,6 @@
-//! Where the row at each position stands among the positions sorted by partition.
+//! Where the row at each position is among the positions sorted by partition.
 
-/// The stretch of a row's partition among the positions sorted by partition, from `start` up to
+/// The range of a row's partition among the positions sorted by partition, from `start` up to
 /// `end`, and the place of the row itself there.
 #[derive(Clone, Copy, PartialEq, Eq)]
 pub struct Place {

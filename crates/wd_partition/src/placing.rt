@@ -1,4 +1,4 @@
-//! Where the row at each position stands among the positions sorted by partition.
+//! Where the row at each position is among the positions sorted by partition.
 
 ghost use Rattle.std.specs.Prelude.{◌≡◌, ◌<◌, ◌^◌, IfOk, length};
 ghost use Rattle.wd_partition.specs.Places.{ArePlaces};

@@ -14,7 +14,7 @@ pub enum Turn {
     AsGiven,
     /// From the last to the first.
     Reversed,
-    /// The first one last, behind the others as they are.
+    /// The first one last, after the others as they are.
     Rotated,
     /// Neighbours exchanged two by two; an odd last one stays.
     Exchanged,

@@ -87,7 +87,7 @@ fn change(
     })
 }
 
-/// Adds what stands in the place of a part.
+/// Adds what is in the place of a part.
 fn add_neutral(
     put: &mut String,
     text: &[u8],
@@ -125,7 +125,7 @@ fn add_quoted(put: &mut String, name: &str) -> Result<(), OutOfMemory> {
     Ok(put.push('"')?)
 }
 
-/// Adds the bytes of a text that stand there.
+/// Adds the bytes of a text that are there.
 fn add_bytes(put: &mut String, text: &[u8], span: Span) -> Result<(), OutOfMemory> {
     let end = (span.end as usize).min(text.len());
     let start = (span.start as usize).min(end);

@@ -3,7 +3,7 @@
 use std::alloc::Global;
 use wd_value::OutOfMemory;
 
-/// What stands in the place of a part that is to be no cause.
+/// What is in the place of a part that is to be no cause.
 #[derive(Clone, Copy)]
 pub enum Neutral {
     /// `NULL`, for an expression.
@@ -19,7 +19,7 @@ pub enum Neutral {
     Table,
     /// A name that nothing else has.
     Name,
-    /// What stands there, by a name that nothing else has.
+    /// What is there, by a name that nothing else has.
     Called,
     /// A column of such a name, for a member of a table's declaration.
     Column,
@@ -32,11 +32,11 @@ pub enum Neutral {
 pub struct Part {
     /// The first token that something else may take the place of.
     pub first: usize,
-    /// The one behind the last.
+    /// The one after the last.
     pub end: usize,
     /// The first of those where the cause stands if the part is one.
     pub shown: usize,
-    /// The one behind the last of these; 0 where they end with the part.
+    /// The one after the last of these; 0 where they end with the part.
     pub shown_end: usize,
     pub neutral: Neutral,
 }
@@ -98,7 +98,7 @@ impl Walk {
         }
     }
 
-    /// The cause is not shown behind the tokens so far.
+    /// The cause is not shown after the tokens so far.
     pub(crate) fn show(&mut self, opened: Option<usize>) {
         let at = self.at;
         if let Some(place) = opened {
@@ -121,7 +121,7 @@ impl Walk {
         Ok(())
     }
 
-    /// Puts the parts from one place up to another behind all others, since they are judged after these.
+    /// Puts the parts from one place up to another after all others, since they are judged after these.
     pub(crate) fn put_behind(
         &mut self,
         alloc: Global,

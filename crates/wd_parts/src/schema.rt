@@ -20,7 +20,7 @@ pub fn schema_parts(
     Ok(walk.parts)
 }
 
-/// Adds the parts of a table's declaration, and passes the semicolon behind it.
+/// Adds the parts of a table's declaration, and passes the semicolon after it.
 fn add_table(walk: &mut Walk, table: &WrittenTable) -> Result<(), OutOfMemory> {
     let first = walk.at;
     walk.pass(2);

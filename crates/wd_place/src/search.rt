@@ -26,7 +26,7 @@ struct Search<'a, J> {
     text: &'a [u8],
     tokens: &'a [Token],
     parts: &'a [Part],
-    /// The name of a table, for what stands in the place of one.
+    /// The name of a table, for what is in the place of one.
     table: &'a str,
 }
 
@@ -102,7 +102,7 @@ pub fn schema_place(alloc: Global, schema: &[u8], number: u32) -> Result<Option<
 }
 
 impl<J: Judge> Search<'_, J> {
-    /// The place of a part with which the text is refused, and without which it is not; the parts behind it are replaced.
+    /// The place of a part with which the text is refused, and without which it is not; the parts after it are replaced.
     fn found(&self) -> Result<Option<Span>, OutOfMemory>
         requires { IsLexed self.now.text.now self.now.tokens.now }
         ensures { IfOk result (λ found. IfSome found (IsCauseAt (J.Refused self.now.judge.now) (J.Passed self.now.judge.now) self.now.text.now)) }

@@ -49,12 +49,12 @@ total (Null ∷ vs) = total vs
 abbrev pub sum_of : List Value → Result Value Fault
 sum_of vs = if list_any (λ v. not (is_null v)) vs then (if fits_64 (total vs) then Ok (Int (total vs)) else Err OutOfRange) else Ok Null
 
--- the value that stands first under a sort key, or NULL over no value
+-- the value that comes first under a sort key, or NULL over no value
 abbrev pub first_by : SortKey → List Value → Value
 first_by key [] = Null
 first_by key (v ∷ vs) = let w = first_by key vs in if is_gt (compare key v w) then w else v
 
--- NULL stands last under both keys, so it is taken only where there is no other
+-- NULL comes last under both keys, so it is taken only where there is no other
 abbrev pub least : List Value → Value
 least vs = first_by (record { desc = false; nulls_first = false }) vs
 

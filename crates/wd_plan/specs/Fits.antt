@@ -232,7 +232,7 @@ is_call kinds classes call = of_class (slice_get classes call.class)
 
 -- ---- groups
 
--- each set names grouping columns, and each of these stands in some set
+-- each set names grouping columns, and each of these is in some set
 abbrev pub are_sets : ℕ → List (List ℕ) → Bool
 are_sets columns sets = list_all (list_all (λ c. nat_lt c columns)) sets && list_all (λ c. list_any (λ set. has set c) sets) (positions columns)
 

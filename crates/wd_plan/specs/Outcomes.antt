@@ -56,7 +56,7 @@ distinct (r ∷ rs) = r ∷ filter (λ q. not (same_row r q)) (distinct rs)
 
 -- ---- groups (SQL, group by clause, set function specification; PG, Table Expressions, Aggregate Functions)
 
--- what a row shows in the grouping columns, the first so many, under a set: NULL outside the set
+-- what a row shows in the grouping columns, the first N, under a set: NULL outside the set
 abbrev pub shown : ℕ → List ℕ → Row → Row
 shown columns set row = map (λ c. if has set c then column_of row c else Null) (positions columns)
 
@@ -125,7 +125,7 @@ first_rows keys ties (suc n) [] = []
 first_rows keys ties (suc zero) (r ∷ rows) = r ∷ (if ties then take_while (peers keys r) rows else [])
 first_rows keys ties (suc (suc n)) (r ∷ rows) = r ∷ first_rows keys ties (suc n) rows
 
--- what a Limit keeps of rows that stand in its ordering: those after the offset, and where there is a count the first of them
+-- what a Limit keeps of rows that are in its ordering: those after the offset, and where there is a count the first of them
 abbrev pub cut : LimitRule → List Row → List Row
 cut limit rows = by_count limit.count
   where
@@ -135,8 +135,8 @@ cut limit rows = by_count limit.count
 
 -- ---- plans
 
--- The outcome of a plan under a choice. A node's orderings stand after those of the nodes below it, a Join's right side's
--- after the left side's; what stands after them is not read.
+-- The outcome of a plan under a choice. A node's orderings come after those of the nodes below it, a Join's right side's
+-- after the left side's; what comes after them is not read.
 abbrev pub outcome : PlanTree → Instance → List (List ℕ) → RowsOrFault
 outcome (Scan table columns) instance choice = Ok (table_at instance table)
 outcome (Join condition left right) instance choice = and_then (outcome left instance choice) (λ ls. and_then (outcome right instance (drop (ordering_count left) choice)) (λ rs. join_outcome condition (pairs ls rs)))

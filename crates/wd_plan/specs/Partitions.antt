@@ -12,11 +12,11 @@ use Rattle.wd_plan.specs.Sorting.{same_partition}
 abbrev pub members : ClassRule → List Row → List ℕ → ℕ → List ℕ
 members class rows ordering r = filter (λ q. same_partition class (row_at rows r) (row_at rows q)) ordering
 
--- the partition list as the rows that stand there
+-- the partition list as the rows that are there
 abbrev pub partition_of : ClassRule → List Row → List ℕ → ℕ → List Row
 partition_of class rows ordering r = rows_at rows (members class rows ordering r)
 
--- the place of a position in a list: how many stand before it
+-- the place of a position in a list: how many come before it
 abbrev pub place_in : List ℕ → ℕ → ℕ
 place_in [] r = 0
 place_in (q ∷ qs) r = if nat_eq q r then 0 else suc (place_in qs r)

@@ -42,7 +42,7 @@ abbrev pub group_call_of : CodeGroupCall → GroupCall
 group_call_of (shown.OfRows aggregate) = OfRows aggregate
 group_call_of (shown.Grouping columns) = Grouping columns.items
 
--- what a Group asks: the first so many columns of its input are the grouping columns, and each set is a list of these
+-- what a Group asks: the first N columns of its input are the grouping columns, and each set is a list of these
 pub record GroupRule : Type 0 where
   pub columns : ℕ
   pub sets : List (List ℕ)

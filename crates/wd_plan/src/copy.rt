@@ -1,4 +1,4 @@
-//! Copies of expressions. What is still to be copied stands on the heap, and takes nothing of the stack however deep the expression is.
+//! Copies of expressions. What is still to be copied is on the heap, and takes nothing of the stack however deep the expression is.
 
 ghost use Rattle.std.specs.Prelude.{◌≡◌, ◌<◌, IfOk};
 ghost use Rattle.wd_plan.specs.Copies.{closed_tree, first_copied, second_copied, step_tree, steps_left, waiting_steps};
@@ -9,7 +9,7 @@ use crate::expression::Expr;
 use std::alloc::Global;
 use wd_value::OutOfMemory;
 
-/// An expression whose operands are being copied: its first one, or a later one behind those that are copied.
+/// An expression whose operands are being copied: its first one, or a later one after those that are copied.
 #[derive(Drop)]
 enum Waiting<'e> {
     First(&'e Expr),

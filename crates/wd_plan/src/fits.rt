@@ -1,6 +1,6 @@
 //! Whether a plan fits a schema.
 //!
-//! A Group fits only where each grouping column stands in some set. A query never names one that doesn't, and for a plan by hand the
+//! A Group fits only where each grouping column is in some set. A query never names one that doesn't, and for a plan by hand the
 //! facts of one set would be false: a column that is NULL everywhere would be determined by what determined it below. A set may name
 //! a column twice, and a list may have a set twice: its rows then come twice, and GROUPING does not tell them apart.
 
@@ -217,7 +217,7 @@ fn of_rows(aggregate: Aggregate) -> Function
     Function::OfFrame(FrameFunction::Aggregate(aggregate))
 }
 
-/// Whether these are among the first so many columns.
+/// Whether these are among the first N columns.
 fn are_below(columns: &[u16], count: u16) -> bool
     ensures { result ≡ list_all (λ c. nat_lt c count) columns.now }
 {
@@ -578,7 +578,7 @@ fn is_group(group: &Group, input: &Plan, schema: &Schema) -> bool
         && are_group_calls(&group.calls, group.columns, input, schema)
 }
 
-/// Whether each set names grouping columns, the first so many, and each of these stands in some set.
+/// Whether each set names grouping columns, the first N, and each of these is in some set.
 fn are_sets(sets: &[Vec<u16>], columns: u16) -> bool
     ensures { result ≡ spec.are_sets columns (sets_of sets.now) }
 {

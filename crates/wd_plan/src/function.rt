@@ -36,9 +36,9 @@ pub enum Ranking {
 /// Which way LAG and LEAD go.
 #[derive(Clone, Copy, PartialEq, Eq, Debug)]
 pub enum Direction {
-    /// To rows that stand earlier.
+    /// To rows that come earlier.
     Lag,
-    /// To rows that stand later.
+    /// To rows that come later.
     Lead,
 }
 
@@ -106,7 +106,7 @@ pub enum ResultKind {
     OfArgument,
 }
 
-/// Whether a function has one value for rows that are peers, whatever order they stand in.
+/// Whether a function has one value for rows that are peers, whatever order they are in.
 #[derive(Clone, Copy)]
 pub enum ByPeers {
     Never,

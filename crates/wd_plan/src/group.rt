@@ -12,7 +12,7 @@ pub enum GroupCall {
     Grouping(Vec<u16>),
 }
 
-/// Grouping sets over the first so many columns of the input, and what is shown of each group.
+/// Grouping sets over the first N columns of the input, and what is shown of each group.
 #[derive(Debug, Drop)]
 pub struct Group {
     pub columns: u16,

@@ -64,7 +64,7 @@ pub struct Window {
 }
 
 impl Frame {
-    /// Whether the rows of the frame are the same for rows that are peers, and whatever order these stand in: mode RANGE
+    /// Whether the rows of the frame are the same for rows that are peers, and whatever order these are in: mode RANGE
     /// or GROUPS, or ROWS between both unbounded ends, with any exclusion.
     pub fn is_stable(self) -> bool
         ensures { result ≡ is_stable self }
@@ -88,7 +88,7 @@ impl Bound {
 }
 
 impl Call {
-    /// Whether rows that are peers have one value of the call, whatever order they stand in.
+    /// Whether rows that are peers have one value of the call, whatever order they are in.
     pub fn is_by_peers(&self) -> bool
         ensures { result ≡ is_by_peers self.now.frame self.now.function }
     {

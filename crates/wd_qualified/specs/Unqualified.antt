@@ -1,4 +1,4 @@
--- A query in which the name of each table is the last of the names that dots join there. In SQL a dot stands only behind a
+-- A query in which the name of each table is the last of the names that dots join there. In SQL a dot stands only after a
 -- name, so where a table stands the dots and the names before them are left out.
 use Rattle.std.specs.Prelude.{◌&&◌, ◌||◌, if◌then◌else◌, Bool, true, false, List, [], ◌∷◌, ◌++◌}
 use Rattle.wd_lex.specs.declared.token.Terminal.TheVariants as m
@@ -17,7 +17,7 @@ abbrev pub begins_name : List Token → Bool
 begins_name [] = false
 begins_name (token ∷ tokens) = is_name token.kind
 
--- a dot and a name behind it
+-- a dot and a name after it
 abbrev pub goes_on : List Token → Bool
 goes_on [] = false
 goes_on (dot ∷ tokens) = is_dot dot.kind && begins_name tokens

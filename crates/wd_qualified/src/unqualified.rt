@@ -25,7 +25,7 @@ fn begins_name(tokens: &[Token]) -> bool
     }
 }
 
-/// Whether a dot stands first, and a name behind it.
+/// Whether a dot comes first, and a name after it.
 fn goes_on(tokens: &[Token]) -> bool
     ensures { result ≡ spec.goes_on tokens.now }
 {

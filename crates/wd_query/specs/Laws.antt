@@ -16,7 +16,7 @@ pub record HaveMeaning (schema query : List ℕ) : Type 0 where
   pub reads : Reads schema query read
   pub limits : KeepsLimits reads.tree
 
--- Texts that have a meaning are refused for nothing that stands in them, on the whole way from their bytes to the plan: a refusal
+-- Texts that have a meaning are refused for nothing that is in them, on the whole way from their bytes to the plan: a refusal
 -- for another reason than that memory runs out has no cause there.
 abbrev pub HasMeaningOrCause : Type 0
 HasMeaningOrCause = (schema query : List ℕ) (refusal : TextError) → HaveMeaning schema query → IsSome (text_number refusal) → HasTextCause schema query refusal → ⊥

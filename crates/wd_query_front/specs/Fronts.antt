@@ -14,7 +14,7 @@ use Rattle.wd_schema.specs.Tables.{TableRule}
 use Rattle.wd_schema.specs.Texts.{Declares}
 use Rattle.wd_source.specs.Statements.{AreStatements}
 
--- the text of the statement that stands there
+-- the text of the statement that is there
 abbrev pub statement_of : List ℕ → Span → List ℕ
 statement_of text span = slice_range text span.start span.end
 

@@ -77,7 +77,7 @@ fn respelled_over(
     Ok(Some(RespelledText { text, notes }))
 }
 
-/// The statements that are respelled; what is told of them goes behind the notes.
+/// The statements that are respelled; what is told of them goes after the notes.
 fn respelled_statements(
     alloc: Global,
     declared: &[Statement],
@@ -104,7 +104,7 @@ fn respelled_statements(
     Ok(fixes)
 }
 
-/// The statement that stands there, respelled, where the profile refuses it or its numbers count units.
+/// The statement that is there, respelled, where the profile refuses it or its numbers count units.
 fn respelled_statement(
     alloc: Global,
     declared: &[Statement],
@@ -131,7 +131,7 @@ fn respelled_statement(
     }
 }
 
-/// A query that the profile reads, as it stands there with its numbers in the units that they count, where they count some.
+/// A query that the profile reads, as it is there with its numbers in the units that they count, where they count some.
 fn in_units(
     alloc: Global,
     declared: &[Statement],
@@ -157,7 +157,7 @@ fn in_units(
     }
 }
 
-/// A text that is refused as too long. It stands in the place of a query that would be read amiss as it is, and would have too many
+/// A text that is refused as too long. It is in the place of a query that would be read amiss as it is, and would have too many
 /// tokens or bytes with its numbers in units.
 fn unread(alloc: Global) -> Result<Vec<u8>, OutOfMemory>
     ensures { IfOk result (λ text. IsTooLong text.items) }
@@ -178,7 +178,7 @@ fn refusal(alloc: Global, schema: &[u8], query: &[u8]) -> Option<TextError>
     }
 }
 
-/// What the equations make of a query, to stand there.
+/// What the equations make of a query, to be there.
 fn respelling(
     alloc: Global,
     declared: &[Statement],

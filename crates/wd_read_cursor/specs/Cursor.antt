@@ -1,4 +1,4 @@
--- Reading tokens from left to right: what stands first, what follows it, and why tokens are not read.
+-- Reading tokens from left to right: what comes first, what follows it, and why tokens are not read.
 use Rattle.std.specs.Prelude.{ℕ, zero, suc, ◌==◌, ◌++◌, if◌then◌else◌, List, [], ◌∷◌, length, Bool, true, false, Option, Some, None, Result, Ok, Err}
 use Rattle.std.specs.Str.{bytes_eq}
 use Rattle.wd_lex.specs.Terminals.{terminal_code}
@@ -40,7 +40,7 @@ abbrev pub is_terminal : Terminal → TokenKind → Bool
 is_terminal x (t.Terminal y) = terminal_code y == terminal_code x
 is_terminal x _ = false
 
--- the tokens after that terminal, where it stands first
+-- the tokens after that terminal, where it comes first
 unfoldable pub eat : Terminal → Kinds → Option Kinds
 eat x [] = None
 eat x (y ∷ ts) = if is_terminal x y then Some ts else None
@@ -64,7 +64,7 @@ eat_word x (y ∷ ts) = if is_word x y then Some ts else None
 unfoldable pub expect_word : KeyWord → Kinds → Result Kinds Fault
 expect_word x ts = some_or_unexpected (length ts) (eat_word x ts)
 
--- the name that stands first
+-- the name that comes first
 abbrev pub name_of : TokenKind → Option Name
 name_of (t.Word text) = Some (record { text = text; quoted = false })
 name_of (t.Quoted text) = Some (record { text = text; quoted = true })
@@ -97,7 +97,7 @@ unfoldable pub many : {A : Type 0} → Chance A → ℕ → Parser (List A)
 many item zero ts = Ok ([], ts)
 many item (suc n) ts = if_begun (item ts) ts (λ a. many item n a.1 >>= λ xs. Ok (a.0 ∷ xs.0, xs.1))
 
--- what is read after a terminal, where the terminal stands first
+-- what is read after a terminal, where the terminal comes first
 unfoldable pub after : {A : Type 0} → Terminal → Parser A → Chance A
 after x item ts = choose (eat x ts) (λ r. Some (item r)) None
 

@@ -43,7 +43,7 @@ infixr 20 ◌▹◌
 abbrev pub ◌▹◌ : KeyWord → Kinds → Kinds
 x ▹ ts = t.Word (letters x) ∷ ts
 
--- a name is a word, or it stands in quotes
+-- a name is a word, or it is in quotes
 abbrev pub written : Bool → List ℕ → TokenKind
 written true text = t.Quoted text
 written false text = t.Word text

@@ -1,4 +1,4 @@
-//! The tokens that are left: what stands first among them, names, and lists.
+//! The tokens that are left: what comes first among them, names, and lists.
 //!
 //! Each function takes the tokens that are left, and hands back those that follow what it read.
 #![tactic(auto)]

@@ -22,7 +22,7 @@ pub trait Reader {
     /// How an item is read.
     ghost item: { Self → Parser Tree };
 
-    /// The item that stands first, and the tokens after it.
+    /// The item that comes first, and the tokens after it.
     fn read<'t>(
         &self,
         alloc: Global,

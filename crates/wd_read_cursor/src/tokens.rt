@@ -1,4 +1,4 @@
-//! The token that stands first.
+//! The token that comes first.
 
 ghost use Rattle.std.specs.Prelude.{◌≡◌, ◌-◌, length};
 ghost use Rattle.wd_lex.specs.Lexed.{kinds_of};
@@ -20,7 +20,7 @@ fn is_terminal(kind: &TokenKind, terminal: Terminal) -> bool
     }
 }
 
-/// The tokens after a terminal, where it stands first.
+/// The tokens after a terminal, where it comes first.
 #[tactic(auto, unfolding(crate::specs::Cursor::eat))]
 pub fn eat(tokens: &[Token], terminal: Terminal) -> Option<&[Token]>
     ensures { Finds (λ r. kinds_of r.now) result (eat terminal (kinds_of tokens.now)) }
@@ -37,7 +37,7 @@ pub fn eat(tokens: &[Token], terminal: Terminal) -> Option<&[Token]>
     }
 }
 
-/// The refusal of the token that stands first, or of the end of the tokens.
+/// The refusal of the token that comes first, or of the end of the tokens.
 pub fn unexpected(tokens: &[Token]) -> Refusal
     ensures { result ≡ Refusal.Unexpected (length (kinds_of tokens.now)) }
 {
@@ -62,7 +62,7 @@ pub fn expect(tokens: &[Token], terminal: Terminal) -> Result<&[Token], Refusal>
     }
 }
 
-/// The tokens after a key word that is not reserved, where it stands first.
+/// The tokens after a key word that is not reserved, where it comes first.
 #[tactic(auto, unfolding(crate::specs::Cursor::eat_word))]
 pub fn eat_word(tokens: &[Token], word: KeyWord) -> Option<&[Token]>
     ensures { Finds (λ r. kinds_of r.now) result (eat_word word (kinds_of tokens.now)) }
@@ -96,7 +96,7 @@ pub fn expect_word(tokens: &[Token], word: KeyWord) -> Result<&[Token], Refusal>
     }
 }
 
-/// The name that stands first, quoted or not, and the tokens after it. A reserved word is no name.
+/// The name that comes first, quoted or not, and the tokens after it. A reserved word is no name.
 #[tactic(auto, unfolding(crate::specs::Cursor::eat_name))]
 pub fn eat_name(alloc: Global, tokens: &[Token]) -> Result<Option<(Name, &[Token])>, Refusal>
     ensures { MayFind (λ x. (x.0, kinds_of x.1.now)) result (eat_name (kinds_of tokens.now)) }

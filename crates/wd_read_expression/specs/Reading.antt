@@ -156,7 +156,7 @@ abbrev pub ended : Option (Operator × Kinds) → Tree → Parser Tree
 ended None a ts = Ok (a, ts)
 ended (Some x) a ts = Err (Limit (length ts))
 
--- A chain goes on from its left side, with at most so many operators.
+-- A chain goes on from its left side, with at most N operators.
 unfoldable pub links : Parser Tree → ℕ → ℕ → Tree → Parser Tree
 links operand h zero a ts = ended (operator_at h ts) a ts
 links operand h (suc n) a ts = link (operator_at h ts) operand a ts (λ b. links operand h n b)
@@ -169,7 +169,7 @@ compared operand a ts = link (operator_at (rank height.Comparison) ts) operand a
 unfoldable pub null_at : Parser Bool
 null_at ts = choose (eat m.Not ts) (λ r. expect m.Null r >>= λ r. Ok (true, r)) (expect m.Null ts >>= λ r. Ok (false, r))
 
--- tests for NULL, at most so many
+-- tests for NULL, at most N
 unfoldable pub tests : ℕ → Tree → Parser Tree
 tests zero a ts = choose (eat m.Is ts) (λ r. Err (Limit (length ts))) (Ok (a, ts))
 tests (suc n) a ts = choose (eat m.Is ts) (λ r. null_at r >>= λ x. tests n (IsNull a x.0) x.1) (Ok (a, ts))
@@ -265,6 +265,6 @@ unfoldable pub deeper_of : ℕ → ℕ → Deeper
 deeper_of limit zero = None
 deeper_of limit (suc depth) = Some (levels limit (deeper_of limit depth))
 
--- with so many levels left
+-- with the given number of levels left
 abbrev pub read : ℕ → ℕ → ℕ → Parser Tree
 read limit depth = levels limit (deeper_of limit depth)

@@ -91,7 +91,7 @@ pub record IsTable (table : TableTree) : Type 0 where
   pub some : table.elements ≢ []
   pub each : All HasColumns table.elements
 
--- no such list is empty in a schema, and a semicolon stands after a table
+-- no such list is empty in a schema, and a semicolon comes after a table
 pub record IsSchema (schema : SchemaTree) : Type 0 where
   pub tables : All IsTable schema.tables
   pub ended : schema.tables ≡ [] → schema.ended ≡ false

@@ -21,7 +21,7 @@ pub record KeyTree : Type 0 where
   pub words : KeyWords
   pub columns : List Name
 
--- what stands between the brackets of a table
+-- what is between the brackets of a table
 pub data ElementTree : Type 0 where
   Column : ColumnTree → ElementTree
   Key : KeyTree → ElementTree
@@ -31,7 +31,7 @@ pub record TableTree : Type 0 where
   pub name : Name
   pub elements : List ElementTree
 
--- a schema: its tables, and whether a semicolon stands after the last
+-- a schema: its tables, and whether a semicolon comes after the last
 pub record SchemaTree : Type 0 where
   pub tables : List TableTree
   pub ended : Bool

@@ -86,7 +86,7 @@ fn read_column_rule(alloc: Global, tokens: &[Token]) -> Result<(ColumnRule, &[To
     Ok((ColumnRule { constraint, rule }, rest))
 }
 
-/// Whether a column goes on: no comma or closing bracket stands first.
+/// Whether a column goes on: no comma or closing bracket comes first.
 #[tactic(auto, unfolding(crate::specs::Reading::ends_column))]
 fn ends_column(tokens: &[Token]) -> bool
     ensures { result ≡ ends_column (kinds_of tokens.now) }
@@ -213,7 +213,7 @@ fn read_table(alloc: Global, tokens: &[Token]) -> Result<(WrittenTable, &[Token]
     Ok((WrittenTable { name, elements }, rest))
 }
 
-/// A table's declaration, and whether a semicolon stands after it.
+/// A table's declaration, and whether a semicolon comes after it.
 #[derive(Drop)]
 struct Statement {
     table: WrittenTable,
@@ -246,7 +246,7 @@ fn read_stop(tokens: &[Token]) -> Result<(bool, &[Token]), Refusal>
 #[derive(Drop)]
 pub struct Statements {
     pub tables: Vec<WrittenTable>,
-    /// Whether a semicolon stands after the last.
+    /// Whether a semicolon comes after the last.
     pub ended: bool,
     /// The number of the token after them where no schema goes on.
     pub unexpected: Option<u64>,

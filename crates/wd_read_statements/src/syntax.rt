@@ -2,7 +2,7 @@
 
 use wd_read_cursor::Name;
 
-/// What stands after UNIQUE.
+/// What comes after UNIQUE.
 #[derive(Clone, Copy, PartialEq, Eq)]
 pub enum Nulls {
     /// Nothing, which takes NULLs as distinct.
@@ -51,7 +51,7 @@ pub struct WrittenKey {
     pub columns: Vec<Name>,
 }
 
-/// What stands between the brackets of a table.
+/// What is between the brackets of a table.
 #[derive(Drop)]
 pub enum Element {
     Column(WrittenColumn),

@@ -11,7 +11,7 @@ use Rattle.wd_refute.specs.declared.places.Places.{Places}
 
 -- ---- places of values
 
--- a value stands at a place
+-- a value is at a place
 abbrev pub stands_at : List Value → ℕ → Value → Bool
 stands_at values place value = option_map_or (λ found. same found value) (slice_get values place) false
 
@@ -23,7 +23,7 @@ kept_place places (Text text) = get_by_text places.texts text
 kept_place places (Truth false) = Some 1
 kept_place places (Truth true) = Some 2
 
--- and where the value stands there, this is its place
+-- and where the value is there, this is its place
 abbrev pub place_in : Places → Value → Option ℕ
 place_in places value = option_and_then (λ place. if stands_at places.values.items place value then Some place else None) (kept_place places value)
 

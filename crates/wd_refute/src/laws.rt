@@ -18,7 +18,7 @@ pub fn refuted_has_no_certificate()
     never_both();
 }
 
-/// The text of a true witness is refused for nothing that stands in it.
+/// The text of a true witness is refused for nothing that is in it.
 pub fn shown_is_not_refused()
     ensures { ShownIsNotRefused }
 {
@@ -26,7 +26,7 @@ pub fn shown_is_not_refused()
     is_read_back();
 }
 
-/// A witness that is accepted is refused for nothing that stands in the texts, where these have a meaning: only where memory runs
+/// A witness that is accepted is refused for nothing that is in the texts, where these have a meaning: only where memory runs
 /// out, or a step is too large to be evaluated.
 pub fn refuted_is_taken()
     ensures { RefutedIsTaken }

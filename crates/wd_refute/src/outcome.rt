@@ -43,7 +43,7 @@ impl SortedOutcome {
     }
 
     /// Whether two outcomes agree: the same fault, or rows with each row equally often. Takes no
-    /// memory; the time goes with the number of rows.
+    /// memory; the time is linear in the number of rows.
     pub fn agrees(&self, other: &SortedOutcome) -> bool
         ensures { IsTrue result ↔ Agree self.now other.now }
     {

@@ -64,7 +64,7 @@ impl Places {
         }
     }
 
-    /// Whether a value stands at a place.
+    /// Whether a value is at a place.
     fn stands_at(&self, place: u64, value: &Value) -> bool
         ensures { result ≡ spec.stands_at self.now.values.items place value.now }
     {

@@ -51,7 +51,7 @@ fn plan_text(alloc: Global, examined: &Examined) -> Result<String, OutOfMemory>
     Ok(text)
 }
 
-/// Adds the lines of a plan's nodes, which are numbered from one on; the number behind them. There is a line for each number, so
+/// Adds the lines of a plan's nodes, which are numbered from one on; the number after them. There is a line for each number, so
 /// that no number exceeds the length of the text.
 fn add_plan(
     text: &mut String,

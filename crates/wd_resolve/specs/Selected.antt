@@ -114,6 +114,6 @@ admitted scope part = if list_any (has_table scope) part.scope.tables then Err A
 abbrev pub first_admitted : JoinedTables → Meant FromSoFar
 first_admitted part = admitted (record { tables = []; columns = [] }) part >>= λ p. Ok (record { before = None; current = p })
 
--- a further table beside all that stand before it
+-- a further table beside all that come before it
 abbrev pub next_admitted : FromSoFar → JoinedTables → Meant JoinedTables
 next_admitted from part = admitted (scope_so_far from) part

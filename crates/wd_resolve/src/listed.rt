@@ -7,7 +7,7 @@ ghost use Rattle.wd_resolve_list.specs.Outputs.{expressions_of, output_of};
 
 use wd_resolve_select::{Below, Needs, Output};
 
-/// The outputs of a select list over what stands below its windows, at most 1,024, and what they need of the rows below them; no node
+/// The outputs of a select list over what is below its windows, at most 1,024, and what they need of the rows below them; no node
 /// is too wide for them.
 #[derive(Drop)]
 pub struct Listed {

@@ -27,7 +27,7 @@ pub struct Resolved {
 }
 
 /// The plan of a query under a schema, the names of its outputs, and whether it is ordered. Each name stands for the one column in scope that carries
-/// it. Refused by 401 to 415 just where one of these causes stands in the query. The plan fits the schema.
+/// it. Refused by 401 to 415 just where one of these causes is in the query. The plan fits the schema.
 pub fn resolve(alloc: Global, schema: &Schema, query: &Query) -> Result<Resolved, ResolveError>
     ensures fitting { IfOk result (λ r. fits (schema_of schema.now) (plan_of r.plan) ≡ true) }
     ensures meant { Gives resolved_of result (answer (schema_of schema.now) (view_query query.now)) }

@@ -371,7 +371,7 @@ fn plan_shown(
     Ok(LoweredSelect { plan, columns })
 }
 
-/// A Map of outputs and hidden sort keys, over what stands below them.
+/// A Map of outputs and hidden sort keys, over what is below them.
 fn all_mapped(
     alloc: Global,
     needs: Needs,

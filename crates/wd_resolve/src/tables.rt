@@ -269,7 +269,7 @@ pub fn first_admitted(part: JoinedTables) -> Result<FromSoFar, ResolveError>
     })
 }
 
-/// Whether a further part may stand in FROM: 403 where a name stands there, 415 past 8 tables or 1,024 columns.
+/// Whether a further part may appear in FROM: 403 where a name is there, 415 past 8 tables or 1,024 columns.
 fn admit(from: &FromSoFar, part: &JoinedTables) -> Result<(), ResolveError>
     ensures meant { Gives (λ u. joined_of part.now) result (spec.next_admitted (from_of from.now) (joined_of part.now)) }
     ensures few { IfOk result (λ u. tables_before from.now.before + vec_len from.now.current.scope.tables + vec_len part.now.scope.tables ≤ 8) }

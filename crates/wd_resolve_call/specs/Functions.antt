@@ -53,7 +53,7 @@ default_of kind (typed a other) = Err WrongCall
 
 -- ---- functions over their arguments
 
--- an operand as a value argument, over what may stand in one
+-- an operand as a value argument, over what may appear in one
 abbrev pub argument : {E : Type 0} → (Formula SelectLeaf → Meant E) → Operand SelectLeaf → Meant (ArgumentMeaning E)
 argument over x = over (settled x) >>= λ e. Ok (record { expression = e; kind = kind_of x })
 

@@ -47,12 +47,12 @@ same_leaf (of_row l) (of_row m) = same_row_leaf l m
 same_leaf (call c) (call d) = same_call c d
 same_leaf a b = false
 
--- what may stand below windows: no window call
+-- what may appear below windows: no window call
 abbrev pub below_windows : SelectLeaf → Meant RowLeaf
 below_windows (of_row l) = Ok l
 below_windows (call c) = Err CallNotAllowed
 
--- the expression over the rows below windows, where no window call stands in it
+-- the expression over the rows below windows, where no window call is in it
 abbrev pub over_rows : Formula SelectLeaf → Meant RowFormula
 over_rows f = over_leaves below_windows f
 

@@ -60,7 +60,7 @@ is_descending None = false
 is_descending (Some Ascending) = false
 is_descending (Some Descending) = true
 
--- where NULLs are not placed, they stand last ascending and first descending
+-- where NULLs are not placed, they come last ascending and first descending
 abbrev pub are_nulls_first : Option NullsPlace → Bool → Bool
 are_nulls_first None descending = descending
 are_nulls_first (Some nulls.First) descending = true
@@ -119,7 +119,7 @@ framed_by_mode mode.Rows order frame = Ok frame
 framed_by_mode mode.Range order frame = if (has_offset frame.start || has_offset frame.end) && not (is_one_number order) then Err RangeOffset else Ok frame
 framed_by_mode mode.Groups order frame = if is_empty order then Err GroupsWithoutOrder else Ok frame
 
--- the frame over these sort keys; its bounds have to stand in their order
+-- the frame over these sort keys; its bounds have to be in their order
 abbrev pub frame_over : List KeyMeaning → Frame → Meant Frame
 frame_over order frame = if are_bounds frame.start frame.end then framed_by_mode frame.mode order frame else Err FrameBounds
 

@@ -102,7 +102,7 @@ fn default_of(
     }
 }
 
-/// An operand as a value argument; 406 where a window call stands in it.
+/// An operand as a value argument; 406 where a window call is in it.
 fn argument<E: Argument>(
     alloc: Global,
     operand: &Meaning<SelectLeaf>,

@@ -62,7 +62,7 @@ impl Window {
     }
 }
 
-/// How the values of a sort key are sorted: NULLs stand last ascending and first descending where they are not placed.
+/// How the values of a sort key are sorted: NULLs come last ascending and first descending where they are not placed.
 pub fn sort_key(direction: Option<SortDirection>, nulls: Option<NullsPlace>) -> SortKey
     ensures { result ≡ spec.sort_key direction nulls }
 {

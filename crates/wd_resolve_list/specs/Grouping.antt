@@ -91,7 +91,7 @@ all_grouped scope so_far (a ∷ items) = item_grouped scope so_far a >>= λ next
 abbrev pub grouped_meant : ScopeRule → Parts → Meant (Option GroupedBy)
 grouped_meant scope parts = if is_grouped parts then (all_grouped scope no_groups parts.tail.grouping.items >>= λ g. Ok (Some g)) else Ok None
 
--- the columns that may then stand in it
+-- the columns that may then appear in it
 abbrev pub grouped_rule : GroupedBy → GroupedRule
 grouped_rule g = record { columns = g.columns; other = NotGrouped }
 
@@ -108,7 +108,7 @@ IsNarrow below = is_group_wide below.grouped (having_groups [] below.having) ≡
 abbrev pub narrow_below : Below → Meant Below
 narrow_below below = if is_group_wide below.grouped (having_groups [] below.having) then Err TooMany else Ok below
 
--- what stands below the windows of a select
+-- what is below the windows of a select
 abbrev pub below_meant : ScopeRule → Option GroupedBy → Option Tree → Meant Below
 below_meant scope grouped having = having_meant scope grouped having >>= λ f. narrow_below (record { grouped = grouped; having = f })
 

@@ -1,4 +1,4 @@
--- What the expressions of a select list read of the rows below them, and where it stands above a Window (SQL, query
+-- What the expressions of a select list read of the rows below them, and where it is above a Window (SQL, query
 -- specification; PG, SELECT List).
 use Rattle.std.specs.Prelude.{ℕ, ◌+◌, Bool, true, false, ◌&&◌, ◌||◌, List, [], ◌∷◌, ◌++◌, map, flat_map, length, nat_eq, nat_lt, Option, Some, None, if◌then◌else◌}
 use Rattle.std.specs.List.{list_any, position_or_len}
@@ -106,7 +106,7 @@ pub record GroupedBy : Type 0 where
 abbrev pub grouped_by_of : CodeGroupedBy → GroupedBy
 grouped_by_of g = record { columns = g.columns.items; sets = sets_of g.sets.items }
 
--- what stands below the windows of a select: by what it is grouped, if it is, and the condition of HAVING, where there is one
+-- what is below the windows of a select: by what it is grouped, if it is, and the condition of HAVING, where there is one
 pub record Below : Type 0 where
   pub grouped : Option GroupedBy
   pub having : Option RowFormula
@@ -135,7 +135,7 @@ abbrev pub column_of : RowLeaf → ℕ
 column_of (column n) = n
 column_of (of_group c) = 0
 
--- where a leaf of rows stands: in FROM, or in the Group: among the columns that are grouped by, or, of a call, behind them
+-- where a leaf of rows stands: in FROM, or in the Group: among the columns that are grouped by, or, of a call, after them
 abbrev pub group_place : List ℕ → List GroupCall → RowLeaf → ℕ
 group_place columns calls (column n) = number_in nat_eq columns n
 group_place columns calls (of_group c) = length columns + number_in same_group_call calls c
@@ -144,12 +144,12 @@ abbrev pub row_place : Option GroupedBy → List GroupCall → RowLeaf → ℕ
 row_place None calls leaf = column_of leaf
 row_place (Some g) calls leaf = group_place g.columns calls leaf
 
--- the column of a Window where a leaf stands: among the inputs, or, of a call, behind them
+-- the column of a Window where a leaf stands: among the inputs, or, of a call, after them
 abbrev pub place_above : List RowFormula → List CallMeaning → SelectLeaf → ℕ
 place_above inputs calls (of_row l) = input_number inputs (Leaf l)
 place_above inputs calls (call c) = length inputs + number_in same_call calls c
 
--- where a leaf stands below what a select shows: in the Window, or, where there are no calls, where its rows stand
+-- where a leaf is below what a select shows: in the Window, or, where there are no calls, where its rows stand
 abbrev pub place_in : (RowLeaf → ℕ) → List RowFormula → List CallMeaning → SelectLeaf → ℕ
 place_in place inputs [] (of_row l) = place l
 place_in place inputs [] (call c) = 0
@@ -174,7 +174,7 @@ abbrev pub is_group_wide : Option GroupedBy → List GroupCall → Bool
 is_group_wide None calls = false
 is_group_wide (Some g) calls = nat_lt 1024 (length g.columns + length calls)
 
--- some node above FROM has more than 1,024 columns: the Map of so many expressions, or what stands below it (own)
+-- some node above FROM has more than 1,024 columns: the Map of so many expressions, or what is below it (own)
 abbrev pub is_wide : ℕ → Option GroupedBy → Needs → Bool
 is_wide shown grouped needs = nat_lt 1024 shown || (is_window_wide needs || is_group_wide grouped needs.groups)
 
@@ -183,7 +183,7 @@ abbrev pub having_groups : List GroupCall → Option RowFormula → List GroupCa
 having_groups calls None = calls
 having_groups calls (Some f) = with_new same_group_call calls (group_calls_among (leaves f))
 
--- what HAVING needs, after what is needed: it stands below the windows, so its calls over groups alone
+-- what HAVING needs, after what is needed: it is below the windows, so its calls over groups alone
 abbrev pub with_having : Needs → Option RowFormula → Needs
 with_having needs having = record { calls = needs.calls; inputs = needs.inputs; groups = having_groups needs.groups having }
 

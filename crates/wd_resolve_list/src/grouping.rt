@@ -1,4 +1,4 @@
-//! By what a select is grouped, and what stands below its windows.
+//! By what a select is grouped, and what is below its windows.
 
 ghost use Rattle.std.specs.Prelude.{◌≡◌, ◌*◌, ◌++◌, ◌∷◌, [], map, flat_map, min, nat_eq, nat_lt, option_map, IfOk};
 ghost use Rattle.wd_plan.specs.Plans.{sets_of};
@@ -34,7 +34,7 @@ pub struct GroupedBy {
 }
 
 impl Below {
-    /// The columns that may stand in a grouped select.
+    /// The columns that may appear in a grouped select.
     pub fn groups(&self) -> Option<Grouped<'_>>
         ensures { option_map grouped_of result ≡ option_map spec.grouped_rule (below_of self.now).grouped }
     {
@@ -42,7 +42,7 @@ impl Below {
     }
 }
 
-/// The columns that may stand in a grouped select.
+/// The columns that may appear in a grouped select.
 fn rule_of(grouped: &Option<GroupedBy>) -> Option<Grouped<'_>>
     ensures { option_map grouped_of result ≡ option_map spec.grouped_rule (option_map grouped_by_of grouped.now) }
 {
@@ -330,7 +330,7 @@ fn all_grouped(alloc: Global, scope: &Scope, items: &[GroupItem]) -> Result<Grou
     Ok(grouped)
 }
 
-/// What stands below the windows of a select: 415 where HAVING makes a node too wide.
+/// What is below the windows of a select: 415 where HAVING makes a node too wide.
 pub fn below_meant(
     alloc: Global,
     scope: &Scope,

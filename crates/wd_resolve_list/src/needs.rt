@@ -1,4 +1,4 @@
-//! What the expressions of a select list need of the rows below them, and where their leaves stand there.
+//! What the expressions of a select list need of the rows below them, and where their leaves are there.
 //!
 //! `Needs` is passed by value and given back, so that a refusal drops it.
 
@@ -112,7 +112,7 @@ impl Needs {
         !self.calls.is_empty() && are_too_many(self.inputs.len(), self.calls.len())
     }
 
-    /// Whether some node has more than 1,024 columns: the Map of so many expressions, or what stands below it.
+    /// Whether some node has more than 1,024 columns: the Map of so many expressions, or what is below it.
     pub fn is_wide(&self, shown: usize, below: &Below) -> bool
         ensures { result ≡ spec.is_wide shown (below_of below.now).grouped (needs_shown self.now) }
     {
@@ -136,7 +136,7 @@ impl Needs {
         Ok(is_group_wide(&below.grouped, &groups))
     }
 
-    /// What is needed with the calls over groups of HAVING, which stands below the windows.
+    /// What is needed with the calls over groups of HAVING, which is below the windows.
     pub fn add_having(mut self, having: &Option<Formula<RowLeaf>>) -> Result<Needs, OutOfMemory>
         ensures { IfOk result (λ needs. needs_shown needs ≡ spec.with_having (needs_shown self) (option_map row_formula_of having.now)) }
     {
@@ -157,7 +157,7 @@ impl Needs {
         }
     }
 
-    /// The column where a leaf stands below what is shown.
+    /// The column where a leaf is below what is shown.
     pub fn place(&self, below: &Below, leaf: &SelectLeaf) -> u16
         requires few_inputs { is_window_wide (needs_shown self.now) ≡ false }
         requires few_groups { spec.is_group_wide (below_of below.now).grouped (needs_shown self.now).groups ≡ false }

@@ -105,7 +105,7 @@ over_leaves leaf (IsNull a) = over_leaves leaf a >>= λ x. Ok (IsNull x)
 over_leaves leaf (IsNotNull a) = over_leaves leaf a >>= λ x. Ok (IsNotNull x)
 over_leaves leaf (Case branch a b c) = over_leaves leaf a >>= λ x. over_leaves leaf b >>= λ y. over_leaves leaf c >>= λ z. Ok (Case branch x y z)
 
--- the expression over the columns at which its leaves stand, where they stand at some; the first that stands at none decides
+-- the expression over the columns at which its leaves stand, where they are at some; the first that is at none decides
 abbrev pub over_columns : {K : Type 0} → (K → Meant ℕ) → Formula K → Meant Expression
 over_columns at f = over_leaves at f >>= λ g. Ok (seated (λ n. n) g)
 

@@ -166,7 +166,7 @@ abbrev pub arms_over : {L : Type 0} → Branch → ValueKind → List (Operand L
 arms_over branch kind [] rest = rest
 arms_over branch kind (arm ∷ arms) rest = arm_over branch kind arm (arms_over Later kind arms rest)
 
--- the branch that stands after these
+-- the branch that comes after these
 abbrev pub branch_after : {L : Type 0} → Branch → List (Operand L × Operand L) → Branch
 branch_after branch [] = branch
 branch_after branch (arm ∷ arms) = Later

@@ -57,7 +57,7 @@ pub enum Cause {
     /// 415: more than 1,024 columns at a node, or more than 8 tables in one FROM.
     #[error("more than 1,024 columns at a node, or more than 8 tables in one FROM")]
     TooMany,
-    /// 416: an aggregate or GROUPING where none may stand, or within an aggregate.
+    /// 416: an aggregate or GROUPING where none may appear, or within an aggregate.
     #[error("an aggregate or GROUPING where none may stand, or within an aggregate")]
     GroupCallNotAllowed,
     /// 417: in a grouped query, a column that is not grouped by, outside an aggregate.

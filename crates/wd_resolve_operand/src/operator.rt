@@ -159,7 +159,7 @@ fn case_kind<L: Leaf>(arms: &[CaseArm<L>], other: &Meaning<L>) -> ValueKind
     other.kind()
 }
 
-/// Which branch of its CASE stands after these.
+/// Which branch of its CASE comes after these.
 fn branch_after<L: Leaf>(arms: &[CaseArm<L>]) -> Branch
     ensures { result ≡ spec.branch_after Branch.First (map (spec.arm_of L.shown) arms.now) }
 {

@@ -1,4 +1,4 @@
-//! The walk over an expression that makes a tree of it. What is still to be done stands on the heap, and takes nothing of the stack
+//! The walk over an expression that makes a tree of it. What is still to be done is on the heap, and takes nothing of the stack
 //! however deep the expression is.
 
 ghost use Rattle.std.specs.Prelude.{◌<◌, IfOk};

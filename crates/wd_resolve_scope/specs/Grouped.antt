@@ -1,4 +1,4 @@
--- When a select is grouped, and the columns that may then stand in it (SQL, table expression, group by clause; PG, SELECT: GROUP BY
+-- When a select is grouped, and the columns that may then appear in it (SQL, table expression, group by clause; PG, SELECT: GROUP BY
 -- Clause).
 use Rattle.std.specs.Prelude.{ℕ, Bool, true, false, ◌||◌, List, [], ◌∷◌, Option, Some, None, is_some, Ok, Err, ⊤, if◌then◌else◌}
 use Rattle.std.specs.List.{list_any}
@@ -23,7 +23,7 @@ is_group_call f no_over = is_some (group_function_named f.text)
 is_group_call f over = false
 
 abbrev mutual
-  -- an aggregate or GROUPING stands in it
+  -- an aggregate or GROUPING is in it
   pub has_group_call : Tree → Bool
   has_group_call (Constant x) = false
   has_group_call (Column name) = false
@@ -77,9 +77,9 @@ is_grouped parts =
     (is_written parts.tail.grouping.items || is_some parts.tail.grouping.having)
     || (list_any item_has parts.items || (list_any (λ w. window_has w.1) parts.tail.windows || keys_have parts.tail.order))
 
--- ---- the columns that may stand in it
+-- ---- the columns that may appear in it
 
--- the columns that are grouped by, by their numbers in FROM, and why no other may stand there
+-- the columns that are grouped by, by their numbers in FROM, and why no other may appear there
 pub record GroupedRule : Type 0 where
   pub columns : List ℕ
   pub other : Cause

@@ -7,7 +7,7 @@ use Rattle.wd_resolve_scope.specs.Resolving.{ContextRule, resolved, window_resol
 use Rattle.wd_resolve_call.specs.Windows.{WindowMeaning}
 use Rattle.wd_resolve_scope.specs.Typed.{AreKnown, IsOperand, IsWindow, readable}
 
--- What an expression means is typed, over the columns that may stand there and calls over those in scope.
+-- What an expression means is typed, over the columns that may appear there and calls over those in scope.
 abbrev pub MeaningsAreTyped : Type 0
 MeaningsAreTyped = (c : ContextRule) (a : Tree) (x : Operand SelectLeaf) → AreKnown (readable c.scope c.groups) c.windows → resolved c a ≡ Ok x → IsOperand (readable c.scope c.groups) x
 

@@ -24,7 +24,7 @@ abbrev pub chain_meant : ContextRule → List (Operator × Tree) → Operand Sel
 chain_meant c [] x = Ok x
 chain_meant c (link ∷ links) x = link_meant c link x >>= λ y. chain_meant c links y
 
--- the window of a call, where one may stand
+-- the window of a call, where one may appear
 abbrev pub over_meant : ContextRule → OverTree → Meant WindowMeaning
 over_meant c no_over = Err WrongCall
 over_meant c (over_name name) = window_named c.windows name.text

@@ -43,7 +43,7 @@ context_of c = record { scope = scope_of c.scope.now; groups = option_map groupe
 abbrev pub moved_to : Place → ContextRule → ContextRule
 moved_to place c = record { scope = c.scope; groups = c.groups; windows = c.windows; place = place }
 
--- an aggregate's arguments are read over all columns, and no windows stand there, and GROUPING's have a refusal of their own for columns that are not grouped by;
+-- an aggregate's arguments are read over all columns, and no windows are there, and GROUPING's have a refusal of their own for columns that are not grouped by;
 -- those of another call without OVER stand where it stands
 abbrev pub without_over : Option GroupFunction → ContextRule → ContextRule
 without_over None c = c
@@ -61,11 +61,11 @@ abbrev pub written_number : Tree → Option ℕ
 written_number (Constant (l.Number n)) = Some n
 written_number a = None
 
--- aggregates and GROUPING stand in grouped selects, in places that allow them
+-- aggregates and GROUPING are in grouped selects, in places that allow them
 abbrev pub may_group : ContextRule → Bool
 may_group c = is_some c.groups && allows_group_calls c.place
 
--- a call without OVER: an aggregate or GROUPING over its arguments, where one may stand
+-- a call without OVER: an aggregate or GROUPING over its arguments, where one may appear
 abbrev pub group_called : ContextRule → Option GroupFunction → Option (List (Operand SelectLeaf)) → Meant (Operand SelectLeaf)
 group_called c None arguments = Err WrongCall
 group_called c (Some function) arguments = if may_group c then (grouped_over function arguments >>= λ g. Ok (typed (Leaf (of_row (of_group g))) (kind_of_group_call g))) else Err GroupCallNotAllowed
@@ -95,7 +95,7 @@ all_settled (x ∷ xs) = do
   es ← all_settled xs
   Ok (e ∷ es)
 
--- what stands in OVER, where window calls may stand
+-- what is in OVER, where window calls may appear
 abbrev pub where_allowed : ContextRule → Meant WindowMeaning → Meant WindowMeaning
 where_allowed c w = if allows_window_calls c.place then w else Err CallNotAllowed
 
@@ -153,7 +153,7 @@ abbrev mutual
     ks ← keys_resolved c keys
     Ok (k ∷ ks)
 
-  -- a call after its arguments: what stands in OVER, and then itself; OVER is looked at only where window calls may stand
+  -- a call after its arguments: what is in OVER, and then itself; OVER is looked at only where window calls may appear
   pub call_over : ContextRule → Name → Option (List (Operand SelectLeaf)) → OverTree → Meant (Operand SelectLeaf)
   call_over c f xs no_over = group_called c (group_function_named f.text) xs
   call_over c f xs (over_name name) = where_allowed c (window_named c.windows name.text) >>= λ w. called f xs w

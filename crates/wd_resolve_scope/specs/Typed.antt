@@ -30,11 +30,11 @@ pub record IsOfKind (kinds : Kinds) (e : Expression) (kind : ValueKind) : Type 0
 
 -- ---- what may be read
 
--- the columns of FROM: their kinds, and which of them may stand outside the argument of an aggregate
+-- the columns of FROM: their kinds, and which of them may appear outside the argument of an aggregate
 pub record Readable : Type 0 where
   pub kinds : Kinds
   pub allows : ℕ → Bool
-  -- calls over groups may stand there
+  -- calls over groups may appear there
   pub grouped : Bool
 
 -- where rows are grouped, those that are grouped by

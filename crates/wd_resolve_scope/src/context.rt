@@ -25,7 +25,7 @@ pub enum Place {
 }
 
 impl Place {
-    /// Whether window calls may stand there.
+    /// Whether window calls may appear there.
     pub fn allows_window_calls(self) -> bool
         ensures { result ≡ spec.allows_window_calls self }
     {
@@ -41,7 +41,7 @@ impl Place {
         }
     }
 
-    /// Whether aggregates and GROUPING may stand there.
+    /// Whether aggregates and GROUPING may appear there.
     pub(crate) fn allows_group_calls(self) -> bool
         ensures { result ≡ spec.allows_group_calls self }
     {
@@ -63,7 +63,7 @@ impl Place {
     }
 }
 
-/// The columns that a select is grouped by, and why no other may stand there.
+/// The columns that a select is grouped by, and why no other may appear there.
 #[derive(Clone, Copy)]
 pub struct Grouped<'a> {
     pub columns: &'a [u16],

@@ -47,7 +47,7 @@ impl Context<'_> {
         }
     }
 
-    /// Whether aggregates and GROUPING may stand there: in a grouped select, and in a place that allows them.
+    /// Whether aggregates and GROUPING may appear there: in a grouped select, and in a place that allows them.
     fn may_group(&self) -> bool
         ensures { result ≡ spec.may_group (context_of self.now) }
     {
@@ -186,7 +186,7 @@ pub fn written_number(tree: &written::Expr) -> Option<u64>
     }
 }
 
-/// A call after its arguments: what stands in OVER, and then itself.
+/// A call after its arguments: what is in OVER, and then itself.
 #[tactic(auto, using(crate::proofs::OverCalls::over_called))]
 #[cycle(resolve)]
 fn call_over(
@@ -208,7 +208,7 @@ fn call_over(
     called(alloc, name, arguments, window)
 }
 
-/// A call without OVER, after its arguments: 405 where it is neither an aggregate nor GROUPING, and 416 where none may stand, as in a
+/// A call without OVER, after its arguments: 405 where it is neither an aggregate nor GROUPING, and 416 where none may appear, as in a
 /// select that is not grouped.
 fn group_called(
     alloc: Global,
@@ -390,7 +390,7 @@ fn order_key(
     })
 }
 
-/// The window of a call, where one may stand.
+/// The window of a call, where one may appear.
 #[cycle(resolve)]
 fn over_meant(alloc: Global, context: &Context<'_>, over: &Over) -> Result<Window, ResolveError>
     ensures { Gives window_of result (parts.over_meant (context_of context.now) (view_over over.now)) }
@@ -424,7 +424,7 @@ fn window_resolved(
     window_meant(alloc, base, partition, order, *frame)
 }
 
-/// The expressions in places that ask for no kind; 406 where a window call stands in one.
+/// The expressions in places that ask for no kind; 406 where a window call is in one.
 fn all_settled(
     alloc: Global,
     operands: &[Meaning<SelectLeaf>],

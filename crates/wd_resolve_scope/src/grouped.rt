@@ -10,7 +10,7 @@ use wd_resolve_call::group_function_named;
 use wd_syntax as written;
 use wd_syntax::{Arm, Item, Link, Name, NamedWindow, Over, Select, SortKey};
 
-/// Whether an aggregate or GROUPING stands in it.
+/// Whether an aggregate or GROUPING is in it.
 #[tactic(auto, using(crate::proofs::GroupCalls::call_has, crate::proofs::GroupCalls::case_has, crate::proofs::GroupCalls::chain_ends_have, crate::proofs::GroupCalls::tests_have))]
 #[cycle(has)]
 fn has_group_call(tree: &written::Expr) -> bool

@@ -32,7 +32,7 @@ use Rattle.wd_resolve_list.specs.Grouping.{below_of}
 use Rattle.wd_resolve_list.specs.Listing.{Below, all_needs, are_wide, needs_shown}
 use Rattle.wd_resolve_list.specs.Outputs.{OutputMeaning, expressions_of, output_of}
 
--- what a select has before its ORDER BY: the columns of FROM, those that may stand in it, what stands below its windows, whether it
+-- what a select has before its ORDER BY: the columns of FROM, those that may appear in it, what is below its windows, whether it
 -- is DISTINCT, and its outputs
 pub record Shown : Type 0 where
   pub scope : ScopeRule
@@ -68,7 +68,7 @@ output_or f (Some number) = output number
 abbrev pub sorted_place : Formula SelectLeaf → List OutputMeaning → KeyPlace
 sorted_place f outputs = output_or f (position (shows f) outputs)
 
--- the expression of a key over what may stand in it
+-- the expression of a key over what may appear in it
 abbrev pub expression_place : Shown → Tree → Meant KeyPlace
 expression_place s a = plain place.SortKey s.groups s.scope a >>= λ x. Ok (sorted_place (settled x) s.outputs)
 
@@ -96,7 +96,7 @@ named_place s name a = first_named name.text s.outputs >>= λ number. or_express
 abbrev pub ordinal : List OutputMeaning → ℕ → Meant KeyPlace
 ordinal outputs n = if nat_le 1 n && nat_le n (length outputs) then Ok (output (n - 1)) else Err WrongSortKey
 
--- a bare number is an ordinal, and no other bare literal may stand here (own)
+-- a bare number is an ordinal, and no other bare literal may appear here (own)
 abbrev pub literal_place : List OutputMeaning → Literal → Meant KeyPlace
 literal_place outputs (l.Number n) = number n >>= λ m. ordinal outputs m
 literal_place outputs literal = Err WrongSortKey
@@ -134,7 +134,7 @@ unsorted = record { items = []; hidden = [] }
 abbrev pub with_item : ℕ → SortKey → Sorted → Sorted
 with_item number key so_far = record { items = so_far.items ++ record { column = number; key = key } ∷ []; hidden = so_far.hidden }
 
--- a further key by a new hidden column, behind the outputs and the hidden columns before it
+-- a further key by a new hidden column, after the outputs and the hidden columns before it
 abbrev pub with_column : Shown → Formula SelectLeaf → SortKey → Sorted → Sorted
 with_column s f key so_far = record {
   items = so_far.items ++ record { column = length s.outputs + length so_far.hidden; key = key } ∷ [];

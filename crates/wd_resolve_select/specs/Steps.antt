@@ -84,7 +84,7 @@ abbrev pub filtered : ScopeRule → Option Tree → PlanTree → Meant PlanTree
 filtered scope None plan = Ok plan
 filtered scope (Some a) plan = condition place.Where scope a >>= λ e. Ok (Filter e plan)
 
--- a call over groups, over the columns that are grouped by and the arguments behind them
+-- a call over groups, over the columns that are grouped by and the arguments after them
 abbrev pub group_call_over : List ℕ → List Expression → GroupCall → GroupCallRule
 group_call_over columns inputs (of_rows a) = OfRows (aggregate_over (number_in same_expression inputs) a)
 group_call_over columns inputs (grouping cs) = Grouping (map (number_in nat_eq columns) cs)
@@ -123,7 +123,7 @@ windowed place inputs (call ∷ calls) plan = window_on place inputs (call ∷ c
 abbrev pub mapped_over : (RowLeaf → ℕ) → Needs → List (Formula SelectLeaf) → PlanTree → PlanTree
 mapped_over place needs formulas plan = Map (map (over place needs) formulas) (windowed place needs.inputs needs.calls plan)
 
--- a Map of outputs and hidden sort keys, over what stands below it
+-- a Map of outputs and hidden sort keys, over what is below it
 abbrev pub mapped : Below → (outputs hidden : List (Formula SelectLeaf)) → PlanTree → PlanTree
 mapped below outputs hidden plan =
     let needs = all_needs below outputs hidden in

@@ -7,7 +7,7 @@ use wd_resolve_operand::Formula;
 use wd_resolve_scope::{Grouped, Scope, SelectLeaf};
 use wd_value::SortColumn;
 
-/// What a select has before its ORDER BY: the columns of FROM, those that may stand in it, what stands below its windows, whether it is
+/// What a select has before its ORDER BY: the columns of FROM, those that may appear in it, what is below its windows, whether it is
 /// DISTINCT, and its outputs, at most 1,024.
 #[derive(Clone, Copy)]
 pub struct Shown<'a> {

@@ -115,7 +115,7 @@ fn ordinal(outputs: &[Output], n: u64) -> Result<KeyPlace, ResolveError>
     }
 }
 
-/// A bare number is an ordinal, and no other bare literal may stand here.
+/// A bare number is an ordinal, and no other bare literal may appear here.
 fn literal_place(outputs: &[Output], literal: &Literal) -> Result<KeyPlace, ResolveError>
     requires { length outputs.now ≤ 1024 }
     ensures { Gives place_shown result (spec.literal_place (map output_of outputs.now) literal.now) }

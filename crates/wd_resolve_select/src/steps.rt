@@ -396,7 +396,7 @@ fn column_numbers(
     Ok(numbers)
 }
 
-/// A call over groups, over the columns that are grouped by and the arguments behind them.
+/// A call over groups, over the columns that are grouped by and the arguments after them.
 fn group_call_over(
     alloc: Global,
     columns: &[u16],
@@ -490,7 +490,7 @@ fn grouped_on(alloc: Global, needs: &Needs, below: &Below, plan: Plan) -> Result
     having_on(alloc, needs, below, plan)
 }
 
-/// A Map of the expressions, over what stands below them.
+/// A Map of the expressions, over what is below them.
 pub fn mapped(
     alloc: Global,
     needs: Needs,

@@ -15,7 +15,7 @@ struct Layout {
     line_start: usize,
 }
 
-/// The text of tokens that stood in a source: what stands before its first token, and then the tokens. One that stood further down or
+/// The text of tokens that stood in a source: what comes before its first token, and then the tokens. One that stood further down or
 /// further to the right than the text has come stands just there; another one after one blank. At the end as many lines are begun as
 /// the source has.
 pub(crate) fn laid_out(

@@ -164,7 +164,7 @@ fn lock_file<S: Sources, W: Watch>(
     write_lock(run, path, lock_path.as_str(), &lock, report)
 }
 
-/// Writes a lock, and tells how many certificates it has. One without any is not written, and one that stands there goes.
+/// Writes a lock, and tells how many certificates it has. One without any is not written, and one that is there goes.
 fn write_lock<S: Sources>(
     run: &mut Run<'_, S>,
     query: &str,

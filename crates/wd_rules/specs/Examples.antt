@@ -40,7 +40,7 @@ trace from uses = record { from = from; uses = uses }
 abbrev pub keeps : List Target → TraceRecord → NodeRecord
 keeps to t = record { calls = []; keep = record { to = to; trace = 0 } ∷ []; limit = None; traces = t ∷ [] }
 
--- these columns give the row, by these facts
+-- these columns determine the row, by these facts
 abbrev pub keeps_row : List ℕ → List ℕ → NodeRecord
 keeps_row from uses = keeps (target.Row ∷ []) (trace from uses)
 
@@ -100,7 +100,7 @@ exchanged_twice = nothing ∷ nothing ∷ rules (Exchange 0 ∷ Exchange 0 ∷ [
 abbrev pub not_null_u : PlanTree
 not_null_u = select (0 ∷ 2 ∷ []) (window (over [] (ascending 1 ∷ []) ∷ []) (call 0 row_number ∷ []) (select (0 ∷ 3 ∷ []) (Filter (IsNotNull (Column 3)) scan_t)))
 
--- the Filter's only fact is that u gives the row
+-- the Filter's only fact is that u determines the row
 abbrev pub by_u : List NodeRecord
 by_u = nothing ∷ keeps_row (3 ∷ []) (0 ∷ []) ∷ keeps_row (1 ∷ []) (4 ∷ 0 ∷ []) ∷ rules (Unique 0 ∷ []) (trace (1 ∷ []) (0 ∷ []) ∷ []) ∷ nothing ∷ []
 
@@ -143,7 +143,7 @@ first_of_v offset ties = limited (ascending 1 ∷ []) offset (Some 1) ties (sele
 abbrev pub first_id : PlanTree
 first_id = limited (ascending 0 ∷ []) 0 (Some 1) false (select (0 ∷ 2 ∷ []) scan_t)
 
--- the Map keeps that output 0 gives the row, and the Limit uses it
+-- the Map keeps that output 0 determines the row, and the Limit uses it
 abbrev pub keyed : List NodeRecord
 keyed = of_table ∷ keeps_row (0 ∷ []) (2 ∷ 0 ∷ []) ∷ by_keys (Some 0) (trace (0 ∷ []) (0 ∷ []) ∷ []) ∷ []
 
@@ -198,7 +198,7 @@ pub record CertificatesComeOut : Type 0 where
   -- a class whose columns are all columns exchanges whole rows
   pub exchange : IsValidCertificate schema v_by_v (version_1 exchanged)
   pub second_exchange : first_refusal schema two_classes (version_1 exchanged_twice) ≡ Some (refused.SecondExchange 2)
-  -- a nullable key gives the row where it is not null
+  -- a nullable key determines the row where it is not null
   pub full_key : IsValidCertificate schema not_null_u (version_1 by_u)
   pub nullable_key : first_refusal schema not_null_u (version_1 (keeps_row (3 ∷ []) (1 ∷ []) ∷ nothing ∷ nothing ∷ rules (Peers ∷ []) [] ∷ nothing ∷ [])) ≡ Some (refused.OutOfRange 0)
   -- a total over a stable frame goes by peers, a running one over rows doesn't
@@ -206,7 +206,7 @@ pub record CertificatesComeOut : Type 0 where
   pub running_frame : first_refusal schema running (version_1 peers) ≡ Some (refused.UnjustifiedCall 2)
   -- FIRST_VALUE of a column of its class
   pub values : IsValidCertificate schema first_v (version_1 valued)
-  -- both sides of a Join give its row, one doesn't
+  -- both sides of a Join determine its row, one doesn't
   pub join_fits : fits schema joined ≡ true
   pub both_sides : IsValidCertificate schema joined (version_1 (joined_by (0 ∷ 1 ∷ [])))
   pub one_side : first_refusal schema joined (version_1 (joined_by (0 ∷ []))) ≡ Some (refused.UnreachedClaim 2)
@@ -216,7 +216,7 @@ pub record CertificatesComeOut : Type 0 where
   pub ties_behind_an_offset : first_refusal schema (first_of_v 1 true) (version_1 bare) ≡ Some (refused.UnjustifiedLimit 2)
   pub keys : IsValidCertificate schema first_id (version_1 keyed)
   pub other_keys : first_refusal schema (first_of_v 0 false) (version_1 keyed) ≡ Some (refused.UnjustifiedLimit 2)
-  -- the facts of a Map of one column: the input's key gives the row, the input gives the output, and the output the input
+  -- the facts of a Map of one column: the input's key determines the row, the input determines the output, and the output the input
   pub map_facts : (given_at schema (select (0 ∷ []) scan_t) 0 (with_uses [])).list
       ≡ record { from = member.Column 1 ∷ []; to = member.Row ∷ [] }
       ∷ record { from = member.Column 1 ∷ []; to = member.Column 0 ∷ [] }

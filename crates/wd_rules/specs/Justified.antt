@@ -54,7 +54,7 @@ pub record Gives (facts : FactList) (traces : List TraceRecord) (among : ℕ →
 
 -- ---- kept facts
 
--- of an output with so many columns: each target is one of these or the row, and its trace gives it from among these
+-- of an output with so many columns: each target is one of these or the row, and its trace determines it from among these
 pub record IsKept (facts : FactList) (columns : ℕ) (traces : List TraceRecord) (kept : KeptRecord) : Type 0 where
   pub targets : list_all (is_target columns) kept.to ≡ true
   pub reached : Gives facts traces (λ c. nat_lt c columns) (map member_of kept.to) kept.trace
@@ -79,7 +79,7 @@ HasOneExchange calls rules = (i j : ℕ) (call other : Call) (m n : ℕ)
     → slice_get calls i ≡ Some call → slice_get rules i ≡ Some (rule.Exchange m) → slice_get calls j ≡ Some other → slice_get rules j ≡ Some (rule.Exchange n)
     → call.class ≡ other.class
 
--- a limit without a trace takes all rows, or ties, and has no offset; the trace that is named for it gives every column from the
+-- a limit without a trace takes all rows, or ties, and has no offset; the trace that is named for it determines every column from the
 -- sort keys
 abbrev pub IsJustifiedLimit : FactList → ℕ → List TraceRecord → LimitRule → Option ℕ → Type 0
 IsJustifiedLimit facts columns traces limit None = is_whole_or_ties limit ≡ true

@@ -39,7 +39,7 @@ abbrev pub goes_by_keys : List NodeRecord → Option ℕ → Bool
 goes_by_keys nodes None = false
 goes_by_keys nodes (Some n) = is_some (entry_at nodes n).limit
 
--- the sort keys of that Limit give every column of the rows that it reads
+-- the sort keys of that Limit determine every column of the rows that it reads
 abbrev pub IsListedPlan : PlanTree → Instance → List (List ℕ) → Type 0
 IsListedPlan (Scan table columns) instance choice = ⊥
 IsListedPlan (Join condition left right) instance choice = ⊥
@@ -50,7 +50,7 @@ IsListedPlan (Distinct input) instance choice = ⊥
 IsListedPlan (Group g input) instance choice = ⊥
 IsListedPlan (Limit limit input) instance choice = AtRows (outcome input instance choice) (λ rows. (width : ℕ) × HasWidth width rows × DeterminesAll rows width (order_columns (limit_class limit))) ⊤
 
--- The list law: a plan that is settled under one valid choice, and whose last Limit is ordered by keys that give every column, has
+-- The list law: a plan that is settled under one valid choice, and whose last Limit is ordered by keys that determine every column, has
 -- outcomes that agree as lists under every valid choice, over the same tables in any row order, faults included.
 abbrev pub PlanHasOneList : Type 0
 PlanHasOneList = (plan : PlanTree) (instance other : Instance) (c1 c2 : List (List ℕ))

@@ -56,7 +56,7 @@ abbrev pub trace_or : Option TraceRecord → TraceRecord
 trace_or None = no_trace
 trace_or (Some trace) = trace
 
--- what an entry keeps: the trace's columns give the targets
+-- what an entry keeps: the trace's columns determine the targets
 abbrev pub kept_fact : List TraceRecord → KeptRecord → Fact
 kept_fact traces kept = record { from = columns_named (trace_or (slice_get traces kept.trace)).from; to = map member_of kept.to }
 
@@ -81,7 +81,7 @@ keep_refusal node facts columns shown keep = first_of (λ (kept : KeptRecord). k
 
 -- ---- calls and limits
 
--- a trace shows that columns give members: it starts from among the columns, and reaches each member
+-- a trace shows that columns determine members: it starts from among the columns, and reaches each member
 abbrev pub shows : FactList → (ℕ → Bool) → List Member → Traced → Bool
 shows facts among members trace = list_all among trace.from && reaches_each facts trace.has members
 
@@ -154,7 +154,7 @@ window_refusal node facts columns shown w rules =
 abbrev pub is_whole_or_ties : LimitRule → Bool
 is_whole_or_ties limit = nat_eq limit.offset 0 && (not (is_some limit.count) || limit.ties)
 
--- a limit; with a trace, its sort keys give every column
+-- a limit; with a trace, its sort keys determine every column
 abbrev pub limit_refusal : ℕ → FactList → ℕ → List Traced → LimitRule → Option ℕ → Option CertError
 limit_refusal node facts columns shown limit None = refuse_unless (is_whole_or_ties limit) (UnjustifiedLimit node)
 limit_refusal node facts columns shown limit (Some n) =

@@ -22,7 +22,7 @@ no_entry = record { calls = []; keep = []; limit = None; traces = [] }
 abbrev pub entry_at : List NodeRecord → ℕ → NodeRecord
 entry_at nodes n = slice_index_or nodes n no_entry
 
--- the number of a plan's top node, which stands behind all others of the plan
+-- the number of a plan's top node, which comes after all others of the plan
 abbrev pub top_number : PlanTree → ℕ → ℕ
 top_number (Scan table columns) first = first
 top_number (Join condition left right) first = (first + node_count left) + node_count right
@@ -49,7 +49,7 @@ all_entries test (Window w input) first nodes = let plan = Window w input in all
 all_entries test (Distinct input) first nodes = let plan = Distinct input in all_entries test input first nodes && test plan (top_at plan first nodes)
 all_entries test (Limit limit input) first nodes = let plan = Limit limit input in all_entries test input first nodes && test plan (top_at plan first nodes)
 
--- a limit stands at a Limit alone
+-- a limit is at a Limit alone
 abbrev pub has_its_limit : PlanTree → NodeRecord → Bool
 has_its_limit (Scan table columns) entry = not (is_some entry.limit)
 has_its_limit (Join condition left right) entry = not (is_some entry.limit)

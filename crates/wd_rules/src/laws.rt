@@ -36,7 +36,7 @@ pub fn groups_are_certified()
     ensures { GroupsAreCertified }
 {}
 
-/// A settled plan whose last Limit is ordered by keys that give every column has outcomes that agree as lists, under any valid
+/// A settled plan whose last Limit is ordered by keys that determine every column has outcomes that agree as lists, under any valid
 /// choices, over the same tables in any row order.
 pub fn plan_has_one_list()
     ensures { PlanHasOneList }

@@ -1,4 +1,4 @@
--- The numbers and the places of refusals, what they are about, and what stands in the inputs where they are answered.
+-- The numbers and the places of refusals, what they are about, and what is in the inputs where they are answered.
 use Rattle.std.specs.Prelude.{◌≡◌, ◌≢◌, ◌⊎◌, ℕ, ⊤, List, ◌∷◌, ◌++◌, Option, Some, None, All, Any}
 use Rattle.wd_schema.specs.Tables.{TableRule}
 use Rattle.wd_query.specs.Causes.{HasTextCause, text_number, text_place}
@@ -45,7 +45,7 @@ ComesFrom (run.Evaluation error) origin.Run = ⊤
 ComesFrom run.OutOfMemory origin.Run = ⊤
 ComesFrom error other = ⊥
 
--- ---- what stands in the inputs
+-- ---- what is in the inputs
 
 -- data is given under the name, and no table has it
 pub record IsNoTable (tables : List TableRule) (given : List (List ℕ × List ℕ)) (name : List ℕ) : Type 0 where
@@ -85,7 +85,7 @@ pub record HasStepCause (tables : List TableRule) (given : List (List ℕ × Lis
   pub data_holds : HoldsData tables given instance
   pub cause : IsRunRefused plan instance error
 
--- a refusal's cause stands in the inputs; where memory runs out none need
+-- a refusal's cause is in the inputs; where memory runs out none need
 abbrev pub HasCause : List ℕ → List ℕ → List (List ℕ × List ℕ) → RunError → Type 0
 HasCause schema query given (run.Texts error) = HasTextCause schema query error
 HasCause schema query given (run.Given name) = ForReading schema query (λ tables plan. HasNameCause tables given plan name)

@@ -27,7 +27,7 @@ abbrev pub step_of : Row → Step → Result Value Fault
 step_of row (step.Made r) = r
 step_of row (step.Into outer part) = resumed row outer (value_of (expression_of part.now) row)
 
--- how many steps are left behind an operand, and behind a step
+-- how many steps are left after an operand, and after a step
 abbrev pub waiting_steps : Waiting → ℕ
 waiting_steps (waiting.First e) = rest_steps (expression_of e.now)
 waiting_steps (waiting.Right e left) = 1

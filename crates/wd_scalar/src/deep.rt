@@ -1,4 +1,4 @@
-//! Expressions that lie deep, evaluated by a loop: what waits for the value of an operand stands on the heap, and takes nothing of
+//! Expressions that lie deep, evaluated by a loop: what waits for the value of an operand is on the heap, and takes nothing of
 //! the stack however deep the expression is.
 
 ghost use Rattle.std.specs.Prelude.{◌≡◌, ◌<◌, IfOk, Ok};

@@ -144,7 +144,7 @@ fn applied_to(
     }
 }
 
-/// Whether some operation on whole numbers stands in the expression. Without one it has no fault. The left operand comes last: a
+/// Whether some operation on whole numbers is in the expression. Without one it has no fault. The left operand comes last: a
 /// compiler makes a loop of that call.
 pub fn has_arithmetic(expression: &Expr) -> bool
     ensures { result ≡ faults.has_arithmetic (expression_of expression.now) }

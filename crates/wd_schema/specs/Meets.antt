@@ -37,8 +37,8 @@ fits_columns [] [] = true
 fits_columns (column ∷ columns) (v ∷ values) = may_hold column v && fits_columns columns values
 fits_columns columns values = false
 
--- two rows may not both stand in a table with this key: they are the same on its columns,
--- and no NULL stands there where NULLs are distinct
+-- two rows may not both be in a table with this key: they are the same on its columns,
+-- and no NULL is there where NULLs are distinct
 abbrev pub violates : KeyRule → Row → Row → Bool
 violates key a b = same_row (columns_of key.columns a) (columns_of key.columns b) && not (key.nulls_distinct && list_any is_null (columns_of key.columns a))
 

@@ -37,7 +37,7 @@ pub record Stops (text : List ℕ) (place : ℕ) : Type 0 where
   pub lexed : IsLexed text tokens
   pub stops : IsUnexpected (kinds_of tokens) place
 
--- a refusal's cause stands in the text; where memory runs out none does
+-- a refusal's cause is in the text; where memory runs out none does
 abbrev pub HasCause : List ℕ → SchemaError → Type 0
 HasCause text (Tokens error) = tokens.HasCause error text
 HasCause text (Unexpected place) = Stops text place

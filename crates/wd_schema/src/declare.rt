@@ -24,7 +24,7 @@ const MOST_COLUMNS: usize = 256;
 /// The most keys of a table.
 const MOST_KEYS: usize = 64;
 
-/// Where something stands in a table's declaration: in which of its elements, and at which part of it.
+/// Where something is in a table's declaration: in which of its elements, and at which part of it.
 #[derive(Clone, Copy)]
 pub struct ElementPlace {
     pub element: usize,
@@ -344,7 +344,7 @@ fn null_in(keys: &[KeyAt], element: usize, column: &WrittenColumn) -> Option<Ele
     }
 }
 
-/// 306: the 257th column or the 65th key, whichever stands first.
+/// 306: the 257th column or the 65th key, whichever comes first.
 fn too_many(columns: &[Text], keys: &[KeyAt], elements: &[Element]) -> Option<ElementPlace>
     ensures few { IfNone result ((length columns.now ≤ 256) × (length keys.now ≤ 64)) }
     ensures many { IfSome result (λ _. (length columns.now ≤ 256) × (length keys.now ≤ 64) → ⊥) }
@@ -399,7 +399,7 @@ struct PlacedError {
     error: SchemaError,
 }
 
-/// The one that stands first; the first of two at one place.
+/// The one that comes first; the first of two at one place.
 fn earlier(one: Option<PlacedError>, other: Option<PlacedError>) -> Option<PlacedError>
     ensures { MatchOption result ((one ≡ None) × (other ≡ None)) (λ r. (one ≡ Some r) ⊎ (other ≡ Some r)) }
 {
@@ -424,7 +424,7 @@ fn refused_at(place: Option<ElementPlace>, error: SchemaError) -> Option<PlacedE
     Some(PlacedError { place, error })
 }
 
-/// The refusal whose cause stands first in a table's declaration. At one token it is the one of the lower number.
+/// The refusal whose cause comes first in a table's declaration. At one token it is the one of the lower number.
 fn first_refusal(table: &WrittenTable, columns: &[Text], keys: &[KeyAt]) -> Option<PlacedError>
     requires columns { columns.now ≡ spec.names_of (map element_tree table.now.elements.items) }
     requires keys { map said keys.now ≡ keys_of (map element_tree table.now.elements.items) }

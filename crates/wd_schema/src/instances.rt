@@ -23,7 +23,7 @@ pub struct Violation;
 /// row has a value for each column, of its type and range, and no NULL where the column is NOT NULL. No two rows are the same
 /// on a key, NULL being the same as NULL in a primary key and one with NULLS NOT DISTINCT, and distinct in the others.
 ///
-/// Takes no memory; the time goes with the square of the number of rows for each key.
+/// Takes no memory; the time is quadratic in the number of rows for each key.
 pub fn meets(schema: &Schema, instance: &Instance) -> Result<(), Violation>
     ensures met { OnOk result (Meets (schema_of schema.now) (instance_of instance.now.items)) }
     ensures violated { OnErr result (Meets (schema_of schema.now) (instance_of instance.now.items) → ⊥) }
@@ -164,8 +164,8 @@ fn violates_any(key: &Key, row: &[Value], rows: &[Row]) -> bool
     false
 }
 
-/// Whether two rows may not both stand in a table with this key: they are the same on its columns, and where it takes NULLs as
-/// distinct none stands there (SQL, table constraint definition; PostgreSQL, NULLS NOT DISTINCT).
+/// Whether two rows may not both be in a table with this key: they are the same on its columns, and where it takes NULLs as
+/// distinct none is there (SQL, table constraint definition; PostgreSQL, NULLS NOT DISTINCT).
 pub fn violates(key: &Key, a: &[Value], b: &[Value]) -> bool
     ensures { result ≡ spec.violates (key_of key.now) a.now b.now }
 {

@@ -7,7 +7,7 @@ pub fn one_meaning()
     ensures { HasOneMeaning }
 {}
 
-/// No refusal's cause stands in a text that declares tables.
+/// No refusal's cause is in a text that declares tables.
 pub fn meaning_or_cause()
     ensures { HasMeaningOrCause }
 {}

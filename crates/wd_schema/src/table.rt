@@ -5,7 +5,7 @@ use wd_value::{ColumnType, Text};
 pub struct Column {
     pub name: Text,
     pub kind: ColumnType,
-    /// Whether no NULL may stand here. True of the columns of the primary key, too.
+    /// Whether no NULL may appear here. True of the columns of the primary key, too.
     pub not_null: bool,
 }
 

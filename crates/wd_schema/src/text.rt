@@ -34,7 +34,7 @@ pub fn read_schema(alloc: Global, text: &[u8]) -> Result<Schema, SchemaError>
     // Tables that the text declares are given, unless memory runs out.
     ensures declared { (tables : List TableRule) → Declares text.now tables → GivesTables tables result }
 
-    // A refusal comes only where its cause stands in the text.
+    // A refusal comes only where its cause is in the text.
     ensures cause { IfErr result (λ refusal. refusal ≢ SchemaError.OutOfMemory → HasCause text.now refusal) }
 
     // Where a cause stands, the text is refused.

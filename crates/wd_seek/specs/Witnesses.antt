@@ -46,7 +46,7 @@ pub record IsScannedTable (tables : List TableRule) (outline : Outline) (instanc
   pub name : IsScannedName tables outline table t.name
   pub rows : t.rows ≡ table_at instance table
 
--- each table that is scanned stands under its name with its rows, and no other table
+-- each table that is scanned is under its name with its rows, and no other table
 pub record HasScannedRows (tables : List TableRule) (outline : Outline) (instance : Instance) (named : List TableRows) : Type 0 where
   pub each : All (IsScannedTable tables outline instance) named
   pub found : (table : ℕ) → table < length tables → scanned_in outline table ≡ true

@@ -1,5 +1,5 @@
 -- Sort keys that are computed from a column, as `c + 1`, `10 - c` or `- c`. Rows that tie there tie in that column too, so that it may
--- stand after them as a sort key of its own: the same orderings are lawful, and the same rows are peers.
+-- come after them as a sort key of its own: the same orderings are lawful, and the same rows are peers.
 use Rattle.std.specs.Prelude.{ℕ, suc, nat_lt, map, flat_map, option_map, option_and_then, option_to_list, slice_get, Bool, true, false, ◌||◌, List, [], ◌∷◌, ◌++◌, Option, Some, None, if◌then◌else◌}
 use Rattle.std.specs.List.{list_any}
 use Rattle.wd_value.specs.declared.order.SortColumn.{SortColumn}

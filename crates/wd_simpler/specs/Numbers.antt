@@ -75,7 +75,7 @@ abbrev pub with_null : Option Numbers → Option Numbers
 with_null None = None
 with_null (Some numbers) = Some (record { least = numbers.least; greatest = numbers.greatest; nullable = true })
 
--- a plan's column has these numbers alone, and NULL where it may stand among them; none is given of a column of which that is not known
+-- a plan's column has these numbers alone, and NULL where it may appear among them; none is given of a column of which that is not known
 abbrev pub numbers_of : List TableRule → PlanTree → ℕ → Option Numbers
 numbers_of tables (Scan table columns) c = numbers_of_table tables table c
 numbers_of tables (Join condition left right) c = if nat_lt c (width left) then numbers_of tables left c else numbers_of tables right (c - width left)

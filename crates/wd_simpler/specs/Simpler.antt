@@ -1,5 +1,5 @@
 -- A plan without what nothing reads: outputs of its Maps are NULL, and calls of its Windows and Groups COUNT(*), where no step
--- above reads them and they can't fault. A condition that no row meets is FALSE; what stands below it is not read, and of an input
+-- above reads them and they can't fault. A condition that no row meets is FALSE; what is below it is not read, and of an input
 -- without rows any call is COUNT(*), and a Limit takes all. A frame of the row's own place, or one that holds nothing, goes by peers,
 -- and sort keys that are computed from a column are followed by that column. Its nodes, their columns and their orderings stay.
 use Rattle.std.specs.Prelude.{ℕ, zero, suc, ◌+◌, ℤ, int_le, nat_lt, length, map, ◌&&◌, Bool, true, false, not, ◌||◌, List, [], ◌∷◌, ◌++◌, flat_map, if◌then◌else◌, Option, None, Some, option_to_list}
@@ -50,7 +50,7 @@ and_also read columns c = read c || has columns c
 abbrev pub next : Read → Read
 next read c = read (suc c)
 
--- those of the columns after the first so many
+-- those of the columns after the first N
 abbrev pub after : ℕ → Read → Read
 after n read c = read (n + c)
 

@@ -68,7 +68,7 @@ pub(crate) fn add_arguments(set: &mut Set, calls: &[Call]) -> Result<(), OutOfMe
     Ok(())
 }
 
-/// Puts the first so many columns into a set.
+/// Puts the first N columns into a set.
 pub(crate) fn add_first(set: &mut Set, count: u16) -> Result<(), OutOfMemory>
     ensures { IfOk result (λ _. HasAlso set.old (positions count) set.new) }
 {

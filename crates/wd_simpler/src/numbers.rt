@@ -11,7 +11,7 @@ use wd_plan::{Aggregate, Call, Expr, FrameFunction, Function, GroupCall, Plan};
 use wd_schema::Schema;
 use wd_value::ColumnType;
 
-/// Whole numbers from the least to the greatest one, where there is one; NULL may stand among them.
+/// Whole numbers from the least to the greatest one, where there is one; NULL may appear among them.
 #[derive(Clone, Copy)]
 pub struct Numbers {
     pub least: i64,
@@ -58,7 +58,7 @@ pub(crate) fn numbers_of(schema: &Schema, plan: &Plan, column: u16) -> Option<Nu
     }
 }
 
-/// The same numbers, among which NULL may stand.
+/// The same numbers, among which NULL may appear.
 fn with_null(numbers: Option<Numbers>) -> Option<Numbers>
     ensures { result ≡ spec.with_null numbers }
 {

@@ -166,7 +166,7 @@ fn with_condition(read: Option<Set>, condition: &Option<Expr>) -> Result<Option<
     }
 }
 
-/// What is read of so many columns after the first so many.
+/// What is read of so many columns after the first N.
 fn right_of(
     alloc: Global,
     read: &Option<Set>,

@@ -16,7 +16,7 @@ use wd_scalar::{has_arithmetic, is_true};
 use wd_schema::Schema;
 use wd_value::Value;
 
-/// Whether a plan has no row, whatever stands in the tables of the schema.
+/// Whether a plan has no row, whatever is in the tables of the schema.
 pub(crate) fn is_empty(schema: &Schema, plan: &Plan) -> bool
     ensures { result ≡ spec.is_empty (schema_of schema.now) (plan_of plan.now) }
 {
@@ -133,7 +133,7 @@ fn never_compares(
     }
 }
 
-/// The numbers of a plan's column, where NULL is allowed or does not stand there.
+/// The numbers of a plan's column, where NULL is allowed or is not there.
 fn allowed(schema: &Schema, input: &Plan, null_allowed: bool, column: u16) -> Option<Numbers>
     ensures { result ≡ spec.allowing null_allowed (numbers_in (schema_of schema.now) (plan_of input.now) column) }
 {

@@ -33,12 +33,12 @@ pub record BeginsToken (tokens : List Token) (place : ℕ) : Type 0 where
   pub is : slice_get tokens number ≡ Some token
   pub begins : place ≡ token.span.start
 
--- a key is added behind a token; where there is an ORDER BY, it begins with a token
+-- a key is added after a token; where there is an ORDER BY, it begins with a token
 pub record IsKeyPlace (tokens : List Token) (key : KeyPlace) : Type 0 where
   pub behind : EndsToken tokens key.at
   pub order : IfSome key.order (BeginsToken tokens)
 
--- a site is a stretch of whole tokens, and a key is added behind a token
+-- a site is a range of whole tokens, and a key is added after a token
 pub record IsSite (tokens : List Token) (site : Site) : Type 0 where
   pub first : ℕ
   pub last : ℕ

@@ -29,7 +29,7 @@ pub(crate) fn plan_nodes(alloc: Global, plan: &Plan) -> Result<PlanNodes, OutOfM
     Ok(found)
 }
 
-/// Adds those of a plan whose nodes are numbered from one on; the number behind them.
+/// Adds those of a plan whose nodes are numbered from one on; the number after them.
 fn add(alloc: Global, plan: &Plan, first: u64, found: &mut PlanNodes) -> Result<u64, OutOfMemory> {
     let node = match plan {
         Plan::Scan { .. } => first,
@@ -85,7 +85,7 @@ fn width(plan: &Plan) -> usize {
     }
 }
 
-/// Adds the calls that an expression shows, from left to right: their columns stand behind the first so many.
+/// Adds the calls that an expression shows, from left to right: their columns come after the first N.
 fn add_shown(expression: &Expr, width: usize, shown: &mut Vec<u32>) -> Result<(), OutOfMemory> {
     match expression {
         Expr::Column(column) => {

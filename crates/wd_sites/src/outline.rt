@@ -1,4 +1,4 @@
-//! The selects of a query, and what stands in each, by its tokens.
+//! The selects of a query, and what is in each, by its tokens.
 
 ghost use Rattle.std.specs.Prelude.{IfSome};
 ghost use Rattle.wd_sites.specs.Sites.{IsTerminalAt};
@@ -13,7 +13,7 @@ use wd_value::OutOfMemory;
 pub(crate) struct Range {
     /// The number of its word SELECT.
     pub(crate) first: usize,
-    /// That of the token behind its last one.
+    /// That of the token after its last one.
     pub(crate) end: usize,
 }
 
@@ -26,7 +26,7 @@ pub(crate) struct NamedWindow {
     pub(crate) open: usize,
 }
 
-/// What stands in a select itself, not in those of its FROM.
+/// What is in a select itself, not in those of its FROM.
 #[derive(Drop)]
 pub(crate) struct Outline {
     pub(crate) range: Range,
@@ -114,7 +114,7 @@ impl<'a> Brackets<'a> {
         Ok(found)
     }
 
-    /// What stands in a select.
+    /// What is in a select.
     fn outline(self, alloc: Global, range: Range) -> Result<Outline, OutOfMemory> {
         let overs = self.overs(alloc, range)?;
         let mut outline = Outline {

@@ -1,4 +1,4 @@
-//! Tokens by their numbers: what stands there, and the stretch of the text that they take.
+//! Tokens by their numbers: what is there, and the range of the text that they take.
 
 ghost use Rattle.std.specs.Prelude.{◌≡◌, IfSome};
 ghost use Rattle.wd_sites.specs.Sites.{EndsToken, IsStretch, IsTerminalAt};

@@ -19,9 +19,9 @@ use wd_value::OutOfMemory;
 /// Where a sort key can be added.
 #[derive(Clone, Copy, PartialEq, Eq)]
 pub struct KeyPlace {
-    /// The byte at which it is put, behind a token.
+    /// The byte at which it is put, after a token.
     pub at: u64,
-    /// The byte at which the ORDER BY begins whose keys stand before it, so that a comma comes first. None where there is none.
+    /// The byte at which the ORDER BY begins whose keys come before it, so that a comma comes first. None where there is none.
     pub order: Option<u64>,
 }
 
@@ -241,7 +241,7 @@ fn own_key(brackets: Brackets<'_>, open: usize) -> Option<KeyPlace>
     key_behind(brackets.tokens, order, end.checked_sub(1)?)
 }
 
-/// The place for a key behind a token, of the ORDER BY that begins at this one, where there is one.
+/// The place for a key after a token, of the ORDER BY that begins at this one, where there is one.
 fn key_behind(tokens: &[Token], order: Option<usize>, last: usize) -> Option<KeyPlace>
     ensures { IfSome result (IsKeyPlace tokens.now) }
 {

@@ -58,7 +58,7 @@ AreWhole least greatest column rows given = (k : ℕ) → k < length given → I
 abbrev pub IsWider : ℤ → ℤ → ℤ → ℤ → Type 0
 IsWider least greatest least' greatest' = (least' ≤ℤ least) × (greatest ≤ℤ greatest')
 
--- how far a whole number is along its range, and NULL before or behind all of them
+-- how far a whole number is along its range, and NULL before or after all of them
 abbrev pub whole_code : SortKey → ℤ → ℤ → Value → ℕ
 whole_code key least greatest Null = if key.nulls_first then 0 else unsigned_abs (greatest -ℤ least) + 1
 whole_code key least greatest (Int n) = (if key.desc then unsigned_abs (greatest -ℤ n) else unsigned_abs (n -ℤ least)) + (if key.nulls_first then 1 else 0)

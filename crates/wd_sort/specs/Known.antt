@@ -9,7 +9,7 @@ use Rattle.wd_value.specs.declared.value.Value.TheVariants.{Null, Int, Text, Boo
 use Rattle.wd_sort.specs.declared.known.Known.{Known}
 use Rattle.wd_sort.specs.Ranks.{value_in}
 
--- a value stands at a place
+-- a value is at a place
 abbrev pub IsAt : Known → ℕ → Value → Type 0
 IsAt known place value = (place < length known.values.items) × (value_in known.values.items place ≡ value)
 
@@ -21,7 +21,7 @@ place_in known (Text text) = get_by (λ k. bytes_eq text k.now) known.texts
 place_in known (Truth false) = Some 1
 place_in known (Truth true) = Some 2
 
--- each value stands at the place that is kept of it
+-- each value is at the place that is kept of it
 abbrev pub AreKnown : Known → Type 0
 AreKnown known = (value : Value) (place : ℕ) → place_in known value ≡ Some place → IsAt known place value
 

@@ -17,7 +17,7 @@ use wd_value::{OutOfMemory, SortColumn, SortKey, Value};
 
 /// A number for each row, by its position. Two are equal exactly where the rows' values in the column
 /// are the same; they don't compare as the values do. The bound is at most three more than the number of
-/// rows. Takes time that goes with the number of rows: no two texts are compared in order.
+/// rows. Takes time linear in the number of rows: no two texts are compared in order.
 pub fn value_numbers(alloc: Global, rows: &RowSource, column: u16) -> Result<Coding, OutOfMemory>
     ensures { IfOk result (λ c. AreNumbersBy (column ∷ []) rows.now c.bound c.codes.items) }
 {

@@ -35,7 +35,7 @@ pub fn column_coding(
     }
 }
 
-/// The numbers of a column and, where these tie, of the columns behind it, in the memory of the
+/// The numbers of a column and, where these tie, of the columns after it, in the memory of the
 /// first; none where a pair does not fit 64 bits.
 pub fn combined(first: Coding, others: &Coding) -> Option<Coding>
     requires long { length first.codes.items ≡ length others.now.codes.items }

@@ -1,7 +1,7 @@
 //! Hash maps over values that a stranger may have chosen.
 //!
 //! std's maps begin each hash with one fixed seed, so values can be chosen whose hashes fall together, and a map of them takes
-//! time that goes with the square of their number. Here the seed is itself a hash (SipHash) of all the values that are to be
+//! time quadratic in their number. Here the seed is itself a hash (SipHash) of all the values that are to be
 //! looked up: whoever changes a value changes the seed. Random numbers from the machine would serve as well, but the calls that
 //! use these maps are handed no machine.
 
@@ -23,7 +23,7 @@ impl Seeded {
         Seeded { initial }
     }
 
-    /// With a hash of the values that stand in a column at these positions as its seed.
+    /// With a hash of the values that are in a column at these positions as its seed.
     pub(crate) fn by_column(rows: &RowSource, column: u16, positions: &[u64]) -> Seeded {
         let mut all = DefaultHasher::new();
         for i in 0..positions.len() {

@@ -72,7 +72,7 @@ pub fn sorted_by_rows(
     Ok(order)
 }
 
-/// Whether the positions stand in the order of the columns; those whose rows tie may stand in any
+/// Whether the positions are in the order of the columns; those whose rows tie may appear in any
 /// order.
 pub fn is_sorted(rows: &[Row], columns: &[SortColumn], positions: &[u64]) -> bool
     ensures { IsTrue result ↔ IsSorted (sorting.compare_rows_at columns.now (rows_of rows.now)) positions.now }

@@ -97,7 +97,7 @@ fn whole_code_at(rows: &RowSource, column: SortColumn, position: u64, range: Ran
 }
 
 /// How far a value is from the range's start, or under DESC from its end, with a place for NULL in
-/// front or behind.
+/// front or after.
 fn whole_code(value: &Value, key: SortKey, range: Range) -> u64
     requires narrow { unsigned_abs (range.greatest -ℤ range.least) + 1 < 2 ^ 64 }
     requires whole { IsWhole range.least range.greatest value.now }

@@ -17,7 +17,7 @@ is_semicolon (t.Quoted _) = false
 is_semicolon (t.Literal _) = false
 is_semicolon (t.Number _) = false
 
--- a stretch of a text, where something stands in it, before others
+-- a range of a text, where something is in it, before others
 abbrev pub if_begun : Bool → Span → List Span → List Span
 if_begun true span spans = span ∷ spans
 if_begun false span spans = spans
@@ -37,7 +37,7 @@ AreStatements text spans =
     ((tokens : List Token) × IsLexed text tokens × (spans ≡ statements_from (length text) 0 false tokens))
     ⊎ ((refusal : LexError) × HasCause refusal text × (spans ≡ record { start = 0; end = length text } ∷ []))
 
--- each stands after the one before it, and all lie between two places
+-- each comes after the one before it, and all lie between two places
 abbrev pub StandInOrder : ℕ → List Span → ℕ → Type 0
 StandInOrder start [] end = start ≤ end
 StandInOrder start (span ∷ spans) end = (start ≤ span.start) × (span.start ≤ span.end) × StandInOrder span.end spans end

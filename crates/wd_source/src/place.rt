@@ -44,7 +44,7 @@ fn line_end(text: &[u8], place: usize) -> usize
     end
 }
 
-/// The line around a byte of a text, without its line feed. The text's length is the place behind its last byte.
+/// The line around a byte of a text, without its line feed. The text's length is the place after its last byte.
 pub fn line_around(text: &[u8], place: usize) -> Span
     requires { place ≤ length text.now }
     ensures { IsLine text.now place result }

@@ -35,7 +35,7 @@ fn is_semicolon(kind: &TokenKind) -> bool
     matches!(kind, TokenKind::Terminal(Terminal::Semicolon))
 }
 
-/// Adds the stretch between two places, where something stands in it.
+/// Adds the range between two places, where something is in it.
 fn add_begun(found: &mut Vec<Span>, begun: bool, start: u64, end: u64) -> Result<(), OutOfMemory>
     requires { start ≤ end }
     ensures added { IfOk result (λ _. found.new.items ≡ found.old.items ++ if_begun begun (record { start = start; end = end }) []) }

@@ -82,7 +82,7 @@ abbrev pub branch_word : Branch → List ℕ
 branch_word First = codes "CASE WHEN "
 branch_word Later = codes " WHEN "
 
--- before and behind what stands behind a branch, where that is no further branch
+-- before and after what follows a branch, where that is no further branch
 abbrev pub else_word : Expression → List ℕ
 else_word (Case Later a b c) = []
 else_word e = codes " ELSE "
@@ -91,7 +91,7 @@ abbrev pub end_word : Expression → List ℕ
 end_word (Case Later a b c) = []
 end_word e = codes " END"
 
--- the words of an expression over columns of these names; an operator stands between its operands, with a blank on either side
+-- the words of an expression over columns of these names; an operator is between its operands, with a blank on either side
 abbrev pub spelled : (names : List (List ℕ)) → Expression → List (List ℕ)
 spelled names (Column c) = get_or names c (codes "?") ∷ []
 spelled names (Literal v kind) = literal_word v ∷ []

@@ -115,7 +115,7 @@ fn is_word(name: &[u8]) -> bool {
     }
 }
 
-/// The names of a table's columns, behind what the table is called where that tells them apart.
+/// The names of a table's columns, after what the table is called where that tells them apart.
 pub fn scan_names(
     alloc: Global,
     schema: &Schema,
@@ -132,7 +132,7 @@ pub fn scan_names(
     Ok(names)
 }
 
-/// A column's name behind its table's.
+/// A column's name after its table's.
 fn qualified(alloc: Global, called: Option<&str>, own: String) -> Result<Text, OutOfMemory> {
     match called {
         None => Ok(Text::new(alloc, own)?),
@@ -217,7 +217,7 @@ fn grouping_text(alloc: Global, names: &[Text], columns: &[u16]) -> Result<Strin
     Ok(text)
 }
 
-/// The names of a Window's columns: those of its input, and behind them its calls.
+/// The names of a Window's columns: those of its input, and after them its calls.
 pub fn window_names(
     alloc: Global,
     names: &[Text],

@@ -1,4 +1,4 @@
-//! Expressions, word by word. What is still to be written stands on the heap, and takes nothing of the stack however deep an
+//! Expressions, word by word. What is still to be written is on the heap, and takes nothing of the stack however deep an
 //! expression is.
 
 ghost use Rattle.std.specs.Prelude.{◌≡◌, ℕ, ◌+◌, ◌*◌, ◌≤◌, ◌++◌, [], ◌∷◌, List, get_or, codes, string_bytes, IfOk, OnOk, if◌then◌else◌};
@@ -138,7 +138,7 @@ fn add_parts<'e>(waiting: &mut Vec<Item<'e>>, expression: &'e Expr) -> Result<()
     }
 }
 
-/// Puts a word and the operand behind it before all that waits.
+/// Puts a word and the operand after it before all that waits.
 fn add_prefixed<'e>(
     waiting: &mut Vec<Item<'e>>,
     word: &'static str,
@@ -152,7 +152,7 @@ fn add_prefixed<'e>(
     push(waiting, Item::Word(word))
 }
 
-/// Puts an operand and the test behind it before all that waits.
+/// Puts an operand and the test after it before all that waits.
 fn add_tested<'e>(
     waiting: &mut Vec<Item<'e>>,
     a: &'e Expr,
@@ -182,7 +182,7 @@ fn add_two<'e>(
     push(waiting, Item::Operand(first, a))
 }
 
-/// Puts a branch of a CASE, and the rest behind it, before all that waits.
+/// Puts a branch of a CASE, and the rest after it, before all that waits.
 fn add_branch<'e>(
     waiting: &mut Vec<Item<'e>>,
     branch: Branch,

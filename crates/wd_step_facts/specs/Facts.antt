@@ -9,7 +9,7 @@ use Rattle.wd_step_facts.specs.declared.facts.Given.{Given}
 use Rattle.wd_step_facts.specs.declared.facts.Member.{Member}
 use Rattle.wd_step_facts.specs.declared.facts.Member.TheVariants.{Column, Left, Right, Row}
 
--- what `from` gives
+-- what `from` determines
 pub record Fact : Type 0 where
   pub from : List Member
   pub to : List Member
@@ -100,6 +100,6 @@ moved_facts f row facts = map (moved_fact f row) facts
 abbrev pub columns_named : List ℕ → List Member
 columns_named columns = map (λ c. Column c) columns
 
--- columns that give the row, or a side
+-- columns that determine the row, or a side
 abbrev pub key_fact : Member → List ℕ → Fact
 key_fact row columns = record { from = columns_named columns; to = row ∷ [] }

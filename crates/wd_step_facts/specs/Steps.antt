@@ -84,7 +84,7 @@ fixed_fact c = record { from = []; to = member.Column c ∷ [] }
 abbrev pub column_fact : ℕ → ℕ → Fact
 column_fact c d = record { from = member.Column c ∷ []; to = member.Column d ∷ [] }
 
--- what equals column c: `c = d` is that c gives d, then that d gives c; `c = literal` that nothing gives c
+-- what equals column c: `c = d` is that c determines d, then that d determines c; `c = literal` that nothing determines c
 abbrev pub facts_of_equal : ℕ → Side → List Fact
 facts_of_equal c (Plain d) = column_fact c d ∷ column_fact d c ∷ []
 facts_of_equal c (Fixed v) = fixed_fact c ∷ []
@@ -109,7 +109,7 @@ comparison_facts op.LessOrEqual a b = []
 comparison_facts op.Greater a b = []
 comparison_facts op.GreaterOrEqual a b = []
 
--- `c IS NULL`: nothing gives c
+-- `c IS NULL`: nothing determines c
 abbrev pub null_facts : Side → List Fact
 null_facts (Plain c) = fixed_fact c ∷ []
 null_facts (Fixed v) = []
@@ -188,11 +188,11 @@ abbrev pub copied_keys : List Expression → List (List ℕ) → List (List ℕ)
 copied_keys outputs [] = []
 copied_keys outputs (X ∷ keys) = if_copied (copies outputs X) (copied_keys outputs keys)
 
--- the inputs that output j uses give it; input c is column m + c
+-- the inputs that output j uses determine it; input c is column m + c
 abbrev pub used_fact : ℕ → ℕ → Expression → Fact
 used_fact m j e = record { from = columns_named (map (λ c. m + c) (used e)); to = member.Column j ∷ [] }
 
--- a plain column gives the input that it copies
+-- a plain column determines the input that it copies
 abbrev pub copy_facts : ℕ → ℕ → Side → List Fact
 copy_facts m j (Plain c) = column_fact j (m + c) ∷ []
 copy_facts m j (Fixed v) = []
@@ -222,11 +222,11 @@ keeps_peers_whole exclude.Ties = false
 abbrev pub goes_by_key : Frame → Bool
 goes_by_key frame = is_stable frame && keeps_peers_whole frame.exclusion
 
--- of a call with column w: its class's columns give w
+-- of a call with column w: its class's columns determine w
 abbrev pub value_fact : ClassRule → ℕ → Fact
 value_fact class w = record { from = columns_named (class_columns class); to = member.Column w ∷ [] }
 
--- partition and w give the order columns
+-- partition and w determine the order columns
 abbrev pub rank_fact : ClassRule → ℕ → Fact
 rank_fact class w = record { from = columns_named (class.partition ++ w ∷ []); to = columns_named (order_columns class) }
 
@@ -284,11 +284,11 @@ are_told_apart columns (set ∷ sets) = list_all (λ other. list_any (differ_in 
 abbrev pub group_key : GroupRule → List ℕ
 group_key g = all_columns g.columns ++ (if nat_lt 1 (length g.sets) then grouping_columns g.columns g.calls else [])
 
--- they give the row where every two sets differ in an argument of GROUPING, as where there is one set
+-- they determine the row where every two sets differ in an argument of GROUPING, as where there is one set
 abbrev pub group_key_facts : GroupRule → List Fact
 group_key_facts g = if are_told_apart (grouping_arguments g.calls) g.sets then key_fact member.Row (group_key g) ∷ [] else []
 
--- of a fact whose left side is of the first so many columns, the targets that are such columns or the row
+-- of a fact whose left side is of the first N columns, the targets that are such columns or the row
 abbrev pub cut_fact : ℕ → Fact → List Fact
 cut_fact columns fact = if list_all (is_column columns) fact.from then record { from = fact.from; to = filter (is_plain columns) fact.to } ∷ [] else []
 

@@ -52,7 +52,7 @@ fn class_columns(alloc: Global, class: &Class) -> Result<Vec<u16>, OutOfMemory>
     Ok(columns)
 }
 
-/// That the class's columns give the call's.
+/// That the class's columns determine the call's.
 fn value_fact(alloc: Global, class: &Class, column: u16) -> Result<Given, OutOfMemory>
     ensures { IfOk result (λ g. fact_of g ≡ spec.value_fact (class_of class.now) column) }
 {
@@ -72,7 +72,7 @@ fn partition_and(alloc: Global, class: &Class, column: u16) -> Result<Vec<Member
     Ok(list)
 }
 
-/// That the partition's columns and the call's give the row.
+/// That the partition's columns and the call's determine the row.
 fn number_fact(alloc: Global, class: &Class, column: u16) -> Result<Given, OutOfMemory>
     ensures { IfOk result (λ g. fact_of g ≡ key_fact member.Row ((class_of class.now).partition ++ column ∷ [])) }
 {
@@ -81,7 +81,7 @@ fn number_fact(alloc: Global, class: &Class, column: u16) -> Result<Given, OutOf
     Ok(Given { from, to })
 }
 
-/// That the partition's columns and the call's give the sort keys'.
+/// That the partition's columns and the call's determine the sort keys'.
 fn rank_fact(alloc: Global, class: &Class, column: u16) -> Result<Given, OutOfMemory>
     ensures { IfOk result (λ g. fact_of g ≡ spec.rank_fact (class_of class.now) column) }
 {
@@ -91,7 +91,7 @@ fn rank_fact(alloc: Global, class: &Class, column: u16) -> Result<Given, OutOfMe
     Ok(Given { from, to })
 }
 
-/// Appends that the class's columns give a call's over a frame that peers share.
+/// Appends that the class's columns determine a call's over a frame that peers share.
 fn add_over_frame(
     alloc: Global,
     class: &Class,
@@ -108,7 +108,7 @@ fn add_over_frame(
     Ok(())
 }
 
-/// Appends that the class's columns give a rank, and what a rank gives.
+/// Appends that the class's columns determine a rank, and what a rank determines.
 fn add_rank(
     alloc: Global,
     class: &Class,

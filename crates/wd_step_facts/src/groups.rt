@@ -46,7 +46,7 @@ fn group_key(alloc: Global, group: &Group) -> Result<Vec<u16>, OutOfMemory>
     Ok(key)
 }
 
-/// Appends that these columns give the row, where GROUPING tells the sets apart.
+/// Appends that these columns determine the row, where GROUPING tells the sets apart.
 fn add_group_key(alloc: Global, group: &Group, list: &mut Vec<Given>) -> Result<(), OutOfMemory>
     requires { group.now.columns + length group.now.calls.items < 65536 }
     ensures { IfOk result (λ _. map fact_of list.new.items ≡ map fact_of list.old.items ++ spec.group_key_facts (grouping_of group.now)) }
@@ -58,7 +58,7 @@ fn add_group_key(alloc: Global, group: &Group, list: &mut Vec<Given>) -> Result<
     Ok(())
 }
 
-/// Whether a member is one of the first so many columns.
+/// Whether a member is one of the first N columns.
 fn is_column(columns: u16, member: Member) -> bool
     ensures { result ≡ facts_spec.is_column columns member }
 {
@@ -90,7 +90,7 @@ fn are_columns(columns: u16, list: &[Member]) -> bool
     true
 }
 
-/// Those of the members that are one of the first so many columns or the row.
+/// Those of the members that are one of the first N columns or the row.
 pub fn cut_members(alloc: Global, columns: u16, list: &[Member]) -> Result<Vec<Member>, OutOfMemory>
     ensures { IfOk result (λ v. v.items ≡ filter (facts_spec.is_plain columns) list.now) }
 {
@@ -103,7 +103,7 @@ pub fn cut_members(alloc: Global, columns: u16, list: &[Member]) -> Result<Vec<M
     Ok(cut)
 }
 
-/// Appends a fact of the first so many columns, with the targets that are such columns or the row.
+/// Appends a fact of the first N columns, with the targets that are such columns or the row.
 fn add_cut_fact(
     alloc: Global,
     columns: u16,

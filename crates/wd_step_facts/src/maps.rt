@@ -103,7 +103,7 @@ pub fn copy_of(outputs: &[Expr], column: u16) -> Option<u16>
     None
 }
 
-/// That the inputs that an output uses give it.
+/// That the inputs that an output uses determine it.
 fn used_fact(alloc: Global, by: u16, number: u16, output: &Expr) -> Result<Given, OutOfMemory>
     requires { list_all (λ c. nat_lt c (65536 - by)) (spec.used (expression_of output.now)) ≡ true }
     ensures { IfOk result (λ g. fact_of g ≡ spec.used_fact by number (expression_of output.now)) }
@@ -115,7 +115,7 @@ fn used_fact(alloc: Global, by: u16, number: u16, output: &Expr) -> Result<Given
     Ok(Given { from, to })
 }
 
-/// Appends that an output that is a column gives the input that it copies.
+/// Appends that an output that is a column determines the input that it copies.
 fn add_copy(
     alloc: Global,
     by: u16,

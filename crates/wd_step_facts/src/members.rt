@@ -19,7 +19,7 @@ pub fn members(alloc: Global, columns: &[u16]) -> Result<Vec<Member>, OutOfMemor
     Ok(list)
 }
 
-/// That the columns give the row, or a side.
+/// That the columns determine the row, or a side.
 fn key_fact_of(alloc: Global, row: Member, columns: &[u16]) -> Result<Given, OutOfMemory>
     ensures { IfOk result (λ g. fact_of g ≡ key_fact row columns.now) }
 {
@@ -28,7 +28,7 @@ fn key_fact_of(alloc: Global, row: Member, columns: &[u16]) -> Result<Given, Out
     Ok(Given { from, to })
 }
 
-/// Appends that the columns give the row, or a side.
+/// Appends that the columns determine the row, or a side.
 ///
 /// # Errors
 /// Where memory runs out; the list is then as it was.
@@ -55,7 +55,7 @@ pub fn add_all(mut more: Vec<Given>, list: &mut Vec<Given>) -> Result<(), OutOfM
     Ok(())
 }
 
-/// Appends that nothing gives the column.
+/// Appends that nothing determines the column.
 pub fn add_fixed(alloc: Global, column: u16, list: &mut Vec<Given>) -> Result<(), OutOfMemory>
     ensures { IfOk result (λ _. map fact_of list.new.items ≡ map fact_of list.old.items ++ (spec.fixed_fact column ∷ [])) }
 {
@@ -65,7 +65,7 @@ pub fn add_fixed(alloc: Global, column: u16, list: &mut Vec<Given>) -> Result<()
     Ok(())
 }
 
-/// Appends that one column gives another.
+/// Appends that one column determines another.
 pub fn add_column_fact(
     alloc: Global,
     column: u16,

@@ -18,7 +18,7 @@ height_of _ = h.Primary
 abbrev pub height : Tree → ℕ
 height a = rank (height_of a)
 
--- the loosest that may stand on the left: a chain goes on, a comparison does not
+-- the loosest that may appear on the left: a chain goes on, a comparison does not
 abbrev pub left_height : Operator → ℕ
 left_height o = if operator_height o == rank h.Comparison then rank h.Sum else operator_height o
 
@@ -89,7 +89,7 @@ abbrev pub HasColumn : SetTree → Type 0
 HasColumn (one_column c) = Unit {0}
 HasColumn (columns cs) = IsSome cs
 
--- what may stand between the brackets of such a word: no empty set where sets are made of it
+-- what may appear between the brackets of such a word: no empty set where sets are made of it
 abbrev pub MayStandIn : GroupingWord → SetTree → Type 0
 MayStandIn Rollup s = HasColumn s
 MayStandIn Cube s = HasColumn s

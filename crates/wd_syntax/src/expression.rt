@@ -25,7 +25,7 @@ pub enum Operator {
 /// How loosely an expression binds, from the tightest on.
 #[derive(Clone, Copy)]
 pub enum Height {
-    /// A literal, a name, a call, a CASE, or what stands between brackets.
+    /// A literal, a name, a call, a CASE, or what is between brackets.
     Primary,
     Sign,
     /// `* / %`
@@ -116,7 +116,7 @@ pub struct Arm {
     pub gives: Expr,
 }
 
-/// What stands after `OVER`.
+/// What comes after `OVER`.
 #[cycle(tree)]
 #[derive(Drop)]
 pub enum Over {

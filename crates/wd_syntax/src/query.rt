@@ -127,7 +127,7 @@ pub enum Table {
     Derived(Box<Select>, Alias),
 }
 
-/// A table, and how it is joined to what stands before it. Joins bind more tightly than the comma.
+/// A table, and how it is joined to what comes before it. Joins bind more tightly than the comma.
 #[cycle(select)]
 #[derive(Drop)]
 pub enum Joined {

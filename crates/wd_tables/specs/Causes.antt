@@ -56,7 +56,7 @@ IsLeast P (Some n) = P n × ((m : ℕ) → m < n → ¬ (P m))
 abbrev pub IsFirstRepeat : TableRule → List ℕ → ℕ → Type 0
 IsFirstRepeat table text n = (rows : List Row) × HoldsRows table text rows × All (λ row. fits_columns table.columns row ≡ true) rows × (q : ℕ) × (n ≡ q + 1) × IsLeast (Repeats table.keys rows) (Some q)
 
--- what stands in the text where the error is answered: records are judged in order, the header first, and the keys after all of them
+-- what is in the text where the error is answered: records are judged in order, the header first, and the keys after all of them
 abbrev pub HasCause : TableRule → List ℕ → DataError → Type 0
 HasCause table text Header = (records_of text ≡ []) ⊎ IsFirstRefused table text Header
 HasCause table text (Value n) = IsFirstRefused table text (Value n)

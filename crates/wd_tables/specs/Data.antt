@@ -26,16 +26,16 @@ header_of text = record_at text 0
 abbrev pub data_of : List ℕ → List (List (List ℕ))
 data_of text = drop 1 (records_of text)
 
--- at most so many records may follow the header
+-- at most N records may follow the header
 abbrev pub most_records : ℕ
 most_records = 1000000
 
--- each column's name stands once in the header, and nothing else stands there
+-- each column's name appears once in the header, and nothing else is there
 pub record NamesEachOnce (columns : List Column) (header : List (List ℕ)) : Type 0 where
   pub each : All (λ column. times bytes_eq column.name header ≡ 1) columns
   pub others : length header ≡ length columns
 
--- the place of a name in the header, and the header's length where it doesn't stand there
+-- the place of a name in the header, and the header's length where it isn't there
 abbrev pub field_place : List (List ℕ) → List ℕ → ℕ
 field_place header name = position_or_len (bytes_eq name) header
 

@@ -9,7 +9,7 @@ use Rattle.wd_tables.specs.Data.{HoldsRows}
 use Rattle.wd_tables.specs.declared.error.DataError.{DataError}
 use Rattle.wd_tables.specs.declared.error.DataError.TheVariants.{OutOfMemory}
 
--- A text has at most one refusal as the data of a table; where memory runs out nothing need stand in it.
+-- A text has at most one refusal as the data of a table; where memory runs out nothing need be in it.
 abbrev pub HasOneRefusal : Type 0
 HasOneRefusal = (table : TableRule) (text : List ℕ) (first second : DataError) → IsWellFormedTable table → HasCause table text first → HasCause table text second
     → ¬ (first ≡ OutOfMemory) → ¬ (second ≡ OutOfMemory) → first ≡ second

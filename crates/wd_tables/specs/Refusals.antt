@@ -1,4 +1,4 @@
--- Why a header, a field or a record is refused, whatever text it stands in.
+-- Why a header, a field or a record is refused, whatever text it is in.
 use Rattle.std.specs.Prelude.{◌≡◌, ◌⊎◌, ◌<◌, ℕ, true, List, Some, None, All, Any, ⊤}
 use Rattle.wd_value.specs.declared.value.Value.TheVariants.{Null}
 use Rattle.wd_schema.specs.declared.table.Column.{Column}
@@ -39,7 +39,7 @@ HasNull header fields column = (column.not_null ≡ true) × (value_in header fi
 abbrev pub IsRefusedIn : List (List ℕ) → List (List ℕ) → Column → Type 0
 IsRefusedIn header fields column = LacksValue header fields column ⊎ HasNull header fields column
 
--- no field that stands before the column's own in the record is refused
+-- no field that comes before the column's own in the record is refused
 abbrev pub IsFirstIn : List Column → List (List ℕ) → List (List ℕ) → Column → Type 0
 IsFirstIn columns header fields column = All (λ other. field_place header other.name < field_place header column.name → ¬ (IsRefusedIn header fields other)) columns
 

@@ -7,7 +7,7 @@ pub fn one_refusal()
     ensures { HasOneRefusal }
 {}
 
-/// No refusal's cause stands in a text that holds rows which meet the table.
+/// No refusal's cause is in a text that holds rows which meet the table.
 pub fn rows_or_refusal()
     ensures { HasRowsOrRefusal }
 {}

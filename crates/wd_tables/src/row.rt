@@ -16,7 +16,7 @@ use std::alloc::Global;
 use wd_schema::{Column, is_null};
 use wd_value::{Row, Value};
 
-/// The row of a record, whose field for each column stands at the column's place.
+/// The row of a record, whose field for each column is at the column's place.
 pub fn row_of(
     alloc: Global,
     columns: &[Column],

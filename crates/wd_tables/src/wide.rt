@@ -17,7 +17,7 @@ use wd_value::OutOfMemory;
 /// gigabyte there.
 const MANY_COMMAS: usize = 33_554_432;
 
-/// Where a scan stands between two bytes of a text.
+/// Where a scan is between two bytes of a text.
 #[derive(Clone, Copy)]
 enum Place {
     RecordStart,
@@ -110,7 +110,7 @@ fn is_text(bytes: &[u8]) -> bool
     std::str::from_utf8(bytes).is_ok()
 }
 
-// The text behind a byte order mark at its start.
+// The text after a byte order mark at its start.
 fn without_mark(text: &[u8]) -> &[u8]
     ensures { result.now ≡ strip_bom text.now }
 {

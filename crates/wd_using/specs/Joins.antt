@@ -26,7 +26,7 @@ pub record Alias : Type 0 where
   pub count : ℕ
   pub name : Token
 
--- the columns of USING, the word USING, and what stands behind them; without USING no columns
+-- the columns of USING, the word USING, and what follows them; without USING no columns
 pub record Condition : Type 0 where
   pub word : Token
   pub names : List Token
@@ -44,7 +44,7 @@ abbrev pub alias_behind_as : Token → List Token → Alias
 alias_behind_as name [] = record { count = 1; name = name }
 alias_behind_as name (alias ∷ tokens) = if is_name alias.kind then record { count = 3; name = alias } else record { count = 1; name = name }
 
--- [[AS] alias] behind a table's name
+-- [[AS] alias] after a table's name
 abbrev pub alias_at : Token → List Token → Alias
 alias_at name [] = record { count = 1; name = name }
 alias_at name (next ∷ tokens) =
@@ -85,7 +85,7 @@ abbrev pub names_up_to : Token → List Token → Option ℕ → Option Conditio
 names_up_to word tokens None = None
 names_up_to word tokens (Some place) = with_names word (drop (place + 1) tokens) (parts (take place tokens) >>= names_of)
 
--- ( columns ) behind USING
+-- ( columns ) after USING
 abbrev pub using_at : Token → List Token → Option Condition
 using_at word [] = None
 using_at word (bracket ∷ tokens) = if opens bracket.kind then names_up_to word tokens (closing tokens) else None
@@ -190,7 +190,7 @@ abbrev pub with_further : (List Token → Option (List JoinedTable)) → Option 
 with_further further None = None
 with_further further (Some found) = with_next further found.0 found.1
 
--- FROM table {JOIN table}, and nothing else, with at most so many tables
+-- FROM table {JOIN table}, and nothing else, with at most N tables
 unfoldable pub joined_tables : List TableRule → ℕ → List Token → Option (List JoinedTable)
 joined_tables tables zero tokens = None
 joined_tables tables (suc more) tokens = with_further (joined_tables tables more) (table_at tables tokens)

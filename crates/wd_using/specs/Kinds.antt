@@ -18,13 +18,13 @@ abbrev pub is_star : TokenKind → Bool
 is_star (t.Terminal m.Star) = true
 is_star _ = false
 
--- FROM or JOIN stands before a table
+-- FROM or JOIN comes before a table
 abbrev pub begins_table : TokenKind → Bool
 begins_table (t.Terminal m.From) = true
 begins_table (t.Terminal m.Join) = true
 begins_table _ = false
 
--- what stands behind a table and its condition, in a FROM clause
+-- what follows a table and its condition, in a FROM clause
 abbrev pub ends_table : TokenKind → Bool
 ends_table (t.Terminal m.Join) = true
 ends_table (t.Terminal m.Comma) = true
@@ -45,13 +45,13 @@ abbrev pub is_and : TokenKind → Bool
 is_and (t.Terminal m.And) = true
 is_and _ = false
 
--- OR, and CASE, in which AND and OR may stand without brackets
+-- OR, and CASE, in which AND and OR may appear without brackets
 abbrev pub is_choice : TokenKind → Bool
 is_choice (t.Terminal m.Or) = true
 is_choice (t.Terminal m.Case) = true
 is_choice _ = false
 
--- the AND behind it is its own
+-- the AND after it is its own
 abbrev pub is_between : TokenKind → Bool
 is_between (t.Word text) = bytes_eq text (codes "between")
 is_between _ = false
@@ -64,7 +64,7 @@ begins_limit (t.Terminal m.Offset) = true
 begins_limit (t.Terminal m.Fetch) = true
 begins_limit _ = false
 
--- a star behind it stands for columns: it begins an item, or it is a dot
+-- a star after it stands for columns: it begins an item, or it is a dot
 abbrev pub begins_columns : TokenKind → Bool
 begins_columns (t.Terminal m.Select) = true
 begins_columns (t.Terminal m.Distinct) = true
@@ -73,7 +73,7 @@ begins_columns (t.Terminal m.Comma) = true
 begins_columns (t.Terminal m.Dot) = true
 begins_columns _ = false
 
--- a value may end there, or it is AS: a name behind it would name an item
+-- a value may end there, or it is AS: a name after it would name an item
 abbrev pub ends_value : TokenKind → Bool
 ends_value (t.Terminal m.As) = true
 ends_value (t.Terminal m.RightBracket) = true
@@ -84,7 +84,7 @@ ends_value (t.Terminal m.False) = true
 ends_value (t.Terminal terminal) = false
 ends_value _ = true
 
--- behind AS a name is a new one, and behind a dot it is a certain table's
+-- after AS a name is a new one, and after a dot it is a certain table's
 abbrev pub is_taken : TokenKind → Bool
 is_taken (t.Terminal m.As) = true
 is_taken (t.Terminal m.Dot) = true

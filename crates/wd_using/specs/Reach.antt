@@ -1,4 +1,4 @@
--- How far parts of a select reach: a table of a FROM clause with its condition, a conjunct, a level, and what stands before certain
+-- How far parts of a select reach: a table of a FROM clause with its condition, a conjunct, a level, and what comes before certain
 -- words.
 use Rattle.std.specs.Prelude.{ℕ, ◌+◌, ◌==◌, ◌||◌, ◌&&◌, if◌then◌else◌, Bool, false, List, [], ◌∷◌}
 use Rattle.wd_lex.specs.declared.token.TokenKind.{TokenKind}
@@ -18,12 +18,12 @@ stops extent.Between kind = is_between kind
 stops extent.Select kind = begins_select kind
 stops extent.Limit kind = begins_limit kind
 
--- so many tokens and those that stand before the end of the part; so many brackets are open
+-- so many tokens and those that come before the end of the part; so many brackets are open
 unfoldable pub reach_from : Extent → ℕ → ℕ → List Token → ℕ
 reach_from extent depth count [] = count
 reach_from extent depth count (token ∷ tokens) =
     if depth == 0 && (ends_level token.kind || stops extent token.kind) then count else reach_from extent (depth_after depth token.kind) (count + 1) tokens
 
--- how many tokens stand before the end of a part that begins with them
+-- how many tokens come before the end of a part that begins with them
 abbrev pub reach : Extent → List Token → ℕ
 reach extent tokens = reach_from extent 0 0 tokens

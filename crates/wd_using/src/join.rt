@@ -16,7 +16,7 @@ use wd_distinct_on::cut;
 use wd_lex::Token;
 use wd_schema::Schema;
 
-/// The columns of USING, the word USING, and what stands behind them; without USING no columns.
+/// The columns of USING, the word USING, and what follows them; without USING no columns.
 #[derive(Drop)]
 pub struct Condition<'t> {
     pub word: &'t Token,
@@ -60,7 +60,7 @@ fn names_of<'t>(alloc: Global, parts: &[&'t [Token]]) -> Result<Option<Vec<&'t T
     Ok(Some(names))
 }
 
-/// Whether nothing stands there, or INNER before the next JOIN.
+/// Whether nothing is there, or INNER before the next JOIN.
 fn ends(tokens: &[Token]) -> bool
     ensures { result ≡ spec.ends tokens.now }
 {
@@ -92,7 +92,7 @@ fn names_up_to<'t>(
     }
 }
 
-/// `( columns )` behind USING
+/// `( columns )` after USING
 fn using_at<'t>(
     alloc: Global,
     word: &'t Token,
@@ -129,7 +129,7 @@ fn condition_at<'t>(
     }))
 }
 
-/// A table, its alias, and its condition, behind FROM or JOIN.
+/// A table, its alias, and its condition, after FROM or JOIN.
 fn joined_at<'t>(
     alloc: Global,
     schema: &'t Schema,

@@ -60,7 +60,7 @@ pub fn ends_level(kind: &TokenKind) -> bool
     )
 }
 
-/// Whether FROM or JOIN stands there, before a table.
+/// Whether FROM or JOIN is there, before a table.
 pub fn begins_table(kind: &TokenKind) -> bool
     ensures { result ≡ spec.begins_table kind.now }
 {
@@ -91,7 +91,7 @@ pub fn is_and(kind: &TokenKind) -> bool
     matches!(kind, TokenKind::Terminal(Terminal::And))
 }
 
-/// Whether OR stands there, or CASE, in which AND and OR may stand without brackets.
+/// Whether OR is there, or CASE, in which AND and OR may appear without brackets.
 pub fn is_choice(kind: &TokenKind) -> bool
     ensures { result ≡ spec.is_choice kind.now }
 {
@@ -118,7 +118,7 @@ pub fn begins_limit(kind: &TokenKind) -> bool
     )
 }
 
-/// Whether a star behind it stands for columns.
+/// Whether a star after it stands for columns.
 pub fn begins_columns(kind: &TokenKind) -> bool
     ensures { result ≡ spec.begins_columns kind.now }
 {
@@ -130,7 +130,7 @@ pub fn begins_columns(kind: &TokenKind) -> bool
     )
 }
 
-/// Whether a name behind it would name an item.
+/// Whether a name after it would name an item.
 pub fn ends_value(kind: &TokenKind) -> bool
     ensures { result ≡ spec.ends_value kind.now }
 {
@@ -148,14 +148,14 @@ pub fn ends_value(kind: &TokenKind) -> bool
     }
 }
 
-/// Whether a name behind it is no column without a table.
+/// Whether a name after it is no column without a table.
 pub fn is_taken(kind: &TokenKind) -> bool
     ensures { result ≡ spec.is_taken kind.now }
 {
     matches!(kind, TokenKind::Terminal(Terminal::As | Terminal::Dot))
 }
 
-/// Whether a dot or a bracket stands first.
+/// Whether a dot or a bracket comes first.
 pub fn goes_on(after: &[Token]) -> bool
     ensures { result ≡ kinds.begins goes_on after.now }
 {
@@ -168,7 +168,7 @@ pub fn goes_on(after: &[Token]) -> bool
     }
 }
 
-/// Whether DISTINCT stands first.
+/// Whether DISTINCT comes first.
 pub fn begins_distinct(tokens: &[Token]) -> bool
     ensures { result ≡ kinds.begins kinds.is_distinct tokens.now }
 {
@@ -178,7 +178,7 @@ pub fn begins_distinct(tokens: &[Token]) -> bool
     }
 }
 
-/// Whether FROM stands first.
+/// Whether FROM comes first.
 pub fn begins_from(tokens: &[Token]) -> bool
     ensures { result ≡ kinds.begins kinds.is_from tokens.now }
 {
@@ -188,7 +188,7 @@ pub fn begins_from(tokens: &[Token]) -> bool
     }
 }
 
-/// Whether ON stands first.
+/// Whether ON comes first.
 pub fn begins_on(tokens: &[Token]) -> bool
     ensures { result ≡ kinds.begins kinds.is_on tokens.now }
 {
@@ -208,7 +208,7 @@ pub fn begins_select(kind: &TokenKind) -> bool
     )
 }
 
-/// Whether a further select stands among the tokens.
+/// Whether a further select is among the tokens.
 pub fn has_select(mut tokens: &[Token]) -> bool
     ensures { result ≡ spec.has spec.begins_select tokens.entry.now }
 {

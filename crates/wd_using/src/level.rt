@@ -1,4 +1,4 @@
-//! How far parts of a select reach: a table of a FROM clause with its condition, a conjunct, a level, and what stands before certain words.
+//! How far parts of a select reach: a table of a FROM clause with its condition, a conjunct, a level, and what comes before certain words.
 
 ghost use Rattle.std.specs.Prelude.{◌≡◌, ◌+◌, ◌<◌, ◌≤◌, ◌^◌, length, take, drop};
 ghost use Rattle.wd_clauses.specs.Reach as clauses;
@@ -16,15 +16,15 @@ pub enum Extent {
     Table,
     /// The level.
     Level,
-    /// What stands before AND.
+    /// What comes before AND.
     Conjunct,
-    /// What stands before OR and CASE.
+    /// What comes before OR and CASE.
     Choice,
-    /// What stands before BETWEEN.
+    /// What comes before BETWEEN.
     Between,
-    /// What stands before a further select.
+    /// What comes before a further select.
     Select,
-    /// What stands before ORDER, LIMIT, OFFSET and FETCH.
+    /// What comes before ORDER, LIMIT, OFFSET and FETCH.
     Limit,
 }
 
@@ -55,7 +55,7 @@ fn depth_after(depth: usize, kind: &TokenKind) -> usize
     }
 }
 
-/// How many tokens stand before the end of a part that begins with them.
+/// How many tokens come before the end of a part that begins with them.
 #[tactic(auto, unfolding(crate::specs::Reach::reach_from))]
 fn reach(extent: Extent, tokens: &[Token]) -> usize
     ensures length { result ≡ spec.reach extent tokens.now }
@@ -75,7 +75,7 @@ fn reach(extent: Extent, tokens: &[Token]) -> usize
     count
 }
 
-/// A part that begins with the tokens, and those behind it.
+/// A part that begins with the tokens, and those after it.
 pub fn split_at(extent: Extent, tokens: &[Token]) -> (&[Token], &[Token])
     ensures part { result.0.now ≡ take (spec.reach extent tokens.now) tokens.now }
     ensures behind { result.1.now ≡ drop (spec.reach extent tokens.now) tokens.now }

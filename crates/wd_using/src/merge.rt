@@ -104,7 +104,7 @@ pub fn merged_of<'t>(
     Ok(Some(merged))
 }
 
-/// Adds names behind others.
+/// Adds names after others.
 fn add_names<'t>(written: &mut Vec<&'t Token>, mut names: &[&'t Token]) -> Result<(), AllocError>
     ensures { IfOk result (λ _. map (λ name. name.now) written.new.items ≡ map (λ name. name.now) written.old.items ++ map (λ name. name.now) names.entry.now) }
 {

@@ -68,7 +68,7 @@ fn are_few(merged: &[Merged]) -> bool
     }
 }
 
-/// What stands for a select behind these tokens, if its items are clear.
+/// What stands for a select after these tokens, if its items are clear.
 fn if_clear(
     alloc: Global,
     front: &[Token],
@@ -104,7 +104,7 @@ fn with_tables(
     }
 }
 
-/// What stands for a select behind these tokens.
+/// What stands for a select after these tokens.
 fn respelled_select(
     alloc: Global,
     schema: &Schema,

@@ -22,7 +22,7 @@ pub struct Select<'t> {
     pub after: &'t [Token],
 }
 
-/// With what stands behind SELECT at its level.
+/// With what follows SELECT at its level.
 fn with_body<'t>(select: &'t Token, body: &'t [Token], after: &'t [Token]) -> Option<Select<'t>>
     ensures { Finds pieces result (spec.with_body select.now body.now after.now) }
 {

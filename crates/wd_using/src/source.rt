@@ -30,7 +30,7 @@ pub struct Source<'t> {
     pub alias: Alias<'t>,
 }
 
-/// `alias`, behind a table's name and AS
+/// `alias`, after a table's name and AS
 fn alias_behind_as<'t>(name: &'t Token, tokens: &'t [Token]) -> Alias<'t>
     ensures alias { named.table_alias result ≡ spec.alias_behind_as name.now tokens.now }
     ensures few { result.count ≤ 3 }
@@ -44,7 +44,7 @@ fn alias_behind_as<'t>(name: &'t Token, tokens: &'t [Token]) -> Alias<'t>
     }
 }
 
-/// `[[AS] alias]`, behind a table's name
+/// `[[AS] alias]`, after a table's name
 pub fn alias_at<'t>(name: &'t Token, tokens: &'t [Token]) -> Alias<'t>
     ensures alias { named.table_alias result ≡ spec.alias_at name.now tokens.now }
     ensures few { result.count ≤ 3 }
@@ -86,7 +86,7 @@ fn column_of(tokens: &[Token]) -> Option<&Token>
     }
 }
 
-/// The name behind AS.
+/// The name after AS.
 pub fn behind_as(tokens: &[Token]) -> Option<&Token>
     ensures { Finds (λ name. name.now) result (items.behind_as tokens.now) }
 {

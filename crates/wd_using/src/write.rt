@@ -113,7 +113,7 @@ fn add_comparison(
     Ok(())
 }
 
-/// Adds a comparison behind a word.
+/// Adds a comparison after a word.
 fn add_compared(
     written: &mut Vec<Token>,
     merged: &[Merged],
@@ -195,7 +195,7 @@ fn add_select(
     Ok(())
 }
 
-/// What stands for a select behind these tokens.
+/// What stands for a select after these tokens.
 pub fn written(
     alloc: Global,
     front: &[Token],

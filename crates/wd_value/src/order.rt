@@ -6,7 +6,7 @@ ghost use Rattle.wd_value.specs.Rows.{column_of};
 use crate::value::Value;
 use std::cmp::Ordering;
 
-/// The direction of a sort, and whether NULL stands before or after all other values.
+/// The direction of a sort, and whether NULL comes before or after all other values.
 #[derive(Clone, Copy, PartialEq, Eq, Debug)]
 pub struct SortKey {
     pub desc: bool,
@@ -21,7 +21,7 @@ pub struct SortColumn {
     pub key: SortKey,
 }
 
-/// The place of one value beside another under a sort key. Whole numbers stand before texts and
+/// The place of one value beside another under a sort key. Whole numbers come before texts and
 /// texts before truth values, which no plan that fits its schema compares (this project's choice).
 pub fn compare(a: &Value, b: &Value, key: SortKey) -> Ordering
     ensures { result ≡ order.compare key a.now b.now }

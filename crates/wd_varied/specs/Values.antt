@@ -21,7 +21,7 @@ held n = if fits_64 n then Int n ∷ [] else []
 abbrev pub numbers_near : ℤ → List Value
 numbers_near n = ((held n ++ held (n +ℤ pos 1)) ++ held ((n +ℤ n) +ℤ pos 2)) ++ held (n -ℤ pos 1)
 
--- the text, the text with an 'a' behind it, and '0'
+-- the text, the text with an 'a' after it, and '0'
 abbrev pub texts_near : List ℕ → List Value
 texts_near bytes = Text bytes ∷ Text (bytes ++ 97 ∷ []) ∷ Text (48 ∷ []) ∷ []
 
@@ -54,7 +54,7 @@ apart type.Text i = Text (word i)
 apart type.Boolean i = Truth (nat_eq (i % 2) 1)
 
 -- the values of a type from a value on: a whole number and those after it, as far as 64 bits hold them; a text, and then the text with
--- a word behind it; else the values of the type
+-- a word after it; else the values of the type
 abbrev pub apart_from : Value → ColumnType → ℕ → Value
 apart_from Null kind i = apart kind i
 apart_from (Int n) kind i = if fits_64 (n +ℤ pos i) then Int (n +ℤ pos i) else apart kind i

@@ -186,7 +186,7 @@ fn apart_from(
     }
 }
 
-/// A text with the word of this number behind it.
+/// A text with the word of this number after it.
 fn with_word(alloc: Global, text: &Text, number: u32) -> Result<Value, OutOfMemory>
     ensures { IfOk result (λ v. v ≡ spec.text (text.now ++ values.word number)) }
 {

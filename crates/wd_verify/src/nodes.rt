@@ -37,7 +37,7 @@ pub(crate) fn left_over(plan: &Plan, entries: usize) -> Option<usize>
     left.checked_sub(1)
 }
 
-/// A limit stands at a Limit alone.
+/// A limit is at a Limit alone.
 fn has_its_limit(plan: &Plan, entry: &Node) -> bool
     ensures { result ≡ spec.has_its_limit (plan_of plan.now) (node_of entry.now) }
 {
@@ -60,9 +60,9 @@ fn has_its_calls(plan: &Plan, entry: &Node) -> bool
 /// What a first look over the entries of a plan sees.
 #[derive(Drop)]
 pub(crate) struct Seen {
-    /// The number behind the plan's top node.
+    /// The number after the plan's top node.
     next: usize,
-    /// Whether limits stand at Limits alone.
+    /// Whether limits are at Limits alone.
     pub(crate) limits: bool,
     /// Whether each node has as many rules as calls.
     pub(crate) calls: bool,
@@ -108,7 +108,7 @@ pub(crate) fn look_over(plan: &Plan, nodes: &[Node], first: usize) -> Seen
 /// What a plan keeps whose entries are valid.
 #[derive(Drop)]
 pub(crate) struct Checked {
-    /// The number behind the plan's top node.
+    /// The number after the plan's top node.
     next: usize,
     /// What the top node's entry keeps.
     kept: Keeps,

@@ -81,7 +81,7 @@ fn starts_among(among: &Set, from: &[u16]) -> bool
     true
 }
 
-/// Whether the first so many columns are reached with the members of the set.
+/// Whether the first N columns are reached with the members of the set.
 #[tactic(auto, using(crate::proofs::Columns::columns_next, crate::proofs::Columns::columns_end))]
 fn reaches_all(facts: &NodeFacts, set: &Set, columns: u16) -> bool
     ensures { result ≡ reaching.reaches_each (seen_of facts.now) (has set.now) (columns_named (all_columns columns)) }
@@ -94,14 +94,14 @@ fn reaches_all(facts: &NodeFacts, set: &Set, columns: u16) -> bool
     true
 }
 
-/// Whether a trace shows that columns give members.
+/// Whether a trace shows that columns determine members.
 fn shows(facts: &NodeFacts, among: &Set, members: &[Member], trace: &Followed) -> bool
     ensures { result ≡ spec.shows (seen_of facts.now) (has_column among.now) members.now (traced_of trace.now) }
 {
     starts_among(among, &trace.from) && reaches_each(facts, &trace.set, members)
 }
 
-/// Whether a trace shows that columns give the first so many.
+/// Whether a trace shows that columns determine the first N.
 fn shows_all(facts: &NodeFacts, among: &Set, columns: u16, trace: &Followed) -> bool
     ensures { result ≡ spec.shows (seen_of facts.now) (has_column among.now) (columns_named (all_columns columns)) (traced_of trace.now) }
 {
@@ -150,7 +150,7 @@ fn check_call(
     refuse_unless(holds, CertError::UnjustifiedCall { node })
 }
 
-/// A call of a Window by its rule; the columns of each class stand at its number.
+/// A call of a Window by its rule; the columns of each class are at its number.
 fn check_call_of(
     evidence: &Evidence,
     columns: u16,
@@ -267,7 +267,7 @@ fn is_whole_or_ties(limit: &Limit) -> bool
     limit.offset == 0 && (limit.count.is_none() || limit.ties)
 }
 
-/// Whether the columns of sort keys give the first so many, by a trace.
+/// Whether the columns of sort keys determine the first N, by a trace.
 fn shows_by_keys(
     alloc: Global,
     facts: &NodeFacts,

@@ -31,7 +31,7 @@ taken_out member query = record {
   read_twice = query.read_twice ++ twice member query.tokens;
 }
 
--- a query without the members that stand before it
+-- a query without the members that come before it
 abbrev pub without : List NamedQuery → Said → Said
 without [] query = query
 without (member ∷ members) query = taken_out member (without members query)

@@ -30,7 +30,7 @@ abbrev pub begins : (TokenKind → Bool) → List Token → Bool
 begins test [] = false
 begins test (token ∷ tokens) = test token.kind
 
--- what stands before a place is the query of that name, and what stands behind the place follows
+-- what comes before a place is the query of that name, and what follows the place follows
 abbrev pub cut_at : Token → List Token → Option ℕ → Option (NamedQuery × List Token)
 cut_at name tokens None = None
 cut_at name tokens (Some place) = Some (record { name = name; query = take place tokens }, drop (place + 1) tokens)
@@ -53,7 +53,7 @@ abbrev pub with_front : NamedQuery → Members → Members
 with_front member None = None
 with_front member (Some found) = Some (member ∷ found.0, found.1)
 
--- the tokens after a comma, where it stands first
+-- the tokens after a comma, where it comes first
 abbrev pub past_comma : List Token → Option (List Token)
 past_comma [] = None
 past_comma (token ∷ tokens) = if is_comma token.kind then Some tokens else None
@@ -67,7 +67,7 @@ abbrev pub with_further : (List Token → Members) → Option (NamedQuery × Lis
 with_further further None = None
 with_further further (Some found) = with_next further found.0 found.1 (past_comma found.1)
 
--- member {, member}, at most so many, and what follows them
+-- member {, member}, at most N, and what follows them
 unfoldable pub members_at : ℕ → List Token → Members
 members_at zero tokens = None
 members_at (suc more) tokens = with_further (members_at more) (member_at tokens)

@@ -1,5 +1,5 @@
--- Where tables stand in a query. A table stands after FROM, after JOIN, and after a comma of a FROM clause at its level. A
--- FROM clause reaches from the FROM behind the items of SELECT to the next WHERE, GROUP, HAVING, WINDOW, ORDER, LIMIT, OFFSET
+-- Where tables are in a query. A table comes after FROM, after JOIN, and after a comma of a FROM clause at its level. A
+-- FROM clause reaches from the FROM after the items of SELECT to the next WHERE, GROUP, HAVING, WINDOW, ORDER, LIMIT, OFFSET
 -- or FETCH, or to the end of its level; IS DISTINCT FROM is none. A bracket that opens where a table stands may hold tables too.
 use Rattle.std.specs.Prelude.{Bool, true, false, List, [], ◌∷◌}
 use Rattle.wd_lex.specs.declared.token.Terminal.TheVariants as m
@@ -8,7 +8,7 @@ use Rattle.wd_lex.specs.declared.token.TokenKind.TheVariants as t
 use Rattle.wd_with.specs.declared.place.Place.{Place}
 use Rattle.wd_with.specs.declared.place.Place.TheVariants as place
 
--- after a token that stands in no FROM clause and among no items
+-- after a token that is in no FROM clause and among no items
 abbrev pub after_elsewhere : TokenKind → Place
 after_elsewhere (t.Terminal m.Select) = place.Items
 after_elsewhere _ = place.Elsewhere
@@ -54,7 +54,7 @@ levels_after (here ∷ outer) (t.Terminal m.LeftBracket) = inside here ∷ place
 levels_after (here ∷ outer) (t.Terminal m.RightBracket) = outer
 levels_after (here ∷ outer) kind = place_after here kind ∷ outer
 
--- a table stands there
+-- a table is there
 abbrev pub is_table : List Place → Bool
 is_table (place.Table ∷ outer) = true
 is_table _ = false

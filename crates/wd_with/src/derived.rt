@@ -21,7 +21,7 @@ pub struct Respelled {
     pub uses: usize,
 }
 
-/// Whether a name goes on with what stands first, or is a function's.
+/// Whether a name goes on with what comes first, or is a function's.
 fn goes_on(after: &[Token]) -> bool
     ensures { result ≡ begins spec.goes_on after.now }
 {
@@ -34,7 +34,7 @@ fn goes_on(after: &[Token]) -> bool
     }
 }
 
-/// Whether AS stands first.
+/// Whether AS comes first.
 fn begins_as(after: &[Token]) -> bool
     ensures { result ≡ begins is_as after.now }
 {
@@ -44,7 +44,7 @@ fn begins_as(after: &[Token]) -> bool
     }
 }
 
-/// Whether a name stands first.
+/// Whether a name comes first.
 fn begins_name(after: &[Token]) -> bool
     ensures { result ≡ begins is_name after.now }
 {

@@ -47,7 +47,7 @@ fn taken_out(alloc: Global, member: &Member, query: Expanded) -> Result<Expanded
     })
 }
 
-/// A query without the members that stand before it.
+/// A query without the members that come before it.
 fn without(
     alloc: Global,
     mut members: Vec<Member>,

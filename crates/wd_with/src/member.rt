@@ -41,7 +41,7 @@ fn opens(kind: &TokenKind) -> bool
     matches!(kind, TokenKind::Terminal(Terminal::LeftBracket))
 }
 
-/// Whether SELECT or WITH stands first.
+/// Whether SELECT or WITH comes first.
 fn begins_query(tokens: &[Token]) -> bool
     ensures { result ≡ spec.begins spec.is_query tokens.now }
 {
@@ -80,7 +80,7 @@ fn member_at(tokens: &[Token]) -> Option<(Member<'_>, &[Token])>
 // The most members of a WITH clause.
 const MOST_MEMBERS: usize = 64;
 
-/// The tokens after a comma, where it stands first.
+/// The tokens after a comma, where it comes first.
 fn past_comma(tokens: &[Token]) -> Option<&[Token]>
     ensures { Finds (λ r. r.now) result (spec.past_comma tokens.now) }
 {

@@ -1,4 +1,4 @@
-//! Where tables stand in a query.
+//! Where tables are in a query.
 
 ghost use Rattle.std.specs.Prelude.{◌≡◌, IfOk, reverse};
 ghost use Rattle.wd_with.specs.Places as spec;
@@ -9,7 +9,7 @@ use wd_lex::{Terminal, TokenKind};
 /// Where a token stands, as far as tables go.
 #[derive(Clone, Copy, PartialEq, Eq)]
 pub enum Place {
-    /// Before SELECT, and behind the FROM clause.
+    /// Before SELECT, and after the FROM clause.
     Elsewhere,
     /// Among the items of SELECT.
     Items,
@@ -21,7 +21,7 @@ pub enum Place {
     Joined,
 }
 
-/// The place after a token that stands in no FROM clause and among no items.
+/// The place after a token that is in no FROM clause and among no items.
 fn after_elsewhere(kind: &TokenKind) -> Place
     ensures { result ≡ spec.after_elsewhere kind.now }
 {
@@ -106,7 +106,7 @@ pub fn pass(levels: &mut Vec<Place>, kind: &TokenKind) -> Result<(), AllocError>
     }
 }
 
-/// Whether a table stands there.
+/// Whether a table is there.
 pub fn is_table(levels: &[Place]) -> bool
     ensures { result ≡ spec.is_table (reverse levels.now) }
 {

@@ -21,7 +21,7 @@ pub record WitnessRecord : Type 0 where
   pub first : List (List ℕ)
   pub second : List (List ℕ)
 
--- the rows that stand under a name in the code
+-- the rows that are under a name in the code
 abbrev pub table_rows : String Global × Vec (Vec Value Global) Global → TableRows
 table_rows entry = record { name = string_bytes entry.0; rows = rows_of entry.1.items }
 

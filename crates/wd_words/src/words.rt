@@ -48,7 +48,7 @@ fn request_in<'a>(alloc: Global, matches: &ArgMatches<'a>) -> Result<Request<'a>
     })
 }
 
-// What stands below the words in the program's help.
+// What is below the words in the program's help.
 const STATUSES: &str =
     "Each statement of each file is judged. A file's schema is FILE, or schema.sql beside it or in the nearest folder above it.
 
@@ -59,7 +59,7 @@ Exit status:
   3  a path, a schema, a baseline, a lock or a word of the command line is wrong, or a file can't be written
 With --fix it is that of the files as they are written.";
 
-// What stands below the words in the help of `lock`.
+// What is below the words in the help of `lock`.
 const LOCKS: &str =
     "The lock of latest.sql is latest.sql.cert. It has a line for each query of the file: its certificate, or null where none is found.
 wdreport PATH.. counts a query as deterministic where its certificate still holds, and tells which queries lost theirs.
