@@ -7,6 +7,6 @@ use Rattle.std.specs.Ordering.{is_gt, is_lt}
 abbrev pub starts_at : (ℕ → ℕ → Ordering) → List ℕ → ℕ → ℕ
 starts_at order grouped p = count_by (λ q. is_lt (order q p)) grouped
 
--- how many come before the end of p's partition
+-- how many of the positions come before the end of p's partition
 abbrev pub ends_at : (ℕ → ℕ → Ordering) → List ℕ → ℕ → ℕ
 ends_at order grouped p = count_by (λ q. not (is_gt (order q p))) grouped

@@ -1,4 +1,9 @@
 //! Orderings of rows under a class, and the partitions of a class.
+//!
+//! `ordering` sorts rows, or checks a given ordering by sorting it once more by partition alone, and `steps` compares neighbours along
+//! the sorted positions. From these `runs` finds where partitions begin and end, `groups` the peer groups and `placing` each row's place;
+//! `members` keeps the result, and `listing` is the way in. Rows are sorted by wd_sort, many rows by numbers in their place, so that two
+//! rows are compared in constant time.
 #![tactic(auto)]
 
 mod columns;

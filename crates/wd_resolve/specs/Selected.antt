@@ -99,7 +99,7 @@ together (Some before) current = joined None before current
 abbrev pub scope_so_far : FromSoFar → ScopeRule
 scope_so_far from = (together from.before from.current).scope
 
--- a FROM has at most 8 tables and 1,024 columns (own)
+-- a FROM has at most 8 tables and 1,024 columns (this project's choice)
 abbrev pub are_too_many : ℕ → ℕ → Bool
 are_too_many tables columns = nat_lt 8 tables || nat_lt 1024 columns
 

@@ -160,7 +160,7 @@ abbrev pub columns_only : List (Operand SelectLeaf) → Meant (List ℕ)
 columns_only [] = Ok []
 columns_only (x ∷ xs) = column_only x >>= λ n. columns_only xs >>= λ ns. Ok (n ∷ ns)
 
--- GROUPING takes 1 to 31 columns (own)
+-- GROUPING takes 1 to 31 columns (this project's choice)
 abbrev pub grouping_over : List ℕ → Meant GroupCall
 grouping_over columns = if nat_le 1 (length columns) && nat_le (length columns) 31 then Ok (grouping columns) else Err WrongCall
 

@@ -75,7 +75,7 @@ no_groups = record { columns = []; sets = [] ∷ [] }
 abbrev pub joined_sets : GroupedBy → GroupingWord → List (List ℕ) → GroupedBy
 joined_sets so_far word sets = record { columns = with_new nat_eq so_far.columns (flat_map (λ s. s) sets); sets = crossed_sets so_far.sets (made_of word sets) }
 
--- at most 64 sets are made (own)
+-- at most 64 sets are made (this project's choice)
 abbrev pub with_sets : GroupedBy → GroupingWord → List (List ℕ) → Meant GroupedBy
 with_sets so_far word sets = if nat_lt 64 (length so_far.sets * count_made word (length sets)) then Err TooManySets else Ok (joined_sets so_far word sets)
 

@@ -165,16 +165,16 @@ abbrev pub has_calls : List CallMeaning → Bool
 has_calls [] = false
 has_calls (c ∷ calls) = true
 
--- the Window has more than 1,024 columns, where there are calls (own)
+-- the Window has more than 1,024 columns, where there are calls (this project's choice)
 abbrev pub is_window_wide : Needs → Bool
 is_window_wide needs = has_calls needs.calls && nat_lt 1024 (length needs.inputs + length needs.calls)
 
--- the Group has more than 1,024 columns (own); the Map below it has no more than the Group, since a call has one argument at most
+-- the Group has more than 1,024 columns (this project's choice); the Map below it has no more than the Group, since a call has one argument at most
 abbrev pub is_group_wide : Option GroupedBy → List GroupCall → Bool
 is_group_wide None calls = false
 is_group_wide (Some g) calls = nat_lt 1024 (length g.columns + length calls)
 
--- some node above FROM has more than 1,024 columns: the Map of so many expressions, or what is below it (own)
+-- some node above FROM has more than 1,024 columns: the Map of so many expressions, or what is below it (this project's choice)
 abbrev pub is_wide : ℕ → Option GroupedBy → Needs → Bool
 is_wide shown grouped needs = nat_lt 1024 shown || (is_window_wide needs || is_group_wide grouped needs.groups)
 

@@ -34,7 +34,7 @@ expressions_of outputs = map (λ (output : OutputMeaning). output.expression) ou
 
 -- ---- names
 
--- An output without an alias is called by its column's name, or by its function's name, else `?column?` (own); brackets and plus
+-- An output without an alias is called by its column's name, or by its function's name, else `?column?` (this project's choice); brackets and plus
 -- signs don't count.
 abbrev pub name_of : Tree → List ℕ
 name_of (tree.Column name) = name.text

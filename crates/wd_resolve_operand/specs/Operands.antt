@@ -40,7 +40,7 @@ abbrev pub of_kind : {L : Type 0} → ValueKind → Operand L → Meant (Formula
 of_kind kind bare_null = Ok (f.Literal Null kind)
 of_kind kind (typed a other) = if same_kind kind other then Ok a else Err Types
 
--- an operand in a place that asks for none: a bare NULL is a text (own)
+-- an operand in a place that asks for none: a bare NULL is a text (this project's choice)
 abbrev pub kind_of : {L : Type 0} → Operand L → ValueKind
 kind_of bare_null = Text
 kind_of (typed a kind) = kind
@@ -49,7 +49,7 @@ abbrev pub settled : {L : Type 0} → Operand L → Formula L
 settled bare_null = f.Literal Null Text
 settled (typed a kind) = a
 
--- several operands ask for the kind of the first of them that is no bare NULL (own)
+-- several operands ask for the kind of the first of them that is no bare NULL (this project's choice)
 abbrev pub asked_by_all : {L : Type 0} → List (Operand L) → ValueKind
 asked_by_all [] = Text
 asked_by_all (bare_null ∷ operands) = asked_by_all operands

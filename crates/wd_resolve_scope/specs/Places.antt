@@ -3,7 +3,7 @@ use Rattle.std.specs.Prelude.{Bool, true, false}
 use Rattle.wd_resolve_scope.specs.declared.context.Place.{Place}
 use Rattle.wd_resolve_scope.specs.declared.context.Place.TheVariants.{SelectList, On, Where, Having, Window, Argument, Aggregated, SortKey}
 
--- window calls are in the select list alone (own: SQL and PG allow them in the final ORDER BY too)
+-- window calls are in the select list alone (this project's choice: SQL and PG allow them in the final ORDER BY too)
 abbrev pub allows_window_calls : Place → Bool
 allows_window_calls SelectList = true
 allows_window_calls On = false

@@ -96,7 +96,7 @@ named_place s name a = first_named name.text s.outputs >>= λ number. or_express
 abbrev pub ordinal : List OutputMeaning → ℕ → Meant KeyPlace
 ordinal outputs n = if nat_le 1 n && nat_le n (length outputs) then Ok (output (n - 1)) else Err WrongSortKey
 
--- a bare number is an ordinal, and no other bare literal may appear here (own)
+-- a bare number is an ordinal, and no other bare literal may appear here (this project's choice)
 abbrev pub literal_place : List OutputMeaning → Literal → Meant KeyPlace
 literal_place outputs (l.Number n) = number n >>= λ m. ordinal outputs m
 literal_place outputs literal = Err WrongSortKey

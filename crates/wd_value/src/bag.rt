@@ -5,8 +5,7 @@ ghost use Rattle.wd_value.specs.Rows as spec;
 
 use crate::value::{Row, Value, same};
 
-/// Whether each row appears equally often in both lists. Takes no memory; the time is linear in the
-/// product of the lengths.
+/// Whether each row appears equally often in both lists. Takes no memory; the time is linear in the product of the lengths.
 pub fn same_bag(first: &[Row], second: &[Row]) -> bool
     ensures { IsTrue result ↔ SameBag spec.same_row (rows_of first.now) (rows_of second.now) }
 {
@@ -25,7 +24,7 @@ fn count_equally(rows: &[Row], first: &[Row], second: &[Row]) -> bool
     true
 }
 
-// How often a row is in a list.
+// How often a row appears in a list.
 fn count(row: &[Value], rows: &[Row]) -> usize
     ensures { result ≡ times spec.same_row row.now (rows_of rows.now) }
 {
