@@ -134,7 +134,7 @@ fn set(
     }
 }
 
-/// Whether empty sets may appear between its brackets.
+/// Whether empty sets may appear between the brackets of the word.
 fn may_hold_empty(word: GroupingWord) -> bool
     ensures { result ≡ takes_empty word }
 {
@@ -145,7 +145,7 @@ fn may_hold_empty(word: GroupingWord) -> bool
     }
 }
 
-/// `ROLLUP` or `CUBE` before a bracket, or `GROUPING SETS`, where it comes first.
+/// `ROLLUP` or `CUBE` before a bracket, or `GROUPING SETS`, if the tokens begin with one.
 #[tactic(auto, unfolding(crate::specs::Reading::grouping_word_at))]
 fn word_at(tokens: &[Token]) -> Option<(GroupingWord, &[Token])>
     ensures { Finds (λ x. (x.0, kinds_of x.1.now)) result (grouping_word_at (kinds_of tokens.now)) }

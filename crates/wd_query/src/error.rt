@@ -18,7 +18,7 @@ pub enum QueryError {
     /// 201 and 202: the tokens are no query, or pass a limit.
     #[error(transparent)]
     Tree(ParseError),
-    /// 401 to 415: the query has no plan.
+    /// 401 to 419: the query has no plan.
     #[error(transparent)]
     Meaning(ResolveError),
 }

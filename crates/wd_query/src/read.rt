@@ -27,7 +27,7 @@ pub struct PlannedQuery {
 
 /// The schema of a text, and the plan of a query's text over its tables. The schema is read first.
 ///
-/// Each refusal comes only where its cause stands: 101 to 107 and 301 to 309 of the schema; 101 to 107, 201, 202 and 401 to 415 of
+/// Each refusal comes only where its cause stands: 101 to 107 and 301 to 309 of the schema; 101 to 107, 201, 202 and 401 to 419 of
 /// the query.
 pub fn read_texts(alloc: Global, schema: &[u8], query: &[u8]) -> Result<PlannedQuery, TextError>
     ensures read { IfOk result (λ p. IsRead schema.now query.now p) }

@@ -38,7 +38,7 @@ letters k.Sets = codes "sets"
 letters k.Ties = codes "ties"
 letters k.Unbounded = codes "unbounded"
 
--- such a word, and the tokens after it
+-- a word that is a key word in its place, and the tokens after it
 infixr 20 ◌▹◌
 abbrev pub ◌▹◌ : KeyWord → Kinds → Kinds
 x ▹ ts = t.Word (letters x) ∷ ts

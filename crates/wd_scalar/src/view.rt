@@ -1,4 +1,4 @@
-//! Rows to be read by an expression.
+//! Rows as an expression reads them.
 
 ghost use Rattle.std.specs.Prelude.{◌≡◌, ◌++◌};
 ghost use Rattle.wd_value.specs.Rows.{column_of};
@@ -7,8 +7,7 @@ ghost use Rattle.wd_value.specs.declared.value.Value.TheVariants as value;
 use std::marker::Model;
 use wd_value::Value;
 
-/// The values of two rows, the first one's before the second one's, where they are. Contracts see one
-/// row.
+/// The values of two rows, the first row's before the second's, without a copy. Contracts see one row.
 #[derive(Drop)]
 pub(crate) struct RowView<'a> {
     first: &'a [Value],
@@ -42,7 +41,7 @@ impl<'a> RowView<'a> {
         RowView { first, second }
     }
 
-    /// The value in a column, and `null` past the last.
+    /// The value in a column, and `null` past the last column.
     pub fn value<'b>(&'b self, column: usize, null: &'b Value) -> &'b Value
         requires { null.now ≡ value.Null }
         ensures { result.now ≡ column_of self.now column }

@@ -1,4 +1,4 @@
--- Positions of rows in the order of a key, and rows that violate it side by side.
+-- Positions of rows in the order of a key, and neighbours that violate it.
 use Rattle.std.specs.Prelude.{◌≡◌, ◌+◌, ◌<◌, ℕ, true, false, List, map, length, Option, Some, None, if◌then◌else◌, nat_lt, slice_index_or}
 use Rattle.std.specs.Ordering.{is_lt}
 use Rattle.wd_value.specs.declared.order.SortKey.{SortKey}
@@ -19,7 +19,7 @@ sort_columns columns = map (λ c. record { column = c; key = ascending }) column
 abbrev pub AreInOrder : List SortColumn → List Row → Type 0
 AreInOrder columns rows = (k : ℕ) → k + 1 < length rows → is_lt (compare_rows_at columns rows (k + 1) k) ≡ false
 
--- the row at position q is in the order right after one with which it violates the key
+-- the row at position q comes in the order directly after one with which it violates the key
 abbrev pub ViolatesBefore : KeyRule → List Row → List ℕ → ℕ → Type 0
 ViolatesBefore key rows order q =
     (i : ℕ) × (i + 1 < length order) × (slice_index_or order (i + 1) 0 ≡ q) × (violates key (row_at rows (slice_index_or order i 0)) (row_at rows q) ≡ true)
