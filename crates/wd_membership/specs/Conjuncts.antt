@@ -1,5 +1,5 @@
--- The conjuncts of a WHERE clause: what is between WHERE, AND and AND, outside brackets. The AND of BETWEEN parts two of
--- them as well, so that what follows it is never a conjunct alone. Where OR or CASE is outside brackets, none is read.
+-- The conjuncts of a WHERE clause: the tokens between WHERE, AND and AND, outside brackets. The AND of BETWEEN separates two of them as
+-- well, so the tokens after it are never read as a conjunct of their own. Where OR or CASE is outside brackets, no conjunct is read.
 use Rattle.std.specs.Prelude.{ℕ, zero, suc, not, if◌then◌else◌, Bool, List, [], ◌∷◌, take, drop, Option, Some, None}
 use Rattle.wd_lex.specs.declared.token.Token.{Token}
 use Rattle.wd_distinct_on.specs.Lists.{with_front}
@@ -13,14 +13,14 @@ pub record Conjunct : Type 0 where
   pub word : Token
   pub test : List Token
 
--- what ends such a part is there, outside brackets
+-- the tokens begin with what ends such a part, outside brackets
 abbrev pub stands : Extent → List Token → Bool
 stands part tokens = not (is_end (drop (reach part tokens) tokens))
 
 abbrev pub conjunct_at : Token → List Token → Conjunct
 conjunct_at word tokens = record { word = word; test = take (reach extent.Conjunct tokens) tokens }
 
--- word test {word test}, at most N
+-- word test {word test}, at most the given number of tests
 unfoldable pub conjuncts_at : ℕ → List Token → Option (List Conjunct)
 conjuncts_at more [] = Some []
 conjuncts_at zero (word ∷ tokens) = None

@@ -17,7 +17,7 @@ pub struct Conjunct<'t> {
     pub test: &'t [Token],
 }
 
-/// Whether what ends such a part is there, outside brackets.
+/// Whether the tokens begin with what ends such a part, outside brackets.
 pub fn stands(part: Extent, tokens: &[Token]) -> bool
     ensures { result ≡ spec.stands part tokens.now }
 {
@@ -47,7 +47,7 @@ fn conjuncts_at(alloc: Global, tokens: &[Token]) -> Result<Option<Vec<Conjunct<'
     Ok(Some(conjuncts))
 }
 
-/// The conjuncts of a WHERE clause, if neither OR nor CASE is among them, and there are at most 64.
+/// The conjuncts of a WHERE clause, if it has neither OR nor CASE outside brackets, and at most 64 conjuncts.
 pub fn conjuncts(alloc: Global, tokens: &[Token]) -> Result<Option<Vec<Conjunct<'_>>>, AllocError>
     ensures { IfOk result (λ found. Finds (λ x. map named.conjunct x.items) found (spec.conjuncts tokens.now)) }
 {

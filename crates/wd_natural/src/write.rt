@@ -27,7 +27,7 @@ fn has_column(name: &str, mut columns: &[&str]) -> bool
     false
 }
 
-/// The columns that are among others.
+/// The columns that both tables have.
 fn common<'t>(alloc: Global, left: &[&str], columns: &[&'t str]) -> Result<Vec<&'t str>, AllocError>
     ensures { IfOk result (λ x. map (λ name. name.now) x.items ≡ spec.common (map (λ column. column.now) left.now) (map (λ column. column.now) columns.now)) }
 {
@@ -76,7 +76,7 @@ fn add_names(
     Ok(())
 }
 
-/// Adds `USING ( names )`, or ON TRUE where there is none.
+/// Adds `USING ( names )`, or ON TRUE where there are no names.
 fn add_condition(
     alloc: Global,
     written: &mut Vec<Token>,
@@ -160,7 +160,7 @@ fn add_all_joined(
     Ok(())
 }
 
-/// What stands for a FROM clause between these tokens.
+/// What replaces a FROM clause between these tokens.
 pub fn written(
     alloc: Global,
     front: &[Token],
