@@ -22,7 +22,7 @@ use Rattle.wd_moments.specs.Literals.{word_token}
 
 -- ---- two amounts
 
--- the unit is known; a number that is written has none
+-- the unit is known, and is not that of a plain number
 abbrev pub is_known : Option Counts → Bool
 is_known None = false
 is_known (Some unit) = not (is_number unit)

@@ -58,7 +58,7 @@ pub struct Standing {
     pub is_simple: bool,
 }
 
-/// Whether the unit is known; a number that is written has none.
+/// Whether the unit is known, and is not that of a plain number.
 fn is_known(unit: Option<Unit>) -> bool
     ensures { result ≡ spec.is_known unit }
 {

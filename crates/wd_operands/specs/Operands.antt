@@ -141,7 +141,7 @@ unfoldable pub link_length : List Token → ℕ
 link_length [] = 0
 link_length (token ∷ tokens) = if is_operator token.kind then (if factor_length tokens == 0 then 0 else 1 + factor_length tokens) else 0
 
--- the tokens up to the given number and all links after them; the second number bounds the turns
+-- how many tokens an operand takes with all links from here on, added to a count; the first number bounds the turns
 unfoldable pub links_from : ℕ → ℕ → List Token → ℕ
 links_from zero count tokens = count
 links_from (suc turns) count tokens = if link_length tokens == 0 then count else links_from turns (count + link_length tokens) (drop (link_length tokens) tokens)

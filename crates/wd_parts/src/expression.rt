@@ -119,7 +119,7 @@ fn add_arms(walk: &mut Walk, arms: &[Arm]) -> Result<(), OutOfMemory> {
     Ok(())
 }
 
-/// Adds the parts of what ELSE gives, where it is written.
+/// Adds the parts of the operand of ELSE, if it is written.
 #[cycle(walk)]
 fn add_else(walk: &mut Walk, other: &Option<Box<Expr>>) -> Result<(), OutOfMemory> {
     match other {

@@ -1,4 +1,4 @@
--- What a site says, in terms of the tokens of its text.
+-- Sites, in terms of the tokens of their text.
 use Rattle.std.specs.Prelude.{◌≡◌, ℕ, ◌<◌, ◌≤◌, List, IfSome, Option, Some, None, slice_get}
 use Rattle.wd_lex.specs.declared.token.Span.{Span}
 use Rattle.wd_lex.specs.declared.token.Token.{Token}
@@ -9,7 +9,7 @@ use Rattle.wd_sites.specs.declared.site.KeyPlace.{KeyPlace}
 use Rattle.wd_sites.specs.declared.site.PlanSite.{PlanSite}
 use Rattle.wd_sites.specs.declared.site.Site.{Site}
 
--- the bytes from the beginning of the token with one number to the end of that with another, which is none before it
+-- the bytes from the beginning of the token with one number to the end of the token with another, which does not come before it
 pub record IsStretch (tokens : List Token) (first last : ℕ) (span : Span) : Type 0 where
   pub ordered : first ≤ last
   pub first_token : Token
