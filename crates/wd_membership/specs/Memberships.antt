@@ -169,7 +169,7 @@ pub record Member : Type 0 where
 abbrev pub member_of : Bool → Conjunct → Member
 member_of is_behind conjunct = record { conjunct = conjunct; membership = (if is_behind then None else membership_at conjunct.test) }
 
--- conjuncts as they are read
+-- the conjuncts as they are read
 abbrev pub members : Bool → List Conjunct → List Member
 members is_behind [] = []
 members is_behind (conjunct ∷ conjuncts) = member_of is_behind conjunct ∷ members (stands extent.Between conjunct.test) conjuncts

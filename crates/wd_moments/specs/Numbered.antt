@@ -38,7 +38,7 @@ module _ (itself : List Token → List Token) (known : Known) where
   abbrev pub midnight : Place → List Token → List Token
   midnight at tokens = (midnight_front at ++ side itself known Days tokens) ++ midnight_back at
 
-  -- a side of a comparison beside one that counts another unit or the same
+  -- a side of a comparison, by its own unit and that of the other side
   abbrev pub side_beside : Place → Counts → Counts → List Token → List Token
   side_beside at Days Microseconds tokens = midnight at tokens
   side_beside at unit other tokens = side itself known unit tokens

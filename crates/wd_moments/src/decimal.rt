@@ -1,4 +1,4 @@
-//! Numbers beside decimals, put as units of their last place.
+//! Numbers beside decimals, written as units of their last place.
 
 ghost use Rattle.std.specs.Prelude.{◌≡◌, ◌∷◌, [], ◌≤◌, ◌+◌, length, true, IfOk};
 ghost use Rattle.wd_moments.specs.Given.{Adds, most_tokens};

@@ -392,8 +392,8 @@ fn unit_after(
     }
 }
 
-/// The first THEN or ELSE after which it isn't clear what the values of a CASE count; this is between CASE and its END, and so many
-/// tokens come before it.
+/// The first THEN or ELSE between CASE and its END after which it isn't clear what the values of the CASE count; `count` tokens come
+/// before these tokens.
 #[tactic(auto, unfolding(crate::specs::Unlike::branch_from))]
 fn branches_clash(known: &KnownNames, count: usize, inside: &[Token]) -> Option<Unlike>
     requires { count + length inside.now ≤ 9223372036854775807 }

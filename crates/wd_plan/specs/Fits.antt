@@ -135,7 +135,7 @@ kind_of_call kinds call = kind_of_function kinds call.function
 abbrev pub has_extremes : Option ValueKind → Bool
 has_extremes kind = is_kind Number kind || is_kind Text kind
 
--- what a signature asks of the kind of the argument
+-- whether the argument's kind is as a signature requires
 abbrev pub is_argument : Argument → Option ValueKind → Bool
 is_argument asks.Nothing kind = true
 is_argument asks.Any kind = is_some kind

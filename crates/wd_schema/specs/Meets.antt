@@ -1,4 +1,4 @@
--- When the rows of a table meet what its declaration asks (SQL:2003 part 2: column and unique constraints).
+-- When the rows of a table meet what its declaration requires (SQL:2003 part 2: column and unique constraints).
 use Rattle.std.specs.Prelude.{◌≡◌, ℕ, ◌^◌, ◌-◌, ◌&&◌, Bool, true, false, not, List, [], ◌∷◌, All, AllPairs, length, slice_get, Some, ℤ, pos, negsuc, int_le}
 use Rattle.std.specs.List.{list_any, list_all}
 use Rattle.wd_value.specs.declared.value.Value.{Value}
