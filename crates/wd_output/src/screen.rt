@@ -50,7 +50,7 @@ impl From<io::Error> for ScreenError {
     }
 }
 
-/// Is told the progress of a run.
+/// Receives the progress of a run.
 pub trait Watch {
     /// One more file is begun.
     fn begin_file(&mut self);

@@ -2,8 +2,8 @@
 //!
 //! `ordering` sorts rows, or checks a given ordering by sorting it once more by partition alone, and `steps` compares neighbours along
 //! the sorted positions. From these `runs` finds where partitions begin and end, `groups` the peer groups and `placing` each row's place;
-//! `members` keeps the result, and `listing` is the way in. Rows are sorted by wd_sort, many rows by numbers in their place, so that two
-//! rows are compared in constant time.
+//! `members` keeps the result, and `listing` is the way in. wd_sort sorts; many rows are sorted and compared by numbers in their place,
+//! if they have such numbers.
 #![tactic(auto)]
 
 mod columns;

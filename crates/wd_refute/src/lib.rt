@@ -4,7 +4,7 @@
 //! `texts` is the way in, and `judge` evaluates the plan under both choices of a witness. Two outcomes agree where each row appears
 //! equally often in both: `numbers` makes a number of each row from the `places` of its values, and `kept` keeps only these sorted
 //! numbers of the first outcome; where a row has no number, `outcome` and `rows` sort the rows themselves. `laws` states that no
-//! certificate is accepted beside a witness.
+//! certificate is accepted for texts with an accepted witness.
 #![tactic(auto)]
 
 mod error;

@@ -3,7 +3,7 @@
 //!
 //! `search` goes through the candidates for each reason of an analysis, and `tried` skips those that do not meet the schema. `probed`
 //! evaluates a candidate under one choice after another until two outcomes differ, by `evaluated`, and `witness` makes the witness of
-//! them. The search is bounded by a number of evaluations, so that it ends for every plan.
+//! them. The number of evaluations is bounded.
 #![tactic(auto)]
 
 mod evaluated;
