@@ -40,7 +40,7 @@ struct Verified {
 /// rows that tie, one multiset of rows or one fault. No query is evaluated.
 ///
 /// Each refusal occurs only where its cause holds, in this order: 101 to 107 and 301 to 309 of the schema; 101 to 107, 201, 202 and 401
-/// to 415 of the query; 501 to 503 of the certificate's text; 503 for version 1 where the plan has a Group; 504, or 502 for a limit at
+/// to 419 of the query; 501 to 503 of the certificate's text; 503 for version 1 where the plan has a Group; 504, or 502 for a limit at
 /// a node that is no Limit; 505 to 510 at the first node in postorder whose entry is not valid.
 pub fn verify(
     alloc: Global,

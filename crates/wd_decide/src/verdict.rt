@@ -40,7 +40,7 @@ pub enum Verdict {
 
 /// The plan of a schema's text and a query's text, and which rules justify its calls and limits. The schema is read first.
 ///
-/// Each refusal occurs only where its cause holds: 101 to 107 and 301 to 309 of the schema; 101 to 107, 201, 202 and 401 to 415 of the
+/// Each refusal occurs only where its cause holds: 101 to 107 and 301 to 309 of the schema; 101 to 107, 201, 202 and 401 to 419 of the
 /// query.
 pub fn examine(alloc: Global, schema: &[u8], query: &[u8]) -> Result<Examined, DecideError>
     ensures examined { IfOk result (IsExamined schema.now query.now) }

@@ -1,4 +1,4 @@
--- What a page is made of.
+-- The pieces of a page.
 use Rattle.std.specs.Prelude.{◌≡◌, ℕ, List, [], ◌∷◌, ◌++◌, flat_map, codes}
 use Rattle.std.specs.Fmt.{decimal}
 use Rattle.wd_markup.specs.Escapes.{escaped}
@@ -7,7 +7,7 @@ use Rattle.wd_markup.specs.declared.style.TheConstants.{BEGIN, END}
 use Rattle.wd_markup.specs.declared.vocabulary.Class.{Class}
 use Rattle.wd_markup.specs.declared.vocabulary.Tag.{Tag}
 
--- a tag of fixed words and a number, or a text from anywhere
+-- a tag of fixed words and a number, or any text
 pub data Piece : Type 0 where
   Begin : Piece
   End : Piece
@@ -22,11 +22,11 @@ pub data Piece : Type 0 where
 abbrev pub id_words : ℕ → List ℕ
 id_words n = codes " id='q" ++ decimal n ++ codes "'>"
 
--- the attribute that says how long a span of a bar is, and the end of its tag
+-- the attribute for the length of a span of a bar, and the end of its tag
 abbrev pub share_words : ℕ → List ℕ
 share_words n = codes " style='flex-grow:" ++ decimal n ++ codes "'>"
 
--- A piece as it stands in a page. The words of the file's head and its style are those of two constants.
+-- A piece as it appears in a page. The head of the file and its style are two constants.
 abbrev pub shown_piece : Piece → List ℕ
 shown_piece Begin = BEGIN.now
 shown_piece End = END.now
@@ -40,6 +40,6 @@ shown_piece (Text text) = escaped text
 abbrev pub shown : List Piece → List ℕ
 shown pieces = flat_map shown_piece pieces
 
--- Bytes of a page: all of them are tags of fixed words, and escaped texts. So what comes from an input stands in it only escaped.
+-- The bytes of a page: all of them are tags of fixed words, or escaped texts. So a text from an input appears only escaped.
 abbrev pub IsPage : List ℕ → Type 0
 IsPage bytes = ∥ ((pieces : List Piece) × (bytes ≡ shown pieces)) ∥₁

@@ -1,4 +1,4 @@
--- The words that tags are made of.
+-- The words of which tags are made.
 use Rattle.std.specs.Prelude.{ℕ, List, [], codes}
 use Rattle.wd_markup.specs.declared.vocabulary.Tag.{Tag}
 use Rattle.wd_markup.specs.declared.vocabulary.Tag.TheVariants.{Main, Header, Footer, Section, Division, TitleHeading, SectionHeading, PartHeading, Paragraph, Table, TableHead, TableBody, Row, HeadCell, DataCell, Numbered, Bulleted, Item, Preformatted, Code, Mark, Deleted, Inserted, Strong, Span, Details, Summary, Figure, Caption, Link}

@@ -1,4 +1,4 @@
-//! Texts as they stand in HTML.
+//! Texts as they appear in HTML.
 
 ghost use Rattle.std.specs.Prelude.{◌≡◌, ◌++◌, ◌<◌, [], ◌∷◌, IfOk, OnOk, string_bytes};
 ghost use Rattle.wd_markup.specs.Escapes as spec;
@@ -39,7 +39,7 @@ fn push_escaped(text: &mut String, c: char) -> Result<(), AllocError>
     }
 }
 
-/// Appends a character, or its name where it can't be seen.
+/// Appends a character, or its name where it is invisible.
 fn push_seen(text: &mut String, c: char) -> Result<(), AllocError>
     ensures { OnOk result (string_bytes text.new ≡ string_bytes text.old ++ spec.seen c) }
 {
@@ -51,14 +51,14 @@ fn push_seen(text: &mut String, c: char) -> Result<(), AllocError>
     }
 }
 
-/// Whether this is a control character, but a tab, a line feed or a return.
+/// Whether this is a control character other than a tab, a line feed or a return.
 fn is_control(code: u32) -> bool
     ensures { result ≡ spec.is_control code }
 {
     (code < 32 && code != 9 && code != 10 && code != 13) || is_within(0x7F, 0x9F, code)
 }
 
-/// Whether nobody sees this character, or it turns the direction of a text.
+/// Whether this character is invisible or changes the direction of a text.
 fn is_unseen(code: u32) -> bool
     ensures { result ≡ spec.is_unseen code }
 {
@@ -73,7 +73,7 @@ fn is_unseen(code: u32) -> bool
         || is_within(0xFFF9, 0xFFFB, code)
 }
 
-/// Whether a character is one of those from one to another.
+/// Whether a character is in a range, both ends included.
 fn is_within(first: u32, last: u32, code: u32) -> bool
     ensures { result ≡ spec.is_within first last code }
 {

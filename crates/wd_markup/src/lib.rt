@@ -1,8 +1,8 @@
-//! Pages of HTML in which texts from outside stand escaped.
+//! Pages of HTML in which texts from outside are escaped.
 //!
-//! A page is a sequence of pieces: tags of the fixed words of `vocabulary`, and texts. A tag has nothing of an input in it but
-//! numbers; a text, whatever its bytes, stands between tags, and `escape` writes it so that it begins no tag, ends none, and hides
-//! nothing from a reader. `page` keeps a page in the making, and `style` has what begins and ends the file.
+//! A page is a sequence of pieces: tags made of the fixed words of `vocabulary`, and texts. A tag takes nothing but numbers from an
+//! input; a text, whatever its bytes, comes between tags, and `escape` writes it so that it neither begins nor ends a tag, and hides
+//! nothing from a reader. `page` holds a page while it is written, and `style` has the beginning and the end of the file.
 #![tactic(auto)]
 
 mod escape;

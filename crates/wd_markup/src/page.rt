@@ -1,4 +1,4 @@
-//! A page in the making.
+//! A page while it is written.
 
 ghost use Rattle.std.specs.Prelude.{◌≡◌, ℕ, ◌++◌, List, [], codes, IfOk, OnErr, OnOk, string_bytes};
 ghost use Rattle.wd_markup.specs.Escapes.{escaped};
@@ -12,8 +12,8 @@ use std::alloc::{AllocError, Global};
 use std::fmt::Write;
 use std::marker::Model;
 
-/// A page in the making, which contracts see as its bytes so far. Each is of a tag, or of an escaped text. Where a call is
-/// refused for want of memory, the page is as it was.
+/// A page while it is written, which contracts see as its bytes so far: all of them are tags or escaped texts. Where memory runs out in a
+/// call, the page is unchanged.
 #[derive(Drop)]
 pub struct Page {
     alloc: Global,
@@ -29,7 +29,7 @@ impl Model for Page {
 }
 
 impl Page {
-    /// A page of which nothing is written.
+    /// An empty page.
     pub fn new(alloc: Global) -> Page
         ensures { result ≡ [] }
     {
@@ -39,7 +39,7 @@ impl Page {
         }
     }
 
-    /// Writes what stands before the contents of a file: its head with the style, and the tag of its body.
+    /// Writes what comes before the contents of a file: its head with the style, and the tag of its body.
     pub fn begin(&mut self) -> Result<(), AllocError>
         ensures written { OnOk result (self.new ≡ self.old ++ shown_piece piece.Begin) }
         ensures kept { OnErr result (self.new ≡ self.old) }
@@ -47,7 +47,7 @@ impl Page {
         self.push(BEGIN)
     }
 
-    /// Writes what stands behind the contents of a file.
+    /// Writes what follows the contents of a file.
     pub fn end(&mut self) -> Result<(), AllocError>
         ensures written { OnOk result (self.new ≡ self.old ++ shown_piece piece.End) }
         ensures kept { OnErr result (self.new ≡ self.old) }
@@ -91,7 +91,7 @@ impl Page {
         self.push(tag.as_str())
     }
 
-    /// Writes the tag that begins a span of a bar, as long as its share of it.
+    /// Writes the tag that begins a span of a bar, whose length is its share of the bar.
     pub fn open_share(&mut self, class: Class, share: u64) -> Result<(), AllocError>
         ensures written { OnOk result (self.new ≡ self.old ++ shown_piece (piece.Share class share)) }
         ensures kept { OnErr result (self.new ≡ self.old) }
@@ -118,7 +118,7 @@ impl Page {
         self.push(element.as_str())
     }
 
-    /// Writes what another page holds.
+    /// Writes the contents of another page.
     pub fn append(&mut self, more: &Page) -> Result<(), AllocError>
         ensures written { OnOk result (self.new ≡ self.old ++ more.now) }
         ensures kept { OnErr result (self.new ≡ self.old) }
@@ -126,7 +126,7 @@ impl Page {
         self.push(more.html.as_str())
     }
 
-    /// Writes what a page may hold.
+    /// Writes pieces of a page.
     fn push(&mut self, html: &str) -> Result<(), AllocError>
         requires { IsPage html.now }
         ensures written { OnOk result (self.new ≡ self.old ++ html.now) }
@@ -209,7 +209,7 @@ fn share_tag(alloc: Global, class: Class, share: u64) -> Result<String, AllocErr
     Ok(all)
 }
 
-/// Adds the attribute that says how long a span of a bar is, and the end of its tag.
+/// Adds the attribute for the length of a span of a bar, and the end of its tag.
 fn add_share(tag: &mut String, share: u64) -> Result<(), AllocError>
     ensures { IfOk result (λ _. string_bytes tag.new ≡ string_bytes tag.old ++ piece.share_words share) }
 {

@@ -1,7 +1,7 @@
-//! What begins and ends a file.
+//! The beginning and the end of a file.
 
-/// The head of a file, with its style, and the tags up to its contents. Nothing is loaded, and no script runs: the policy in it
-/// says so to the browser.
+/// The head of a file, with its style, and the tags up to its contents. Nothing is loaded, and no script runs: its policy forbids both to
+/// the browser.
 pub const BEGIN: &str = "<!doctype html>
 <html lang='en'>
 <head>
@@ -98,7 +98,7 @@ details > pre, details > div { margin-top: .4rem; }
 <main>
 ";
 
-/// What stands behind the contents of a file.
+/// What follows the contents of a file.
 pub const END: &str = "</main>
 </body>
 </html>

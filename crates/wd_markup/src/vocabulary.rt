@@ -1,4 +1,4 @@
-//! The words that tags are made of.
+//! The words of which tags are made.
 
 ghost use Rattle.std.specs.Prelude.{◌≡◌};
 ghost use Rattle.wd_markup.specs.Vocabulary as spec;
@@ -38,22 +38,22 @@ pub enum Tag {
     Link,
 }
 
-/// What an element looks like.
+/// The style of an element.
 #[derive(Clone, Copy)]
 pub enum Class {
-    /// As its element does.
+    /// The style of the element itself.
     Plain,
     /// A query with one answer.
     Deterministic,
-    /// A query with two.
+    /// A query with two answers.
     Depends,
-    /// A query of which neither is known.
+    /// A query that has not been shown to have one answer or two.
     MayTie,
     /// A text that is not read.
     NotRead,
     /// The coloured bar of counts.
     Bar,
-    /// The list that says what its colours mean.
+    /// The list that explains the colours of the bar.
     Legend,
     /// The word of a verdict.
     Chip,
@@ -61,7 +61,7 @@ pub enum Class {
     Scroll,
     /// Figures side by side.
     Side,
-    /// What is said less loudly.
+    /// Text that is less prominent.
     Soft,
     /// A value or a row that only one of two answers has.
     Differs,
@@ -69,7 +69,7 @@ pub enum Class {
     NumberDiffers,
     /// The word NULL in place of a value.
     Null,
-    /// A number, at the right of its cell.
+    /// A number, right-aligned in its cell.
     Number,
     /// The line under a refused text that points at it.
     Caret,
@@ -79,7 +79,7 @@ pub enum Class {
     Does,
     /// A rule that justifies a call or a limit.
     Rule,
-    /// A call or a limit that has none.
+    /// A call or a limit without a rule.
     Open,
 }
 

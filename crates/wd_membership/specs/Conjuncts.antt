@@ -1,5 +1,5 @@
--- The conjuncts of a WHERE clause: what stands between WHERE, AND and AND, outside brackets. The AND of BETWEEN parts two of
--- them as well, so that what stands behind it is never a conjunct alone. Where OR or CASE stands outside brackets, none is read.
+-- The conjuncts of a WHERE clause: the tokens between WHERE, AND and AND, outside brackets. The AND of BETWEEN separates two of them as
+-- well, so the tokens after it are never read as a conjunct of their own. Where OR or CASE is outside brackets, no conjunct is read.
 use Rattle.std.specs.Prelude.{ℕ, zero, suc, not, if◌then◌else◌, Bool, List, [], ◌∷◌, take, drop, Option, Some, None}
 use Rattle.wd_lex.specs.declared.token.Token.{Token}
 use Rattle.wd_distinct_on.specs.Lists.{with_front}
@@ -8,19 +8,19 @@ use Rattle.wd_using.specs.declared.level.Extent.TheVariants as extent
 use Rattle.wd_using.specs.Joins.{is_end}
 use Rattle.wd_using.specs.Reach.{reach}
 
--- WHERE or AND, and what stands behind it
+-- WHERE or AND, and what follows it
 pub record Conjunct : Type 0 where
   pub word : Token
   pub test : List Token
 
--- what ends such a part stands there, outside brackets
+-- the tokens begin with what ends such a part, outside brackets
 abbrev pub stands : Extent → List Token → Bool
 stands part tokens = not (is_end (drop (reach part tokens) tokens))
 
 abbrev pub conjunct_at : Token → List Token → Conjunct
 conjunct_at word tokens = record { word = word; test = take (reach extent.Conjunct tokens) tokens }
 
--- word test {word test}, at most so many
+-- word test {word test}, at most the given number of tests
 unfoldable pub conjuncts_at : ℕ → List Token → Option (List Conjunct)
 conjuncts_at more [] = Some []
 conjuncts_at zero (word ∷ tokens) = None

@@ -21,12 +21,12 @@ abbrev pub is_equals : TokenKind → Bool
 is_equals (t.Terminal m.Equals) = true
 is_equals _ = false
 
--- a quoted name that may be one of those that are added
+-- a quoted name that may equal one of the added names
 abbrev pub is_ours : TokenKind → Bool
 is_ours (t.Quoted text) = starts_with nat_eq text (codes "in ") || starts_with nat_eq text (codes "exists ")
 is_ours _ = false
 
--- behind such a token, a star among the items of a select stands for the columns of all its tables
+-- after such a token, a star among the items of a select stands for the columns of all its tables
 abbrev pub stands_for_all : TokenKind → Token → Bool
 stands_for_all before token = is_star token.kind && begins_columns before && not (is_dot before)
 

@@ -1,7 +1,7 @@
--- Tests that say of a row that it is among others: x IN ( SELECT y FROM .. ), and EXISTS ( SELECT .. FROM u a WHERE a.k = t.j
--- AND q ). Such a test holds of a row just if one row of the distinct y, or of the distinct a.k for which q holds, is equal to it,
--- and never more than one is, since NULL is equal to nothing. A name in the query that is none of its own tables' needs no care:
--- it means nothing in a derived table, where the query is written, so the profile refuses it.
+-- Tests of whether a row is among others: x IN ( SELECT y FROM .. ), and EXISTS ( SELECT .. FROM u a WHERE a.k = t.j AND q ). Such a test
+-- is true of a row exactly if one row of the distinct y, or of the distinct a.k for which q is true, equals it, and never more than one
+-- does, since NULL equals nothing. A name in the query that is not one of its own tables' needs no care: it means nothing in the derived
+-- table where the query is written, so the profile refuses it.
 use Rattle.std.specs.Prelude.{◌-◌, ◌||◌, ◌&&◌, not, if◌then◌else◌, Bool, true, false, List, [], ◌∷◌, length, take, drop, Option, Some, None}
 use Rattle.wd_lex.specs.declared.token.Token.{Token}
 use Rattle.wd_clauses.specs.declared.level.Stop.TheVariants.{Comma}
@@ -26,7 +26,7 @@ pub record Pair : Type 0 where
   pub outer : List Token
   pub inner : List Token
 
--- IN or EXISTS, the word, what is compared, and of the query SELECT, FROM with its tables, its conjuncts, and other clauses
+-- IN or EXISTS: the word, what is compared, and the parts of the query: SELECT, FROM with its tables, its conjuncts, and other clauses
 pub record Membership : Type 0 where
   pub test : Test
   pub word : Token
@@ -42,7 +42,7 @@ abbrev pub value_with : List Token → Option Token → List Token
 value_with item None = item
 value_with item (Some name) = take (length item - 2) item
 
--- what an item stands for, without AS and a name
+-- the value of an item, without AS and a name
 abbrev pub value_of : List Token → List Token
 value_of item = value_with item (behind_as (drop (length item - 2) item))
 
@@ -50,15 +50,15 @@ value_of item = value_with item (behind_as (drop (length item - 2) item))
 abbrev pub is_value : List Token → Bool
 is_value items = is_end (drop (clauses.reach Comma items) items) && not (begins is_star (drop (length items - 1) items))
 
--- The query has one item and no ORDER BY, LIMIT, OFFSET or FETCH. It may have GROUP BY, HAVING and WINDOW: DISTINCT takes what
--- is left of its rows behind all of these, as IN does.
+-- The query has one item and no ORDER BY, LIMIT, OFFSET or FETCH. It may have GROUP BY, HAVING and WINDOW: DISTINCT takes the rows that
+-- are left after all of these, as IN does.
 abbrev pub in_query : List Token → Token → Pieces → Option Membership
 in_query operand word select =
     if is_value select.items && not (stands extent.Limit select.clauses) then
     Some (record { test = test.In; word = word; pairs = record { outer = operand; inner = value_of select.items } ∷ []; select = select.select; tables = select.tables; conjuncts = []; clauses = select.clauses })
     else None
 
--- behind an operand, which is not nothing
+-- IN and a query after an operand, which is not empty
 abbrev pub behind_operand : List Token → List Token → Option Membership
 behind_operand operand [] = None
 behind_operand operand (word ∷ tokens) = if is_end operand || not (is_in word.kind) then None else query_in tokens >>= in_query operand word
@@ -69,7 +69,7 @@ in_at tokens = behind_operand (take (operand_length tokens) tokens) (drop (opera
 
 -- ---- EXISTS ( SELECT .. FROM u a WHERE a.k = t.j AND q )
 
--- FROM u [[AS] a], and nothing else: the name by which the columns of u are called
+-- FROM u [[AS] a], and nothing else: the name before the columns of u
 abbrev pub name_of_table : List Token → Option Token
 name_of_table (from ∷ table ∷ tokens) =
     let alias = alias_at table tokens in
@@ -94,7 +94,7 @@ abbrev pub behind_column : Token → List Token → List Token → Option Pair
 behind_column alias left [] = None
 behind_column alias left (word ∷ right) = if is_equals word.kind then if_columns alias left right else None
 
--- a.k = t.j or t.j = a.k, unless it stands behind the AND of BETWEEN
+-- a.k = t.j or t.j = a.k, unless it comes after the AND of BETWEEN
 abbrev pub pair_in : Token → Bool → List Token → Option Pair
 pair_in alias is_behind tokens = if is_behind then None else behind_column alias (take 3 tokens) (drop 3 tokens)
 
@@ -116,7 +116,7 @@ abbrev pub others_in : Token → Bool → List Conjunct → List Conjunct
 others_in alias is_behind [] = []
 others_in alias is_behind (conjunct ∷ conjuncts) = unless_pair conjunct (pair_in alias is_behind conjunct.test) (others_in alias (stands extent.Between conjunct.test) conjuncts)
 
--- no name of another table's column stands there
+-- no column of another table
 abbrev pub is_own : Token → List Token → Bool
 is_own alias [] = true
 is_own alias (name ∷ tokens) = if begins is_dot tokens && not (is_same_name alias.kind name.kind) then false else is_own alias tokens
@@ -139,8 +139,8 @@ with_conjuncts word select alias conjuncts = parted word select (pairs_in alias 
 abbrev pub with_conditions : Token → Pieces → List Token → Token → Option Membership
 with_conditions word select tokens alias = conjuncts tokens >>= with_conjuncts word select alias
 
--- The query has one table, and no clause behind WHERE. What its items are does not matter, but none may be a call: with an
--- aggregate the query has a row always.
+-- The query has one table, and no clause after WHERE. Its items do not matter, but none may be a call: with an aggregate the query always
+-- has a row.
 abbrev pub exists_query : Token → Pieces → Option Membership
 exists_query word select =
     if has clauses.opens select.items || not (is_end (later select)) then None
@@ -160,16 +160,16 @@ or_else (Some membership) other = Some membership
 unfoldable pub membership_at : List Token → Option Membership
 membership_at tokens = or_else (exists_at tokens) (in_at tokens)
 
--- a conjunct, and the membership that it is, if it is one
+-- a conjunct, and the membership that it is, if any
 pub record Member : Type 0 where
   pub conjunct : Conjunct
   pub membership : Option Membership
 
--- a conjunct as it is read; what stands behind the AND of BETWEEN is not looked at
+-- a conjunct as it is read; the tokens after the AND of BETWEEN are not looked at
 abbrev pub member_of : Bool → Conjunct → Member
 member_of is_behind conjunct = record { conjunct = conjunct; membership = (if is_behind then None else membership_at conjunct.test) }
 
--- conjuncts as they are read
+-- the conjuncts as they are read
 abbrev pub members : Bool → List Conjunct → List Member
 members is_behind [] = []
 members is_behind (conjunct ∷ conjuncts) = member_of is_behind conjunct ∷ members (stands extent.Between conjunct.test) conjuncts

@@ -1,4 +1,4 @@
--- Parts of a query as they are read, without where they lie in memory.
+-- Parts of a query as they are read, as pure data.
 use Rattle.std.specs.Prelude.{map, option_map}
 use Rattle.wd_membership.specs.declared.conjunct.Conjunct.{Conjunct}
 use Rattle.wd_membership.specs.declared.membership.Member.{Member}

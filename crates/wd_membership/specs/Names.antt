@@ -1,5 +1,5 @@
--- The names of the tables that are added to a select, and of their columns: "in 1", with its column "in 1", "exists 2", with its
--- columns "exists 2 1" and "exists 2 2".
+-- The names of the added tables and of their columns: "in 1", with its column "in 1"; "exists 2", with its columns "exists 2 1" and
+-- "exists 2 2".
 use Rattle.std.specs.Prelude.{ℕ, codes, List, ◌++◌}
 use Rattle.std.specs.Fmt.{decimal}
 use Rattle.wd_membership.specs.declared.membership.Test.{Test}

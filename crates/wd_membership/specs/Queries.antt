@@ -1,4 +1,4 @@
--- Selects with a FROM clause, among which UNION and its like stand only in brackets, and the queries of IN and EXISTS.
+-- Selects with a FROM clause, where UNION, EXCEPT and INTERSECT appear only in brackets, and the queries of IN and EXISTS.
 use Rattle.std.specs.Prelude.{ℕ, ◌+◌, ◌||◌, if◌then◌else◌, List, [], ◌∷◌, take, drop, Option, Some, None}
 use Rattle.wd_lex.specs.declared.token.Token.{Token}
 use Rattle.wd_clauses.specs.declared.level.Stop.TheVariants.{Later}
@@ -9,7 +9,7 @@ use Rattle.wd_using.specs.Joins.{is_end}
 use Rattle.wd_using.specs.Pieces.{Pieces, pieces_at}
 use Rattle.wd_membership.specs.Conjuncts.{stands}
 
--- no other select stands at its level, as one does behind UNION, EXCEPT and INTERSECT
+-- no other select is at its level, as there is one after UNION, EXCEPT and INTERSECT
 abbrev pub if_alone : Pieces → Option Pieces
 if_alone select = if stands extent.Select select.items || stands extent.Select select.tables || stands extent.Select select.clauses then None else Some select
 
@@ -21,11 +21,11 @@ select_at tokens = pieces_at tokens >>= if_alone
 abbrev pub conditions : Pieces → List Token
 conditions select = take (reach Later select.clauses) select.clauses
 
--- what stands behind WHERE
+-- what follows WHERE
 abbrev pub later : Pieces → List Token
 later select = drop (reach Later select.clauses) select.clauses
 
--- what stands up to the bracket that closes, if nothing follows
+-- the tokens up to the closing bracket, if nothing follows it
 abbrev pub inside : List Token → Option ℕ → Option (List Token)
 inside tokens None = None
 inside tokens (Some place) = if is_end (drop (place + 1) tokens) then Some (take place tokens) else None

@@ -1,7 +1,7 @@
--- A query without memberships among the conjuncts of its WHERE clauses: a table of the distinct rows is added to the FROM clause
--- for each, and the conjunct compares with it. Its selects are respelled from the last to the first, so that each is respelled
--- before the one that it stands in. A select is left as it is where an item stands for the columns of all tables; and the query
--- is, where it has such a name as those that are added.
+-- A query without memberships among the conjuncts of its WHERE clauses: for each membership a table of the distinct rows is added to the
+-- FROM clause, and the conjunct compares with it. The selects are respelled from the last to the first, so that each is respelled before
+-- the one around it. A select stays as it is where an item stands for the columns of all tables, and the query stays as it is where it
+-- has a name like those that are added.
 use Rattle.std.specs.Prelude.{ℕ, if◌then◌else◌, false, List, ◌++◌, take, drop, Option, Some, None, Result}
 use Rattle.wd_lex.specs.declared.token.Token.{Token}
 use Rattle.wd_clauses.specs.declared.error.RespellError.{RespellError}
@@ -17,11 +17,11 @@ use Rattle.wd_membership.specs.Memberships.{has_membership, members}
 use Rattle.wd_membership.specs.Queries.{conditions, select_at}
 use Rattle.wd_membership.specs.Written.{written}
 
--- what stands for a select behind these tokens, if one of its conjuncts is a membership
+-- what replaces a select after these tokens, if one of its conjuncts is a membership
 abbrev pub if_any : List Token → Pieces → List Conjunct → Option (List Token)
 if_any front select found = if has_membership (members false found) then Some (front ++ written select (members false found)) else None
 
--- what stands for a select behind these tokens
+-- what replaces a select after these tokens
 abbrev pub respelled_select : List Token → Pieces → Option (List Token)
 respelled_select front select =
     if has_all select.select.kind select.items then None else conjuncts (conditions select) >>= if_any front select
@@ -30,7 +30,7 @@ respelled_select front select =
 unfoldable pub respelled_at : ℕ → List Token → Option (List Token)
 respelled_at place tokens = select_at (drop place tokens) >>= respelled_select (take place tokens)
 
--- the most selects of a query that are looked at: none, where it has a name as those that are added
+-- the most selects of a query that are looked at: none, where it has a name like those that are added
 abbrev pub selects_of : List Token → ℕ
 selects_of tokens = if has is_ours tokens then 0 else most_selects
 

@@ -1,5 +1,5 @@
--- A select with a derived table for each membership: SELECT items FROM tables, ( SELECT DISTINCT y AS "in 1" FROM .. ) AS "in 1"
--- WHERE x = "in 1"."in 1". What is added has the place of IN or EXISTS.
+-- A select with a derived table for each membership: SELECT items FROM tables, ( SELECT DISTINCT y AS "in 1" FROM .. ) AS "in 1" WHERE x
+-- = "in 1"."in 1". Added tokens have the place of IN or EXISTS.
 use Rattle.std.specs.Prelude.{ℕ, ◌+◌, List, [], ◌∷◌, ◌++◌, Option, Some, None}
 use Rattle.wd_lex.specs.declared.token.Terminal.{Terminal}
 use Rattle.wd_lex.specs.declared.token.Terminal.TheVariants as m
@@ -44,7 +44,7 @@ abbrev pub column_of : Membership → ℕ → ℕ → List Token
 column_of membership table column =
     added m.Equals membership.word ∷ added_name (table_name membership.test table) membership.word ∷ added m.Dot membership.word ∷ added_name (column_name membership.test table column) membership.word ∷ []
 
--- AND, where something follows
+-- AND, if something follows
 abbrev pub and_before : List Pair → Token → List Token
 and_before [] word = []
 and_before (next ∷ more) word = added m.And word ∷ []
@@ -67,7 +67,7 @@ abbrev pub next : ℕ → Option Membership → ℕ
 next table None = table
 next table (Some membership) = table + 1
 
--- the tables that are added, from a number of a table on
+-- the added tables, numbered from the given number on
 abbrev pub tables : ℕ → List Member → List Token
 tables table [] = []
 tables table (member ∷ members) = table_if table member.membership ++ tables (next table member.membership) members

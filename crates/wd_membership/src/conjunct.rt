@@ -10,14 +10,14 @@ use std::alloc::{AllocError, Global};
 use wd_lex::Token;
 use wd_using::{Extent, split_at};
 
-/// WHERE or AND, and what stands behind it.
+/// WHERE or AND, and what follows it.
 #[derive(Clone, Copy)]
 pub struct Conjunct<'t> {
     pub word: &'t Token,
     pub test: &'t [Token],
 }
 
-/// Whether what ends such a part stands there, outside brackets.
+/// Whether the tokens begin with what ends such a part, outside brackets.
 pub fn stands(part: Extent, tokens: &[Token]) -> bool
     ensures { result ≡ spec.stands part tokens.now }
 {
@@ -47,7 +47,7 @@ fn conjuncts_at(alloc: Global, tokens: &[Token]) -> Result<Option<Vec<Conjunct<'
     Ok(Some(conjuncts))
 }
 
-/// The conjuncts of a WHERE clause, if neither OR nor CASE stands among them, and there are at most 64.
+/// The conjuncts of a WHERE clause, if it has neither OR nor CASE outside brackets, and at most 64 conjuncts.
 pub fn conjuncts(alloc: Global, tokens: &[Token]) -> Result<Option<Vec<Conjunct<'_>>>, AllocError>
     ensures { IfOk result (λ found. Finds (λ x. map named.conjunct x.items) found (spec.conjuncts tokens.now)) }
 {

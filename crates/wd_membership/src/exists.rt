@@ -16,7 +16,7 @@ use wd_distinct_on::{cut, is_dot};
 use wd_lex::Token;
 use wd_using::{Extent, Select, alias_at};
 
-/// `FROM u [[AS] a]`, and nothing else: the name by which the columns of u are called.
+/// `FROM u [[AS] a]`, and nothing else: the name before the columns of u.
 fn name_of_table(tokens: &[Token]) -> Option<&Token>
     ensures { Finds (λ name. name.now) result (spec.name_of_table tokens.now) }
 {
@@ -83,7 +83,7 @@ fn if_columns<'t>(alias: &Token, left: &'t [Token], right: &'t [Token]) -> Optio
     }
 }
 
-/// `= t.j` behind a column
+/// `= t.j` after a column.
 fn behind_column<'t>(alias: &Token, left: &'t [Token], tokens: &'t [Token]) -> Option<Pair<'t>>
     ensures { Finds named.pair result (spec.behind_column alias.now left.now tokens.now) }
 {
@@ -93,7 +93,7 @@ fn behind_column<'t>(alias: &Token, left: &'t [Token], tokens: &'t [Token]) -> O
     }
 }
 
-/// `a.k = t.j` or `t.j = a.k`, unless it stands behind the AND of BETWEEN.
+/// `a.k = t.j` or `t.j = a.k`, unless it comes after the AND of BETWEEN.
 fn pair_in<'t>(alias: &Token, is_behind: bool, tokens: &'t [Token]) -> Option<Pair<'t>>
     ensures { Finds named.pair result (spec.pair_in alias.now is_behind tokens.now) }
 {
@@ -146,7 +146,7 @@ fn others_in<'t>(
     Ok(others)
 }
 
-/// Whether no name of another table's column stands there.
+/// Whether the tokens have no column of another table.
 fn is_own(alias: &Token, mut tokens: &[Token]) -> bool
     ensures { result ≡ spec.is_own alias.now tokens.entry.now }
 {
@@ -159,7 +159,7 @@ fn is_own(alias: &Token, mut tokens: &[Token]) -> bool
     true
 }
 
-/// Whether no name of another table's column stands in the conjuncts.
+/// Whether the conjuncts have no column of another table.
 fn are_own(alias: &Token, mut conjuncts: &[Conjunct]) -> bool
     ensures { result ≡ spec.are_own alias.now (map named.conjunct conjuncts.entry.now) }
 {
@@ -231,7 +231,7 @@ fn with_conditions<'t>(
     }
 }
 
-/// The membership, if the query has one table, no clause behind WHERE, and no call among its items.
+/// The membership, if the query has one table, no clause after WHERE, and no call among its items.
 fn exists_query<'t>(
     alloc: Global,
     word: &'t Token,
@@ -252,7 +252,7 @@ fn exists_query<'t>(
     }
 }
 
-/// `EXISTS ( query )`, and nothing else
+/// `EXISTS ( query )`, and nothing else.
 pub fn exists_at(alloc: Global, tokens: &[Token]) -> Result<Option<Membership<'_>>, AllocError>
     ensures { IfOk result (λ found. Finds named.membership found (spec.exists_at tokens.now)) }
 {

@@ -35,7 +35,7 @@ pub fn is_equals(kind: &TokenKind) -> bool
     matches!(kind, TokenKind::Terminal(Terminal::Equals))
 }
 
-/// Whether nothing stands there.
+/// Whether no token is left.
 pub fn is_end(tokens: &[Token]) -> bool
     ensures { result ≡ is_end tokens.now }
 {
@@ -45,7 +45,7 @@ pub fn is_end(tokens: &[Token]) -> bool
     }
 }
 
-/// Whether a dot stands first.
+/// Whether the first token is a dot.
 pub fn begins_dot(tokens: &[Token]) -> bool
     ensures { result ≡ kinds.begins kinds.is_dot tokens.now }
 {
@@ -55,7 +55,7 @@ pub fn begins_dot(tokens: &[Token]) -> bool
     }
 }
 
-/// Whether a star stands first.
+/// Whether the first token is a star.
 pub fn begins_star(tokens: &[Token]) -> bool
     ensures { result ≡ kinds.begins single.is_star tokens.now }
 {
@@ -78,7 +78,7 @@ pub fn has_bracket(mut tokens: &[Token]) -> bool
     false
 }
 
-/// Whether a quoted name may be one of those that are added.
+/// Whether a quoted name may equal one of the added names.
 fn is_ours(kind: &TokenKind) -> bool
     ensures { result ≡ spec.is_ours kind.now }
 {
@@ -91,7 +91,7 @@ fn is_ours(kind: &TokenKind) -> bool
     }
 }
 
-/// Whether one of the names may be one of those that are added.
+/// Whether one of the names may equal one of the added names.
 pub fn has_ours(mut tokens: &[Token]) -> bool
     ensures { result ≡ single.has spec.is_ours tokens.entry.now }
 {
@@ -104,7 +104,7 @@ pub fn has_ours(mut tokens: &[Token]) -> bool
     false
 }
 
-/// Whether a token between those is a star that stands for the columns of all tables.
+/// Whether a token after another one is a star that stands for the columns of all tables.
 fn stands_for_all(before: &TokenKind, token: &Token) -> bool
     ensures { result ≡ spec.stands_for_all before.now token.now }
 {

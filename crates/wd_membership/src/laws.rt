@@ -2,7 +2,7 @@
 
 ghost use Rattle.wd_membership.specs.Examples.{MembershipComesOut};
 
-/// Worked queries: what is written in their place, and which are left as they are.
+/// Worked queries: what replaces them, and which stay as they are.
 pub fn membership_comes_out()
     ensures { MembershipComesOut }
 {}

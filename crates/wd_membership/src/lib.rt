@@ -1,8 +1,8 @@
-//! Memberships by joins: `FROM t WHERE x IN ( SELECT y FROM u )` is `FROM t, ( SELECT DISTINCT y AS "in 1" FROM u ) AS "in 1"
-//! WHERE x = "in 1"."in 1"`, and EXISTS with columns that equal those of the select is the same with these. `query` finds the
-//! pieces of a select and of a query in brackets, `conjunct` the conjuncts of a WHERE clause; `membership` reads IN, and `exists`
-//! EXISTS. `name` makes the names that are added, `write` writes the select with them, and `respell` goes through the selects of a
-//! query, the last one first. `kind` says what single tokens are; `laws` has worked queries.
+//! Memberships by joins: `FROM t WHERE x IN ( SELECT y FROM u )` is `FROM t, ( SELECT DISTINCT y AS "in 1" FROM u ) AS "in 1" WHERE x =
+//! "in 1"."in 1"`, and EXISTS with columns that equal those of the select is rewritten in the same way. `query` finds the pieces of a
+//! select and of a query in brackets, `conjunct` the conjuncts of a WHERE clause; `membership` reads IN, and `exists` EXISTS. `name`
+//! makes the added names, `write` writes the select with the tables, and `respell` goes through the selects of a query from the last to
+//! the first. `kind` classifies single tokens; `laws` has worked queries.
 #![tactic(auto)]
 
 mod conjunct;

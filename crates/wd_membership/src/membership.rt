@@ -1,4 +1,4 @@
-//! Tests that say of a row that it is among others: IN and EXISTS, each with a query.
+//! Tests of whether a row is among others: IN and EXISTS, each with a query.
 
 ghost use Rattle.std.specs.Prelude.{◌≡◌, false, map, IfOk};
 ghost use Rattle.wd_clauses.specs.Given.{Finds};
@@ -17,7 +17,7 @@ use wd_lex::Token;
 use wd_operands::operand_length;
 use wd_using::{Extent, Select, behind_as};
 
-/// A test by which a row is among others.
+/// A test of whether a row is among others.
 #[derive(Clone, Copy, PartialEq, Eq)]
 pub enum Test {
     In,
@@ -31,7 +31,7 @@ pub struct Pair<'t> {
     pub inner: &'t [Token],
 }
 
-/// IN or EXISTS, the word, what is compared, and of the query SELECT, FROM with its tables, its conjuncts, and other clauses.
+/// IN or EXISTS: the word, what is compared, and the parts of the query: SELECT, FROM with its tables, its conjuncts, and other clauses.
 #[derive(Drop)]
 pub struct Membership<'t> {
     pub test: Test,
@@ -43,14 +43,14 @@ pub struct Membership<'t> {
     pub clauses: &'t [Token],
 }
 
-/// A conjunct, and the membership that it is, if it is one.
+/// A conjunct, and the membership that it is, if any.
 #[derive(Drop)]
 pub struct Member<'t> {
     pub conjunct: Conjunct<'t>,
     pub membership: Option<Membership<'t>>,
 }
 
-/// What an item stands for, without AS and a name.
+/// The value of an item, without AS and a name.
 fn value_of(item: &[Token]) -> &[Token]
     ensures { result.now ≡ spec.value_of item.now }
 {
@@ -61,7 +61,7 @@ fn value_of(item: &[Token]) -> &[Token]
     }
 }
 
-/// Whether there is one item, which does not end with a star.
+/// Whether the query has one item, which does not end with a star.
 fn is_value(items: &[Token]) -> bool
     ensures { result ≡ spec.is_value items.now }
 {
@@ -69,7 +69,7 @@ fn is_value(items: &[Token]) -> bool
     is_end(behind) && !begins_star(&items[items.len().saturating_sub(1)..])
 }
 
-/// `x IN ( select )`, if the query has one item, and its rows do not hang on their order.
+/// `x IN ( select )`, if the query has one item, and its rows do not depend on their order.
 fn in_query<'t>(
     alloc: Global,
     operand: &'t [Token],
@@ -97,7 +97,7 @@ fn in_query<'t>(
     }))
 }
 
-/// `IN ( query )` behind an operand
+/// `IN ( query )` after an operand.
 fn behind_operand<'t>(
     alloc: Global,
     operand: &'t [Token],
@@ -120,7 +120,7 @@ fn behind_operand<'t>(
     }
 }
 
-/// `x IN ( query )`, and nothing else
+/// `x IN ( query )`, and nothing else.
 fn in_at(alloc: Global, tokens: &[Token]) -> Result<Option<Membership<'_>>, AllocError>
     ensures { IfOk result (λ found. Finds named.membership found (spec.in_at tokens.now)) }
 {

@@ -12,7 +12,7 @@ use wd_clauses::closing;
 use wd_lex::Token;
 use wd_using::{Extent, Select, opens, pieces_at};
 
-/// The select that begins with the tokens, if no other stands at its level.
+/// The select that begins with the tokens, if no other is at its level.
 pub fn select_at(tokens: &[Token]) -> Option<Select<'_>>
     ensures { Finds pieces result (spec.select_at tokens.now) }
 {
@@ -31,7 +31,7 @@ pub fn select_at(tokens: &[Token]) -> Option<Select<'_>>
     }
 }
 
-/// What stands up to the bracket that closes, if nothing follows.
+/// The tokens up to the closing bracket, if nothing follows it.
 fn inside(tokens: &[Token]) -> Option<&[Token]>
     ensures { Finds (λ x. x.now) result (spec.inside tokens.now (reach.closing tokens.now)) }
 {
@@ -47,7 +47,7 @@ fn inside(tokens: &[Token]) -> Option<&[Token]>
     }
 }
 
-/// `( tokens )`, and nothing else
+/// `( tokens )`, and nothing else.
 fn bracketed(tokens: &[Token]) -> Option<&[Token]>
     ensures { Finds (λ x. x.now) result (spec.bracketed tokens.now) }
 {
@@ -73,7 +73,7 @@ fn whole(tokens: &[Token]) -> Option<Select<'_>>
     }
 }
 
-/// `( select )`, and nothing else
+/// `( select )`, and nothing else.
 #[tactic(auto, unfolding(crate::specs::Queries::query_in))]
 pub fn query_in(tokens: &[Token]) -> Option<Select<'_>>
     ensures { Finds pieces result (spec.query_in tokens.now) }

@@ -20,7 +20,7 @@ use wd_using::Select;
 // The most selects that are looked at.
 const MOST_SELECTS: usize = 128;
 
-/// What stands for a select behind these tokens, if one of its conjuncts is a membership.
+/// What replaces a select after these tokens, if one of its conjuncts is a membership.
 fn if_any(
     alloc: Global,
     front: &[Token],
@@ -38,7 +38,7 @@ fn if_any(
     }
 }
 
-/// What stands for a select behind these tokens.
+/// What replaces a select after these tokens.
 fn respelled_select(
     alloc: Global,
     front: &[Token],
@@ -85,7 +85,7 @@ fn selects_of(tokens: &[Token]) -> usize
     if has_ours(tokens) { 0 } else { MOST_SELECTS }
 }
 
-/// Selects with memberships in their WHERE clauses.
+/// The respelling of selects with memberships in their WHERE clauses.
 #[derive(Clone, Copy)]
 struct Memberships;
 

@@ -34,7 +34,7 @@ fn add_item(
     Ok(())
 }
 
-/// Adds a comma, where something follows.
+/// Adds a comma, if something follows.
 fn add_comma(written: &mut Vec<Token>, pairs: &[Pair], word: &Token) -> Result<(), RespellError>
     ensures { Writes written.old.items written.new.items result (comma_before (map named.pair pairs.now) word.now) }
 {
@@ -47,7 +47,7 @@ fn add_comma(written: &mut Vec<Token>, pairs: &[Pair], word: &Token) -> Result<(
     }
 }
 
-/// Adds AND, where something follows.
+/// Adds AND, if something follows.
 fn add_and(written: &mut Vec<Token>, pairs: &[Pair], word: &Token) -> Result<(), RespellError>
     ensures { Writes written.old.items written.new.items result (spec.and_before (map named.pair pairs.now) word.now) }
 {
@@ -309,7 +309,7 @@ fn add_select(
     Ok(())
 }
 
-/// What stands for a select behind these tokens.
+/// What replaces a select after these tokens.
 pub fn written(
     alloc: Global,
     front: &[Token],

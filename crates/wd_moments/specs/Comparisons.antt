@@ -35,7 +35,7 @@ unfoldable pub closes : List Token → Bool
 closes [] = true
 closes (token ∷ tokens) = is_right_bracket token.kind && closes tokens
 
--- a text alone, in brackets or not, that says so many of that unit
+-- only a text, in brackets or not, that denotes an amount of that unit
 unfoldable pub says : Counts → List Token → Bool
 says unit [] = false
 says unit (token ∷ tokens) = if is_left_bracket token.kind then says unit tokens else is_some (number_said unit token.kind) && closes tokens
@@ -48,7 +48,7 @@ abbrev pub both : Option Counts → Option Sides
 both None = None
 both (Some unit) = Some (unit, unit)
 
--- a date is compared with a moment as its midnight, and else each side counts what the other does
+-- a date is compared with a moment as its midnight; otherwise both sides count the same unit
 abbrev pub sides_of : Counts → Counts → Option Sides
 sides_of Days Microseconds = Some (Days, Microseconds)
 sides_of Microseconds Days = Some (Microseconds, Days)
@@ -73,12 +73,12 @@ unfoldable pub sign_at : List Token → Option (Token × List Token)
 sign_at [] = None
 sign_at (token ∷ tokens) = if is_comparison token.kind then Some (token, tokens) else None
 
--- no name that says more of the last operand follows
+-- no name follows that would continue the last operand
 unfoldable pub is_done : List Token → Bool
 is_done [] = true
 is_done (token ∷ tokens) = not (is_name token.kind)
 
--- the comparison at the start, where it is known what its sides count and that they can be compared
+-- the comparison at the start, if it is known what its sides count and that they can be compared
 unfoldable pub comparison_at : Known → List Token → Option Comparison
 comparison_at known tokens =
     operand_at tokens >>= λ left. sign_at left.1 >>= λ sign. operand_at sign.1 >>= λ right.

@@ -1,4 +1,4 @@
--- What a function of the code added, beside what a definition gives.
+-- What a function of the code added, compared with a definition.
 use Rattle.std.specs.Prelude.{◌≡◌, ◌++◌, ◌<◌, ◌≤◌, ℕ, List, length, Result, Ok, Err}
 use Rattle.wd_lex.specs.declared.token.Token.{Token}
 use Rattle.wd_moments.specs.declared.error.MomentError.{MomentError}

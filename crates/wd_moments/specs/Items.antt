@@ -16,7 +16,7 @@ use Rattle.wd_moments.specs.declared.item.Start.{Start}
 use Rattle.wd_moments.specs.declared.item.Start.TheVariants.{Elsewhere, AtSide, AtItem}
 use Rattle.wd_moments.specs.Comparisons.{begins_side}
 
--- what may begin after a token: an item, which may be the left side of a comparison, too, or such a side alone
+-- what may begin after a token: an item, which may also be the left side of a comparison, or such a side alone
 abbrev pub start_after : TokenKind → Start
 start_after kind = if begins_item kind then AtItem else (if begins_side kind then AtSide else Elsewhere)
 
@@ -28,7 +28,7 @@ abbrev pub is_side : Start → Bool
 is_side Elsewhere = false
 is_side _ = true
 
--- the word of a field, which cuts an interval before it
+-- the word of a field, which shortens an interval before it
 abbrev pub is_field : TokenKind → Bool
 is_field (t.Word text) =
     bytes_eq text (codes "year") || bytes_eq text (codes "month") || bytes_eq text (codes "day") || bytes_eq text (codes "hour") || bytes_eq text (codes "minute") || bytes_eq text (codes "second")
@@ -39,7 +39,7 @@ unfoldable pub ends_item : List Token → Bool
 ends_item [] = true
 ends_item (token ∷ tokens) = not (is_comparison token.kind) && not (is_field token.kind)
 
--- a literal of a moment or a span stands among tokens
+-- a literal of a moment or a span is among tokens
 unfoldable pub holds_amount : List Token → Bool
 holds_amount [] = false
 holds_amount (token ∷ tokens) = is_some (amount_at (token ∷ tokens)) || holds_amount tokens
@@ -48,12 +48,12 @@ abbrev pub is_number : TokenKind → Bool
 is_number (t.Number number) = true
 is_number _ = false
 
--- a number stands among tokens, with a point or not
+-- a number is among tokens, with a point or not
 unfoldable pub holds_number : List Token → Bool
 holds_number [] = false
 holds_number (token ∷ tokens) = is_number token.kind || is_some (numeral_at (token ∷ tokens)) || holds_number tokens
 
--- what counts this has literals to be written in its units
+-- an operand that counts this unit has literals to be written in the unit
 abbrev pub is_written : Counts → List Token → Bool
 is_written Days tokens = holds_amount tokens
 is_written Microseconds tokens = holds_amount tokens
@@ -68,7 +68,7 @@ unfoldable pub holds_range : List Token → Bool
 holds_range [] = false
 holds_range (token ∷ tokens) = is_range token.kind || holds_range tokens
 
--- how many tokens after a key are its frame, where that is in RANGE, so that the frame's offsets count what the key does
+-- how many tokens after a key are its frame, if that is in RANGE, so that the frame's offsets count what the key does
 unfoldable pub frame_length : List Token → ℕ
 frame_length tokens = if holds_range (take (part_length Frame tokens) tokens) then part_length Frame tokens else 0
 
@@ -85,6 +85,6 @@ item_of operand rest (Some unit) = if ends_item rest && is_written unit operand 
 abbrev pub item_by : Option Counts → List Token → ℕ → Option Item
 item_by unit tokens length = item_of (take length tokens) (drop length tokens) unit
 
--- the operand at the start and its frame, where it counts a moment or a decimal, and literals or numbers stand in them
+-- the operand at the start and its frame, if it counts a moment or a decimal, and literals or numbers are in them
 unfoldable pub item_at : Known → List Token → Option Item
 item_at known tokens = operand_at tokens >>= λ found. item_by (unit_of known found.0) tokens (length found.0 + frame_length found.1)

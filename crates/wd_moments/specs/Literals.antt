@@ -26,7 +26,7 @@ negative_tokens at n = made m.LeftBracket at ∷ made m.Minus at ∷ number_toke
 unfoldable pub number_tokens : Place → ℤ → List Token
 number_tokens at number = if int_lt number (pos 0) then negative_tokens at (unsigned_abs number) else number_token (unsigned_abs number) at ∷ []
 
--- what is written for the first of these tokens, and whether it stands for the next one, too
+-- what replaces the first of these tokens, and whether it replaces the next one, too
 abbrev pub Written : Type 0
 Written = List Token × Bool
 
@@ -34,7 +34,7 @@ abbrev pub by_number : Token → Option ℤ → Written
 by_number token (Some number) = (number_tokens token.span number, false)
 by_number token None = (token ∷ [], false)
 
--- whole days in so many microseconds
+-- the number of whole days in the microseconds
 abbrev pub days_in : ℤ → Option ℕ
 days_in number = if int_lt number (pos 0) || not (unsigned_abs number % 86400000000 == 0) then None else Some (unsigned_abs number / 86400000000)
 

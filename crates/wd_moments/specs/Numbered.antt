@@ -1,5 +1,5 @@
--- Tokens with numbers in place of the literals of moments, and of numbers beside decimals: in comparisons whose sides count one unit, and in
--- the items of lists.
+-- Tokens with numbers in place of the literals of moments, and of numbers beside decimals: in comparisons whose sides count one unit, and
+-- in the items of lists.
 use Rattle.std.specs.Prelude.{ℕ, zero, suc, ◌++◌, nat_lt, Bool, true, false, if◌then◌else◌, List, [], ◌∷◌, length, Option, Some, None}
 use Rattle.wd_lex.specs.declared.token.Terminal.TheVariants as m
 use Rattle.wd_lex.specs.declared.token.Span.{Span as Place}
@@ -32,13 +32,13 @@ compared_at known start tokens = if is_side start then comparison_at known token
 abbrev pub item_begun : Known → Start → List Token → Option Item
 item_begun known start tokens = if is_item start then item_at known tokens else None
 
--- what stands for itself within an operand is written as this says
+-- how parts of an operand are written on their own
 module _ (itself : List Token → List Token) (known : Known) where
   -- the midnight of a day: `( ( d ) * 86400000000 )`
   abbrev pub midnight : Place → List Token → List Token
   midnight at tokens = (midnight_front at ++ side itself known Days tokens) ++ midnight_back at
 
-  -- a side of a comparison beside one that counts another unit or the same
+  -- a side of a comparison, by its own unit and that of the other side
   abbrev pub side_beside : Place → Counts → Counts → List Token → List Token
   side_beside at Days Microseconds tokens = midnight at tokens
   side_beside at unit other tokens = side itself known unit tokens
@@ -60,7 +60,7 @@ module _ (itself : List Token → List Token) (known : Known) where
   abbrev pub walked : List Token → List Token
   walked tokens = stepped step (length tokens) AtSide tokens
 
--- what stands for itself is followed to so many levels
+-- parts are written on their own to the given number of levels
 unfoldable pub numbers_within : Known → ℕ → List Token → List Token
 numbers_within known zero tokens = tokens
 numbers_within known (suc levels) tokens = walked (numbers_within known levels) known tokens
@@ -68,13 +68,13 @@ numbers_within known (suc levels) tokens = walked (numbers_within known levels) 
 abbrev pub numbers_for : Known → List Token → List Token
 numbers_for known tokens = numbers_within known 65 tokens
 
--- more than 64 brackets are open at once; so many are before these
+-- more than 64 brackets are open at once, where this number is open before these tokens
 unfoldable pub is_deep : ℕ → List Token → Bool
 is_deep depth [] = false
 is_deep depth (token ∷ tokens) = if nat_lt 64 depth then true else is_deep (depth_after depth token.kind) tokens
 
 -- the tokens of a query with numbers for its moments and beside its decimals, and with a word in place of the first operator that has no
--- equation; one with more than 64 open brackets, which the profile refuses, stays as it is
+-- equation; a query with more than 64 open brackets, which the profile refuses, stays as it is
 unfoldable pub with_numbers : List Statement → List Token → List Token
 with_numbers statements tokens =
     if is_deep 0 tokens then tokens

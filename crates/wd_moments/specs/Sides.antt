@@ -19,20 +19,20 @@ use Rattle.wd_moments.specs.Literals.{Written, first_written}
 
 -- ---- step by step
 
--- what is written, where the next token stands, and the tokens from there on
+-- what is written, the place of the next token, and the tokens from there on
 abbrev pub StepTo : Type 0 → Type 0
 StepTo S = List Token × S × List Token
 
 abbrev pub and_then : {S : Type 0} → StepTo S → (S → List Token → List Token) → List Token
 and_then first more = first.0 ++ more first.1 first.2
 
--- so many steps, or as many as there are tokens for
+-- the given number of steps, or as many as there are tokens for
 unfoldable pub stepped : {S : Type 0} → (S → List Token → StepTo S) → ℕ → S → List Token → List Token
 stepped step zero stand tokens = []
 stepped step (suc turns) stand [] = []
 stepped step (suc turns) stand (token ∷ tokens) = and_then (step stand (token ∷ tokens)) (stepped step turns)
 
--- ---- what stands for itself within an operand
+-- ---- parts of an operand that are written on their own
 
 abbrev pub is_when : TokenKind → Bool
 is_when (t.Terminal m.When) = true
@@ -55,15 +55,15 @@ unfoldable pub begins_star : List Token → Bool
 begins_star [] = false
 begins_star (token ∷ tokens) = is_star token.kind
 
--- so many tokens are a factor of a product, and count no decimal
+-- this number of tokens are a factor of a product, and count no decimal
 abbrev pub is_multiplier : Known → Stand → ℕ → List Token → Bool
 is_multiplier known stand length tokens = (is_factor stand || begins_star (drop length tokens)) && not (counts_decimal (unit_of known (take length tokens)))
 
 abbrev pub multiplier_length : Known → Stand → List Token → ℕ
 multiplier_length known stand tokens = if is_multiplier known stand (part_length Link tokens) tokens then part_length Link tokens else 0
 
--- How many tokens of an operand stand for themselves from here on: WHEN and a condition, OVER and a window, or a factor by which
--- a decimal is multiplied.
+-- How many tokens of an operand are written on their own from here on: WHEN and a condition, OVER and a window, or a factor by which a
+-- decimal is multiplied.
 unfoldable pub own_length : Known → Counts → Stand → List Token → ℕ
 own_length known unit stand [] = 0
 own_length known unit stand (token ∷ tokens) =
@@ -89,10 +89,10 @@ abbrev pub piece_by : (List Token → List Token) → ℕ → Counts → Stand �
 piece_by itself zero unit stand tokens = one_piece unit stand tokens
 piece_by itself (suc n) unit stand tokens = (itself (take (suc n) tokens), beyond stand, drop (suc n) tokens)
 
--- what stands for itself, a literal, or a token
+-- a part that is written on its own, a literal, or a token
 abbrev pub piece : (List Token → List Token) → Known → Counts → Stand → List Token → StepTo Stand
 piece itself known unit stand tokens = piece_by itself (own_length known unit stand tokens) unit stand tokens
 
--- an operand that counts a unit, with numbers of that unit, where what stands for itself is written so
+-- an operand that counts a unit, with numbers of that unit, by how parts are written on their own
 abbrev pub side : (List Token → List Token) → Known → Counts → List Token → List Token
 side itself known unit tokens = stepped (piece itself known unit) (length tokens) Term tokens

@@ -1,6 +1,6 @@
--- Operators between amounts of which no equation in whole numbers is: products of decimals, quotients of decimals, and sums, comparisons,
--- branches and defaults of what counts two units, or of which it isn't clear what it counts. A word stands in place of such an operator,
--- at which the profile refuses the query.
+-- Operators between amounts that have no equation in whole numbers: products of decimals, quotients of decimals, and sums, comparisons,
+-- branches and defaults of two units, or where it isn't clear what an operand counts. Such an operator is replaced by a word at which the
+-- profile refuses the query.
 use Rattle.std.specs.Prelude.{ℕ, ◌+◌, ◌==◌, ◌&&◌, ◌||◌, not, codes, is_some, Bool, true, false, if◌then◌else◌, List, [], ◌∷◌, length, take, Option, Some, None}
 use Rattle.wd_lex.specs.declared.token.Token.{Token}
 use Rattle.wd_lex.specs.declared.token.TokenKind.{TokenKind}
@@ -22,7 +22,7 @@ use Rattle.wd_moments.specs.Literals.{word_token}
 
 -- ---- two amounts
 
--- of a number that is written it is not asked what it counts
+-- the unit is known, and is not that of a plain number
 abbrev pub is_known : Option Counts → Bool
 is_known None = false
 is_known (Some unit) = not (is_number unit)
@@ -35,16 +35,17 @@ abbrev pub counts_unclear : Option Counts → Bool
 counts_unclear None = false
 counts_unclear (Some unit) = is_unclear unit
 
--- the one counts a decimal, and of the other it isn't known what it counts
+-- one operand counts a decimal, and the unit of the other is not known
 abbrev pub is_half_known : Option Counts → Option Counts → Bool
 is_half_known first second = (counts_decimal first && is_none second) || (is_none first && counts_decimal second)
 
--- Nothing comes of two together, or it isn't clear what: both are known, or the one is a decimal and the other is as simple as a name.
+-- Two operands together count nothing, or an unclear unit: both units are known, or one is a decimal and the other operand is as simple
+-- as a name.
 abbrev pub are_apart : Bool → Option Counts → Option Counts → Option Counts → Bool
 are_apart is_simple first second None = (is_known first && is_known second) || (is_simple && is_half_known first second)
 are_apart is_simple first second (Some unit) = is_unclear unit
 
--- they can't be compared
+-- two operands can't be compared
 abbrev pub are_unlike : Bool → Option Counts → Option Counts → Bool
 are_unlike is_simple (Some first) (Some second) =
     is_unclear first || is_unclear second || (not (is_number first) && not (is_number second) && not (is_some (sides_of first second)))
@@ -54,7 +55,7 @@ abbrev pub opens : TokenKind → Bool
 opens (t.Literal text) = true
 opens kind = is_left_bracket kind || is_case kind
 
--- neither a text nor a bracket nor CASE stands among tokens
+-- neither a text nor a bracket nor CASE is among tokens
 unfoldable pub is_simple : List Token → Bool
 is_simple [] = true
 is_simple (token ∷ tokens) = not (opens token.kind) && is_simple tokens
@@ -63,12 +64,12 @@ abbrev pub clash_if : Bool → Clash → Option Clash
 clash_if true clash = Some clash
 clash_if false clash = None
 
--- a decimal is multiplied by what is no number of ones
+-- a decimal is multiplied by something other than a plain number
 abbrev pub has_no_product : Bool → Option Counts → Option Counts → Option Counts → Bool
 has_no_product is_simple before next together =
     (counts_decimal before || counts_decimal next) && is_none together && ((is_known before && is_known next) || (is_simple && is_half_known before next))
 
--- between factors: the product of those before, and the next
+-- between factors: the product of the factors before, and the next one
 abbrev pub clash_between : Bool → TokenKind → Option Counts → Option Counts → Option Clash
 clash_between is_simple kind before next =
     if not (is_star kind) then clash_if (counts_decimal before || counts_decimal next) Quotient
@@ -84,7 +85,7 @@ term_ahead known tokens = unit_of known (take (part_length Sign tokens) tokens)
 unfoldable pub factor_ahead : Known → List Token → Option Counts
 factor_ahead known tokens = unit_of known (take (part_length Operator (unsigned tokens)) (unsigned tokens))
 
--- an operator outside brackets, and the tokens after it; a sign right after what stands between factors is that of a factor
+-- an operator outside brackets, and the tokens after it; a sign right after what is between factors is that of a factor
 abbrev pub clash_at_operator : Known → Standing → TokenKind → List Token → Option Clash
 clash_at_operator known here kind tokens =
     if is_sign kind && not here.is_factor then clash_if (are_apart here.is_simple here.sum (term_ahead known tokens) (joined kind here.sum (term_ahead known tokens))) Units
@@ -93,7 +94,7 @@ clash_at_operator known here kind tokens =
 abbrev pub clash_here : Known → Standing → TokenKind → List Token → Option Clash
 clash_here known here kind tokens = if here.depth == 0 then clash_at_operator known here kind tokens else None
 
--- after a sign a term begins, and after what stands between factors a factor
+-- after a sign a term begins, and after what is between factors a factor
 abbrev pub stands_after : Known → Standing → TokenKind → List Token → Standing
 stands_after known here kind tokens =
     if here.depth == 0 && (is_sign kind && not here.is_factor) then record { place = here.place + 1; depth = 0; sum = joined kind here.sum (term_ahead known tokens); product = factor_ahead known tokens; is_factor = false; is_simple = here.is_simple }
@@ -112,7 +113,7 @@ clash_from known here (token ∷ tokens) = or_else (unlike_at here.place (clash_
 abbrev pub start : Known → ℕ → List Token → Standing
 start known count tokens = record { place = count; depth = 0; sum = term_ahead known tokens; product = factor_ahead known tokens; is_factor = false; is_simple = is_simple tokens }
 
--- the first such operator of an operand, before which so many tokens stand
+-- the first such operator of an operand, before which this number of tokens come
 unfoldable pub operand_clash : Known → ℕ → List Token → Option Unlike
 operand_clash known count tokens = clash_from known (start known count tokens) tokens
 
@@ -126,7 +127,7 @@ unlike_sides known count left right =
 unfoldable pub comparison_clash : Known → ℕ → List Token → List Token → Option Unlike
 comparison_clash known count left tokens = sign_at tokens >>= λ sign. operand_at sign.1 >>= λ right. unlike_sides known count left right.0
 
--- of the operand at the start, or of the comparison that it begins
+-- the first such operator of the operand at the start, or of the comparison that it begins
 unfoldable pub clash_at : Known → ℕ → List Token → Option Unlike
 clash_at known count tokens = operand_at tokens >>= λ left. or_else (operand_clash known count left.0) (comparison_clash known count left.0 left.1)
 
@@ -140,8 +141,8 @@ branch_ahead known tokens = unit_of known (take (part_length Branch tokens) toke
 abbrev pub unit_after : Known → ℕ → Option Counts → TokenKind → List Token → Option Counts
 unit_after known depth unit kind tokens = if depth == 0 && is_branch kind then branched kind unit (branch_ahead known tokens) else unit
 
--- between CASE and its END, where so many tokens stand before, so many brackets are open and the values count so much: the first THEN or
--- ELSE after which it isn't clear what they count
+-- between CASE and its END, after this number of tokens, with this number of open brackets and values that count this unit: the first
+-- THEN or ELSE after which it isn't clear what the values count
 unfoldable pub branch_from : Known → ℕ → ℕ → Option Counts → List Token → Option Unlike
 branch_from known place depth unit [] = None
 branch_from known place depth unit (token ∷ tokens) =
@@ -151,15 +152,15 @@ branch_from known place depth unit (token ∷ tokens) =
 abbrev pub branches_clash : Known → ℕ → List Token → Option Unlike
 branches_clash known count inside = branch_from known count 0 (Some (Number 0)) inside
 
--- of a CASE, before which so many tokens stand
+-- the first THEN or ELSE of a CASE after which it isn't clear what its values count, where this number of tokens come before the CASE
 unfoldable pub case_clash : Known → ℕ → List Token → Option Unlike
 case_clash known count tokens = cased (take (nest_length tokens) tokens) >>= branches_clash known (count + 1)
 
--- a value and its default, where it isn't clear what the one or the other counts
+-- a value and its default, where it isn't clear what one of them counts
 abbrev pub is_mixed : Known → List Token → List Token → Bool
 is_mixed known value default = not (length default == 0) && counts_unclear (either (unit_of known value) (unit_of known default))
 
--- the name of a call with such a default; so many tokens stand before it
+-- the name of a call with such a default, where this number of tokens come before it
 abbrev pub call_clash : Known → ℕ → List Token → Option Unlike
 call_clash known count call = picked_argument call >>= λ value. unlike_at count (clash_if (is_mixed known value (default_of call)) Units)
 
@@ -179,11 +180,11 @@ abbrev pub clash_within : Known → ℕ → TokenKind → List Token → Option 
 clash_within known count kind tokens =
     if is_case kind then case_clash known count tokens else (if is_picked kind then default_clash known count tokens else None)
 
--- what is not read at the start
+-- what is not allowed at the start
 abbrev pub clash_first : Known → ℕ → Bool → TokenKind → List Token → Option Unlike
 clash_first known count begins kind tokens = or_else (clash_begun known count begins tokens) (clash_within known count kind tokens)
 
--- the first such operator, where so many tokens stand before, and an operand may begin or not
+-- the first such operator, where this number of tokens come before, and an operand may begin or not
 unfoldable pub unlike_from : Known → ℕ → Bool → List Token → Option Unlike
 unlike_from known count begins [] = None
 unlike_from known count begins (token ∷ tokens) =
@@ -199,7 +200,7 @@ abbrev pub worded : Bool → Clash → Token → Token
 worded true clash token = word_token (word_of clash) token.span
 worded false clash token = token
 
--- tokens before which so many stand, with the word in that place
+-- tokens with the word at its place, where this number of tokens come before
 unfoldable pub worded_from : ℕ → Unlike → List Token → List Token
 worded_from count unlike [] = []
 worded_from count unlike (token ∷ tokens) = worded (count == unlike.place) unlike.clash token ∷ worded_from (count + 1) unlike tokens

@@ -63,7 +63,7 @@ fn closes(tokens: &[Token]) -> bool
     true
 }
 
-/// Whether it is a text alone, in brackets or not, that says so many of that unit.
+/// Whether the operand is only a text, in brackets or not, that denotes an amount of that unit.
 #[tactic(auto, unfolding(crate::specs::Comparisons::says))]
 fn says(unit: Unit, tokens: &[Token]) -> bool
     ensures { result ≡ spec.says unit tokens.now }
@@ -133,7 +133,7 @@ pub fn sign_at(tokens: &[Token]) -> Option<(&Token, &[Token])>
     }
 }
 
-/// Whether no name follows, which would say more of the last operand.
+/// Whether no name follows that would continue the last operand.
 #[tactic(auto, unfolding(crate::specs::Comparisons::is_done))]
 fn is_done(tokens: &[Token]) -> bool
     ensures { result ≡ spec.is_done tokens.now }
@@ -144,7 +144,7 @@ fn is_done(tokens: &[Token]) -> bool
     }
 }
 
-/// The comparison at the start, where it is known what its sides count.
+/// The comparison at the start, if it is known what its sides count.
 #[tactic(auto, unfolding(crate::specs::Comparisons::comparison_at))]
 pub fn comparison_at<'t>(known: &KnownNames, tokens: &'t [Token]) -> Option<Comparison<'t>>
     ensures { Finds comparison_seen result (spec.comparison_at (known_seen known.now) tokens.now) }

@@ -1,4 +1,4 @@
-//! Numbers beside decimals, put as units of their last place.
+//! Numbers beside decimals, written as units of their last place.
 
 ghost use Rattle.std.specs.Prelude.{◌≡◌, ◌∷◌, [], ◌≤◌, ◌+◌, length, true, IfOk};
 ghost use Rattle.wd_moments.specs.Given.{Adds, most_tokens};
@@ -10,20 +10,20 @@ use crate::write::{push_copy, push_number};
 use wd_amounts::{Numeral, depth_after, is_sign, numeral_at};
 use wd_lex::{Terminal, Token, TokenKind};
 
-/// Where a token of an operand stands.
+/// The place of a token in an operand.
 #[derive(Clone, Copy)]
 pub enum Stand {
-    /// Where a term begins.
+    /// At the beginning of a term.
     Term,
     /// After a star.
     Factor,
     /// Elsewhere.
     Other,
-    /// In so many brackets of a call's number of rows.
+    /// In a call's number of rows, within this many open brackets of it.
     Within(usize),
 }
 
-/// So many whole ones in units of their last place, where 64 bits with a sign hold them.
+/// A whole number in units of the last place; `None` where 64 bits with a sign don't hold it.
 fn units_of(scale: u64, number: u64) -> Option<u64>
     ensures { result ≡ spec.units_of scale number }
 {
@@ -53,7 +53,7 @@ fn is_comma(kind: &TokenKind) -> bool
     matches!(kind, TokenKind::Terminal(Terminal::Comma))
 }
 
-/// Whether the bounds of a frame begin after it.
+/// Whether the bounds of a frame begin after the token.
 fn begins_bounds(kind: &TokenKind) -> bool
     ensures { result ≡ spec.begins_bounds kind.now }
 {
@@ -87,7 +87,7 @@ fn stand_by(kind: &TokenKind) -> Stand
     }
 }
 
-/// Where the token after this one stands.
+/// The place of the token after this one.
 pub fn stand_after(stand: Stand, kind: &TokenKind) -> Stand
     requires { depth_of stand ≤ 9223372036854775807 }
     ensures value { result ≡ spec.stand_after stand kind.now }
@@ -104,7 +104,7 @@ pub fn stand_after(stand: Stand, kind: &TokenKind) -> Stand
     }
 }
 
-/// Where the token after a part stands that stands for itself.
+/// The place of the token after a part that is written on its own.
 pub fn beyond(stand: Stand) -> Stand
     ensures value { result ≡ spec.beyond stand }
     ensures within { depth_of result ≤ depth_of stand }
@@ -121,7 +121,7 @@ fn is_term(stand: Stand) -> bool
     matches!(stand, Stand::Term)
 }
 
-/// So many units, or the first number that 64 bits with a sign do not hold, which the profile refuses.
+/// The units, or the first number that 64 bits with a sign do not hold, which the profile refuses.
 fn or_past(units: Option<u64>) -> u64
     ensures { result ≡ spec.or_past units }
 {
@@ -131,7 +131,7 @@ fn or_past(units: Option<u64>) -> u64
     }
 }
 
-/// Writes a token, a number in units.
+/// Writes a token; a number is written in units.
 fn push_units(out: &mut Vec<Token>, scale: u64, token: &Token) -> Result<(), MomentError>
     requires { length out.old.items ≤ most_tokens }
     ensures { Adds result out.old.items out.new.items (token_in_units scale true token.now ∷ []) }
@@ -144,7 +144,7 @@ fn push_units(out: &mut Vec<Token>, scale: u64, token: &Token) -> Result<(), Mom
     }
 }
 
-/// Writes a token, a number in units where it is a term.
+/// Writes a token; a number that is a term is written in units.
 fn push_token(
     out: &mut Vec<Token>,
     scale: u64,
@@ -161,7 +161,7 @@ fn push_token(
     }
 }
 
-/// A number with a point in units of the last of so many places, where it has no more of them.
+/// A number with a point in units of the last place of the scale; `None` where it has more places than these.
 #[tactic(auto, unfolding(crate::specs::Decimals::numeral_units))]
 fn numeral_units(scale: u64, numeral: Numeral) -> Option<u64>
     ensures { result ≡ spec.numeral_units scale numeral }
@@ -173,7 +173,7 @@ fn numeral_units(scale: u64, numeral: Numeral) -> Option<u64>
     }
 }
 
-/// The number with a point at the start in units, where it is a term.
+/// The number with a point at the start in units, if it is a term.
 #[tactic(auto, unfolding(crate::specs::Decimals::term_units))]
 fn term_units(scale: u64, stand: Stand, tokens: &[Token]) -> Option<u64>
     ensures { result ≡ spec.term_units scale stand tokens.now }
@@ -186,7 +186,7 @@ fn term_units(scale: u64, stand: Stand, tokens: &[Token]) -> Option<u64>
     }
 }
 
-/// Writes what stands for the first token, or for it and the next, and says whether it stands for the next.
+/// Writes what replaces the first token, or the first two; the result is whether it replaces two.
 #[tactic(auto, unfolding(crate::specs::Decimals::first_in_units))]
 pub fn push_in_units(
     out: &mut Vec<Token>,

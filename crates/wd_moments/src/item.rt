@@ -19,7 +19,7 @@ pub enum Start {
     Elsewhere,
     /// The left side of a comparison.
     AtSide,
-    /// Such a side, or an item of a list.
+    /// The left side of a comparison, or an item of a list.
     AtItem,
 }
 
@@ -56,7 +56,7 @@ pub fn is_side(start: Start) -> bool
     !matches!(start, Start::Elsewhere)
 }
 
-/// Whether it is the word of a field, which cuts an interval before it.
+/// Whether the token is the word of a field, which shortens an interval before it.
 fn is_field(kind: &TokenKind) -> bool
     ensures { result ≡ spec.is_field kind.now }
 {
@@ -85,7 +85,7 @@ fn ends_item(tokens: &[Token]) -> bool
     }
 }
 
-/// Whether a literal of a moment or a span stands among tokens.
+/// Whether a literal of a moment or a span is among tokens.
 #[tactic(auto, unfolding(crate::specs::Items::holds_amount))]
 fn holds_amount(tokens: &[Token]) -> bool
     ensures { result ≡ spec.holds_amount tokens.now }
@@ -100,7 +100,7 @@ fn holds_amount(tokens: &[Token]) -> bool
     false
 }
 
-/// Whether a number stands among tokens, with a point or not.
+/// Whether a number is among tokens, with a point or not.
 #[tactic(auto, unfolding(crate::specs::Items::holds_number))]
 fn holds_number(tokens: &[Token]) -> bool
     ensures { result ≡ spec.holds_number tokens.now }
@@ -115,7 +115,7 @@ fn holds_number(tokens: &[Token]) -> bool
     false
 }
 
-/// Whether what counts this has literals that are to be written in its units.
+/// Whether an operand that counts this unit has literals to be written in the unit.
 fn is_written(unit: Unit, tokens: &[Token]) -> bool
     ensures { result ≡ spec.is_written unit tokens.now }
 {
@@ -126,7 +126,7 @@ fn is_written(unit: Unit, tokens: &[Token]) -> bool
     }
 }
 
-/// Whether RANGE stands among tokens.
+/// Whether RANGE is among tokens.
 #[tactic(auto, unfolding(crate::specs::Items::holds_range))]
 fn holds_range(tokens: &[Token]) -> bool
     ensures { result ≡ spec.holds_range tokens.now }
@@ -141,7 +141,7 @@ fn holds_range(tokens: &[Token]) -> bool
     false
 }
 
-/// How many tokens after a key are its frame, where that is in RANGE.
+/// How many tokens after a key are its frame, if that is in RANGE.
 #[tactic(auto, unfolding(crate::specs::Items::frame_length))]
 fn frame_length(tokens: &[Token]) -> usize
     ensures value { result ≡ spec.frame_length tokens.now }
@@ -152,7 +152,7 @@ fn frame_length(tokens: &[Token]) -> usize
     if holds_range(frame) { count } else { 0 }
 }
 
-/// So many tokens as an item that counts this, where literals are to be written in its units.
+/// The given number of tokens as an item that counts this unit, if it has literals to be written in the unit.
 fn item_of<'t>(unit: Option<Unit>, tokens: &'t [Token], count: usize) -> Option<Item<'t>>
     requires { count ≤ length tokens.now }
     ensures { Finds item_seen result (spec.item_by unit tokens.now count) }
@@ -168,7 +168,7 @@ fn item_of<'t>(unit: Option<Unit>, tokens: &'t [Token], count: usize) -> Option<
     }
 }
 
-/// The operand at the start and its frame, where it counts a moment or a decimal, and literals or numbers stand in them.
+/// The operand at the start and its frame, if it counts a moment or a decimal, and literals or numbers are in them.
 #[tactic(auto, unfolding(crate::specs::Items::item_at))]
 pub fn item_at<'t>(known: &KnownNames, tokens: &'t [Token]) -> Option<Item<'t>>
     ensures { Finds item_seen result (spec.item_at (known_seen known.now) tokens.now) }

@@ -38,7 +38,7 @@ fn push_negative(out: &mut Vec<Token>, at: Span, number: u64) -> Result<(), Mome
     push_mark(out, at, Terminal::RightBracket)
 }
 
-/// Writes what stands for a token where no literal of a type begins.
+/// Writes a token where no literal of a type begins.
 fn push_token(out: &mut Vec<Token>, unit: Unit, token: &Token) -> Result<(), MomentError>
     requires { length out.old.items ≤ most_tokens }
     ensures { Adds result out.old.items out.new.items (by_number token.now (amounts.number_said unit token.now.kind)).0 }
@@ -49,7 +49,7 @@ fn push_token(out: &mut Vec<Token>, unit: Unit, token: &Token) -> Result<(), Mom
     }
 }
 
-/// The whole days in so many microseconds.
+/// The number of whole days in the microseconds.
 fn days_in(number: i64) -> Option<u64>
     ensures { result ≡ spec.days_in number }
 {
@@ -60,7 +60,7 @@ fn days_in(number: i64) -> Option<u64>
     }
 }
 
-/// Writes a literal, and says whether it stands for two tokens: a span beside days is a number of days, where it is whole.
+/// Writes a literal; the result is whether it takes two tokens. A span beside days is written as a number of days, if that is whole.
 fn push_amount(
     out: &mut Vec<Token>,
     unit: Unit,
@@ -80,7 +80,7 @@ fn push_amount(
     }
 }
 
-/// Writes a number of days, where it is known.
+/// Writes a number of days, if it is known.
 fn push_days(out: &mut Vec<Token>, token: &Token, days: Option<u64>) -> Result<bool, MomentError>
     requires { length out.old.items ≤ most_tokens }
     ensures added { Adds result out.old.items out.new.items (by_days token.now days).0 }
@@ -98,7 +98,7 @@ fn push_days(out: &mut Vec<Token>, token: &Token, days: Option<u64>) -> Result<b
     }
 }
 
-/// Writes what stands for the first token, or for it and the next, and says whether it stands for the next.
+/// Writes what replaces the first token, or the first two; the result is whether it replaces two.
 #[tactic(auto, unfolding(crate::specs::Literals::first_written))]
 pub fn push_written(out: &mut Vec<Token>, unit: Unit, tokens: &[Token]) -> Result<bool, MomentError>
     requires { length out.old.items ≤ most_tokens }

@@ -25,7 +25,7 @@ use wd_amounts::{KnownNames, Unit, depth_after, known_names};
 use wd_dialect_read::Statement;
 use wd_lex::{Span, Terminal, Token};
 
-/// How many levels are followed of what stands for itself within an operand.
+/// How many levels deep parts of an operand are written on their own.
 const MOST_LEVELS: usize = 65;
 
 /// Writes what opens the midnight of a day.
@@ -48,7 +48,7 @@ fn push_midnight_back(out: &mut Vec<Token>, at: Span) -> Result<(), MomentError>
     push_mark(out, at, Terminal::RightBracket)
 }
 
-/// The comparison that begins here, where one may.
+/// The comparison that begins here, if one may.
 fn compared_at<'t>(known: &KnownNames, start: Start, tokens: &'t [Token]) -> Option<Comparison<'t>>
     ensures { Finds comparison_seen result (spec.compared_at (known_seen known.now) start tokens.now) }
 {
@@ -59,7 +59,7 @@ fn compared_at<'t>(known: &KnownNames, start: Start, tokens: &'t [Token]) -> Opt
     }
 }
 
-/// The item that begins here, where one may.
+/// The item that begins here, if one may.
 fn item_begun<'t>(known: &KnownNames, start: Start, tokens: &'t [Token]) -> Option<Item<'t>>
     ensures { Finds item_seen result (spec.item_begun (known_seen known.now) start tokens.now) }
 {
@@ -70,8 +70,8 @@ fn item_begun<'t>(known: &KnownNames, start: Start, tokens: &'t [Token]) -> Opti
     }
 }
 
-/// Writes what stands for a literal, a token or a part that stands for itself, and says where the next one stands, and which tokens begin
-/// there.
+/// Writes what replaces a literal, a token or a part that is written on its own; the result is the place of the next token, and the
+/// tokens from there on.
 #[cycle(push_numbered)]
 fn push_piece<'t>(
     out: &mut Vec<Token>,
@@ -122,7 +122,7 @@ fn push_side(
     Ok(())
 }
 
-/// Writes a side of a comparison, beside one that counts another unit or the same.
+/// Writes a side of a comparison whose other side counts this unit.
 #[cycle(push_numbered)]
 fn push_beside(
     out: &mut Vec<Token>,
@@ -170,7 +170,8 @@ fn push_compared(
     push_beside(out, known, levels, sign.span, second, first, right)
 }
 
-/// Writes what stands for what begins here, and says what may begin after it, and where that is.
+/// Writes what replaces the comparison, item or token that begins here; the result is what may begin after it, and the tokens from there
+/// on.
 #[tactic(auto, unfolding(crate::specs::Numbered::step))]
 #[cycle(push_numbered)]
 fn push_step<'t>(
@@ -202,7 +203,8 @@ fn push_step<'t>(
     }
 }
 
-/// Writes tokens with numbers beside what counts their unit. What stands for itself within an operand is followed to so many levels.
+/// Writes tokens with numbers beside what counts their unit. Parts within an operand are written on their own to the given number of
+/// levels.
 #[cycle(push_numbered)]
 fn push_numbered(
     out: &mut Vec<Token>,
@@ -257,7 +259,7 @@ fn is_deep(tokens: &[Token]) -> bool
     false
 }
 
-/// Equal tokens, where there are not too many.
+/// Equal tokens, if there are not too many.
 fn unchanged(alloc: Global, tokens: &[Token]) -> Result<Vec<Token>, MomentError>
     ensures same { IfOk result (λ out. out.items ≡ tokens.now) }
     ensures within { IfOk result (λ out. length out.items ≤ most_tokens) }
@@ -288,13 +290,13 @@ fn numbered_or_worded(
     }
 }
 
-/// The tokens of a query with numbers in place of the literals of moments, where they are compared with what is known to count the
-/// same unit: days, microseconds of a moment, or microseconds between two moments; and where an operand that counts a moment stands by
-/// itself after SELECT, DISTINCT, BY or a comma, or bounds the frame of such a key. A number has the place of the literal's first word. A
-/// number that is compared with a decimal, or a term of what is or of such an item, becomes so many units of the decimal's last place.
-/// In place of the first operator that has no equation in whole numbers, as a product of decimals, stands a word that the profile
-/// refuses. A query with more than 64 open brackets stays as it is. It refuses with `TooLong` where the result has more than 65,536
-/// tokens.
+/// The tokens of a query with numbers in place of the literals of moments, where they are compared with an operand that is known to count
+/// the same unit: days, microseconds of a moment, or microseconds between two moments; and where an operand that counts a moment is an
+/// item of its own after SELECT, DISTINCT, BY or a comma, or bounds the frame of such a key. A number has the place of the literal's
+/// first word. A number that is compared with a decimal, or is a term of such a comparison or item, becomes the number of units of the
+/// decimal's last place. In place of the first operator that has no equation in whole numbers, as a product of decimals, the result has a
+/// word that the profile refuses. A query with more than 64 open brackets stays as it is. It refuses with `TooLong` where the result has
+/// more than 65,536 tokens.
 #[tactic(auto, unfolding(crate::specs::Numbered::with_numbers))]
 pub fn with_numbers(
     alloc: Global,
@@ -305,7 +307,7 @@ pub fn with_numbers(
     ensures numbered { IfOk result (λ out. out.items ≡ spec.with_numbers statements.now tokens.now) }
     ensures within { IfOk result (λ out. length out.items ≤ most_tokens) }
 
-    // It is refused as too long only where it would be.
+    // It refuses with `TooLong` only where the result would have too many tokens.
     ensures long { IfErr result (λ e. e ≡ MomentError.TooLong → most_tokens < length (spec.with_numbers statements.now tokens.now)) }
 {
     if is_deep(tokens) {

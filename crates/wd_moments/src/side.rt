@@ -1,4 +1,4 @@
-//! What stands for itself within an operand, and what is written for the other tokens of one that counts a unit.
+//! Parts of an operand that are written on their own, and what replaces the other tokens of an operand that counts a unit.
 
 ghost use Rattle.std.specs.Prelude.{◌≡◌, ◌≤◌, ◌+◌, drop, length, IfOk};
 ghost use Rattle.wd_amounts.specs.Seen.{known_seen};
@@ -48,7 +48,7 @@ fn begins_star(tokens: &[Token]) -> bool
     }
 }
 
-/// Whether so many tokens are a factor of a product, and count no decimal.
+/// Whether the first `count` tokens are a factor of a product, and count no decimal.
 fn is_multiplier(known: &KnownNames, stand: Stand, count: usize, tokens: &[Token]) -> bool
     requires { count ≤ length tokens.now }
     ensures { result ≡ spec.is_multiplier (known_seen known.now) stand count tokens.now }
@@ -70,7 +70,7 @@ fn multiplier_length(known: &KnownNames, stand: Stand, tokens: &[Token]) -> usiz
     }
 }
 
-/// How many tokens of an operand stand for themselves from here on: WHEN and a condition, OVER and a window, or a factor by which a
+/// How many tokens of an operand are written on their own from here on: WHEN and a condition, OVER and a window, or a factor by which a
 /// decimal is multiplied.
 #[tactic(auto, unfolding(crate::specs::Sides::own_length))]
 pub fn own_length(known: &KnownNames, unit: Unit, stand: Stand, tokens: &[Token]) -> usize
@@ -91,7 +91,7 @@ pub fn own_length(known: &KnownNames, unit: Unit, stand: Stand, tokens: &[Token]
     }
 }
 
-/// Writes what stands for the first token, or for it and the next, and says whether it stands for the next.
+/// Writes what replaces the first token, or the first two; the result is whether it replaces two.
 fn push_first(
     out: &mut Vec<Token>,
     unit: Unit,
@@ -116,7 +116,7 @@ fn past_first(tokens: &[Token]) -> &[Token]
     rest
 }
 
-/// Writes what stands for a literal or a token, and says where the next one stands, and which tokens begin there.
+/// Writes what replaces a literal or a token; the result is the place of the next token, and the tokens from there on.
 #[tactic(auto, unfolding(crate::specs::Sides::one_piece))]
 pub fn push_one<'t>(
     out: &mut Vec<Token>,

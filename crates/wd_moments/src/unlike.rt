@@ -1,9 +1,9 @@
-//! Operators between amounts of which no equation in whole numbers is: products and quotients of decimals, and sums, comparisons, branches
-//! and defaults of what counts two units, or of which it isn't clear what it counts. A word stands in place of such an operator, at which
-//! the profile refuses the query.
+//! Operators between amounts that have no equation in whole numbers: products and quotients of decimals, and sums, comparisons, branches
+//! and defaults of two units, or where it isn't clear what an operand counts. Such an operator is replaced by a word at which the profile
+//! refuses the query.
 //!
-//! Each operand of a query is gone through once, with what its sum and its product count so far; of a CASE and of a call with a default it
-//! is asked what its values come to. Nothing is built: an operator is found by its place among the tokens.
+//! Each operand of a query is gone through once, with what its sum and its product count so far; of a CASE and of a call with a default
+//! only the unit of the values is computed. No tree is built: an operator is found by its place among the tokens.
 
 ghost use Rattle.std.specs.Prelude.{◌≡◌, ◌≤◌, ◌+◌, length, true, IfOk};
 ghost use Rattle.wd_amounts.specs.Seen.{known_seen};
@@ -23,28 +23,28 @@ use wd_lex::{Token, TokenKind};
 use wd_operands::{nest_length, primary_length};
 use wd_value::Text;
 
-/// Why an operator is not read.
+/// Why an operator is not allowed.
 #[derive(Clone, Copy)]
 pub enum Clash {
     /// Two decimals are multiplied.
     Product,
-    /// A decimal is divided, or something by it.
+    /// A decimal is divided, or a decimal divides.
     Quotient,
     /// Two units are added or compared.
     Units,
 }
 
-/// An operator that is not read, and how many tokens stand before it.
+/// An operator that is not allowed, and how many tokens come before it.
 #[derive(Clone, Copy)]
 pub struct Unlike {
     pub place: usize,
     pub clash: Clash,
 }
 
-/// Where a token of an operand stands.
+/// The place of a token in an operand.
 #[derive(Clone, Copy)]
 pub struct Standing {
-    /// How many tokens stand before it.
+    /// How many tokens come before the token.
     pub place: usize,
     /// How many brackets are open.
     pub depth: usize,
@@ -58,7 +58,7 @@ pub struct Standing {
     pub is_simple: bool,
 }
 
-/// Whether it is known what it counts. Of a number that is written that is not asked.
+/// Whether the unit is known, and is not that of a plain number.
 fn is_known(unit: Option<Unit>) -> bool
     ensures { result ≡ spec.is_known unit }
 {
@@ -77,14 +77,14 @@ fn counts_unclear(unit: Option<Unit>) -> bool
     }
 }
 
-/// Whether the one counts a decimal, and of the other it isn't known what it counts.
+/// Whether one operand counts a decimal, and the unit of the other is not known.
 fn is_half_known(first: Option<Unit>, second: Option<Unit>) -> bool
     ensures { result ≡ spec.is_half_known first second }
 {
     (counts_decimal(first) && second.is_none()) || (first.is_none() && counts_decimal(second))
 }
 
-/// Whether nothing comes of two together, or it isn't clear what.
+/// Whether two operands together count nothing, or an unclear unit.
 fn are_apart(
     is_simple: bool,
     first: Option<Unit>,
@@ -101,7 +101,7 @@ fn are_apart(
     }
 }
 
-/// Whether two can't be compared.
+/// Whether two operands can't be compared.
 fn are_unlike(is_simple: bool, first: Option<Unit>, second: Option<Unit>) -> bool
     ensures { result ≡ spec.are_unlike is_simple first second }
 {
@@ -115,7 +115,7 @@ fn are_unlike(is_simple: bool, first: Option<Unit>, second: Option<Unit>) -> boo
     }
 }
 
-/// Whether it is a text, a bracket or CASE.
+/// Whether the token is a text, a bracket or CASE.
 fn opens(kind: &TokenKind) -> bool
     ensures { result ≡ spec.opens kind.now }
 {
@@ -125,7 +125,7 @@ fn opens(kind: &TokenKind) -> bool
     }
 }
 
-/// Whether neither a text nor a bracket nor CASE stands among tokens.
+/// Whether neither a text nor a bracket nor CASE is among tokens.
 #[tactic(auto, unfolding(crate::specs::Unlike::is_simple))]
 fn is_simple(tokens: &[Token]) -> bool
     ensures { result ≡ spec.is_simple tokens.now }
@@ -146,7 +146,7 @@ fn clash_if(is_unlike: bool, clash: Clash) -> Option<Clash>
     if is_unlike { Some(clash) } else { None }
 }
 
-/// Whether a decimal is multiplied by what is no number of ones.
+/// Whether a decimal is multiplied by something other than a plain number.
 fn has_no_product(
     is_simple: bool,
     before: Option<Unit>,
@@ -160,7 +160,7 @@ fn has_no_product(
         && ((is_known(before) && is_known(next)) || (is_simple && is_half_known(before, next)))
 }
 
-/// What stands between the product of the factors before and the next one.
+/// Why the operator between the product of the factors before and the next factor is not allowed.
 fn clash_between(
     is_simple: bool,
     kind: &TokenKind,
@@ -203,7 +203,7 @@ fn factor_ahead(known: &KnownNames, tokens: &[Token]) -> Option<Unit>
     unit_of(known, factor)
 }
 
-/// Why an operator outside brackets is not read; these tokens follow it.
+/// Why an operator outside brackets, which these tokens follow, is not allowed.
 fn clash_at_operator(
     known: &KnownNames,
     here: Standing,
@@ -245,7 +245,7 @@ fn clash_here(
     }
 }
 
-/// Where the token after this one stands, with which these tokens begin.
+/// The place of the first of these tokens, which follow this one.
 fn stands_after(known: &KnownNames, here: Standing, kind: &TokenKind, tokens: &[Token]) -> Standing
     requires shallow { here.depth ≤ 9223372036854775807 }
     requires room { here.place ≤ 9223372036854775807 }
@@ -284,7 +284,7 @@ fn stands_after(known: &KnownNames, here: Standing, kind: &TokenKind, tokens: &[
     }
 }
 
-/// The first such operator of an operand, before which so many tokens stand.
+/// The first such operator of an operand; `count` tokens come before it.
 #[tactic(auto, unfolding(crate::specs::Unlike::operand_clash, crate::specs::Unlike::clash_from))]
 fn operand_clash(known: &KnownNames, count: usize, tokens: &[Token]) -> Option<Unlike>
     requires { count + length tokens.now ≤ 9223372036854775807 }
@@ -312,7 +312,7 @@ fn operand_clash(known: &KnownNames, count: usize, tokens: &[Token]) -> Option<U
     None
 }
 
-/// The sign of a comparison whose sides count two units, where so many tokens stand before its left side.
+/// The sign of a comparison whose sides count two units; `count` tokens come before the left side.
 fn unlike_sides(known: &KnownNames, count: usize, left: &[Token], right: &[Token]) -> Option<Unlike>
     requires { count + length left.now ≤ 9223372036854775807 }
     ensures { result ≡ spec.unlike_sides (known_seen known.now) count left.now right.now }
@@ -351,7 +351,7 @@ fn comparison_clash(
     unlike_sides(known, count, left, right)
 }
 
-/// The first such operator of the operand at the start, or else the sign of the comparison that it begins.
+/// The first such operator of the operand at the start, or else the sign of the comparison that the operand begins.
 #[tactic(auto, unfolding(crate::specs::Unlike::clash_at))]
 fn clash_at(known: &KnownNames, count: usize, tokens: &[Token]) -> Option<Unlike>
     requires { count + length tokens.now ≤ 9223372036854775807 }
@@ -392,8 +392,8 @@ fn unit_after(
     }
 }
 
-/// The first THEN or ELSE after which it isn't clear what the values of a CASE count; this stands between CASE and its END, and so many
-/// tokens stand before it.
+/// The first THEN or ELSE between CASE and its END after which it isn't clear what the values of the CASE count; `count` tokens come
+/// before these tokens.
 #[tactic(auto, unfolding(crate::specs::Unlike::branch_from))]
 fn branches_clash(known: &KnownNames, count: usize, inside: &[Token]) -> Option<Unlike>
     requires { count + length inside.now ≤ 9223372036854775807 }
@@ -418,7 +418,7 @@ fn branches_clash(known: &KnownNames, count: usize, inside: &[Token]) -> Option<
     None
 }
 
-/// The branch of the CASE at the start, before which so many tokens stand, after which it isn't clear what its values count.
+/// The branch of the CASE at the start after which it isn't clear what its values count; `count` tokens come before the CASE.
 #[tactic(auto, unfolding(crate::specs::Unlike::case_clash))]
 fn case_clash(known: &KnownNames, count: usize, tokens: &[Token]) -> Option<Unlike>
     requires { count + 1 + length tokens.now ≤ 9223372036854775807 }
@@ -451,7 +451,7 @@ fn call_clash(known: &KnownNames, count: usize, call: &[Token]) -> Option<Unlike
     }
 }
 
-/// The name of the call at the start, before which so many tokens stand, where it has such a default.
+/// The name of the call at the start, if it has such a default; `count` tokens come before it.
 #[tactic(auto, unfolding(crate::specs::Unlike::default_clash))]
 fn default_clash(known: &KnownNames, count: usize, tokens: &[Token]) -> Option<Unlike>
     ensures { result ≡ spec.default_clash (known_seen known.now) count tokens.now }
@@ -467,7 +467,7 @@ fn begins_operand(kind: &TokenKind) -> bool
     begins_side(kind) || is_comparison(kind)
 }
 
-/// The operator that is not read in what begins here, where an operand may.
+/// The operator that is not allowed in the operand that begins here, if one may.
 fn clash_begun(known: &KnownNames, count: usize, begins: bool, tokens: &[Token]) -> Option<Unlike>
     requires { count + length tokens.now ≤ 9223372036854775807 }
     ensures { result ≡ spec.clash_begun (known_seen known.now) count begins tokens.now }
@@ -479,7 +479,7 @@ fn clash_begun(known: &KnownNames, count: usize, begins: bool, tokens: &[Token])
     }
 }
 
-/// The branch of the CASE at the start, or the call, that is not read.
+/// The branch of the CASE at the start, or the call, that is not allowed.
 fn clash_within(
     known: &KnownNames,
     count: usize,
@@ -498,7 +498,7 @@ fn clash_within(
     }
 }
 
-/// What is not read at the start, where so many tokens stand before, and an operand may begin or not.
+/// What is not allowed at the start, where `count` tokens come before and an operand may begin or not.
 fn clash_first(
     known: &KnownNames,
     count: usize,
@@ -515,7 +515,7 @@ fn clash_first(
     }
 }
 
-/// The first operator of a query that is not read.
+/// The first operator of a query that is not allowed.
 #[tactic(auto, unfolding(crate::specs::Unlike::unlike_from))]
 pub fn first_unlike(known: &KnownNames, tokens: &[Token]) -> Option<Unlike>
     ensures { result ≡ spec.unlike_from (known_seen known.now) 0 true tokens.now }
@@ -534,7 +534,7 @@ pub fn first_unlike(known: &KnownNames, tokens: &[Token]) -> Option<Unlike>
     None
 }
 
-/// The word that stands in place of an operator that is not read.
+/// The word that replaces an operator that is not allowed.
 fn word_of(clash: Clash) -> &'static str
     ensures { result.now ≡ spec.word_of clash }
 {
@@ -545,7 +545,7 @@ fn word_of(clash: Clash) -> &'static str
     }
 }
 
-/// A token, or the word in its place.
+/// A token, or the word that replaces it.
 fn worded_token(
     alloc: Global,
     is_there: bool,
@@ -563,7 +563,7 @@ fn worded_token(
     }
 }
 
-/// The tokens with a word in place of an operator that is not read.
+/// The tokens with a word in place of an operator that is not allowed.
 #[tactic(auto, unfolding(crate::specs::Unlike::worded_from))]
 pub fn worded(alloc: Global, unlike: Unlike, tokens: &[Token]) -> Result<Vec<Token>, AllocError>
     ensures { IfOk result (λ out. out.items ≡ worded_from 0 unlike tokens.now) }

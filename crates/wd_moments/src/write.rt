@@ -11,7 +11,7 @@ use wd_lex::{Span, Terminal, Token, TokenKind};
 /// The most tokens that are written.
 const MOST_TOKENS: usize = 65536;
 
-/// Adds a token, where there is room.
+/// Adds a token, if there are not too many.
 fn push(out: &mut Vec<Token>, token: Token) -> Result<(), MomentError>
     requires { length out.old.items ≤ most_tokens }
     ensures { Adds result out.old.items out.new.items (token ∷ []) }
@@ -41,7 +41,7 @@ pub fn push_number(out: &mut Vec<Token>, at: Span, number: u64) -> Result<(), Mo
     push(out, Token { kind, span: at })
 }
 
-/// An equal kind of its own.
+/// An equal kind with memory of its own.
 fn copied_kind(kind: &TokenKind) -> Result<TokenKind, AllocError>
     ensures { IfOk result (λ copied. copied ≡ kind.now) }
 {
@@ -54,7 +54,7 @@ fn copied_kind(kind: &TokenKind) -> Result<TokenKind, AllocError>
     }
 }
 
-/// An equal token of its own.
+/// An equal token with memory of its own.
 pub fn copied(token: &Token) -> Result<Token, AllocError>
     ensures { IfOk result (λ copied. copied ≡ token.now) }
 {

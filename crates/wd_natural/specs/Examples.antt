@@ -8,7 +8,7 @@ use Rattle.wd_using.specs.Examples.{a, all_at, b, c, equal, its, k, mark, n, of_
 use Rattle.wd_using.specs.Respelled as joins
 use Rattle.wd_natural.specs.Respelled.{respelled}
 
--- tokens that say the first are written as tokens that say the second; a and b have a column k, c has one and n, b has n
+-- the first tokens are respelled as the second; a and b have a column k, c has one and n, b has n
 abbrev pub Becomes : List TokenKind → List TokenKind → Type 0
 Becomes left right = (at : Span) → respelled schema (all_at at left) ≡ Ok (all_at at right)
 
@@ -45,7 +45,8 @@ renamed = of_a ++ mark m.LeftBracket ∷ n ∷ mark m.RightBracket ∷ natural b
 pub record NaturalComesOut : Type 0 where
   -- SELECT k FROM a NATURAL JOIN b WHERE n < k becomes SELECT k FROM a JOIN b USING ( "k" ) WHERE n < k
   pub one : Becomes (of_a ++ natural b ++ mark m.Where ∷ n ∷ mark m.Less ∷ k ∷ []) (of_a ++ mark m.Join ∷ b ∷ using the_k ++ mark m.Where ∷ n ∷ mark m.Less ∷ k ∷ [])
-  -- SELECT k FROM a INNER JOIN b USING ( k ) NATURAL INNER JOIN c becomes SELECT k FROM a INNER JOIN b USING ( k ) JOIN c USING ( "n", "k" )
+  -- SELECT k FROM a INNER JOIN b USING ( k ) NATURAL INNER JOIN c becomes SELECT k FROM a INNER JOIN b USING ( k ) JOIN c USING ( "n",
+  -- "k" )
   pub two : Becomes (of_a ++ mark m.Inner ∷ mark m.Join ∷ b ∷ using k ++ mark m.Natural ∷ mark m.Inner ∷ mark m.Join ∷ c ∷ [])
       (of_a ++ mark m.Inner ∷ mark m.Join ∷ b ∷ using k ++ mark m.Join ∷ c ∷ mark m.Using ∷ mark m.LeftBracket ∷ the_n ∷ mark m.Comma ∷ the_k ∷ mark m.RightBracket ∷ [])
   -- SELECT k FROM a NATURAL JOIN ( SELECT k FROM b ) AS n becomes SELECT k FROM a JOIN ( SELECT k FROM b ) AS n USING ( "k" )

@@ -1,4 +1,4 @@
--- Parts of a FROM clause as they are read, without where they lie in memory.
+-- Parts of a FROM clause as they are read, as pure data.
 use Rattle.std.specs.Prelude.{map, option_map}
 use Rattle.wd_using.specs.Joins as joins
 use Rattle.wd_using.specs.Named.{table_alias}

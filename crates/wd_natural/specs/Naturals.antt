@@ -1,6 +1,5 @@
--- The tables of a FROM clause in which tables are joined by [INNER] JOIN, each ON a condition or USING columns, and by
--- NATURAL [INNER] JOIN. No other FROM clause is read: none with another kind of join, or a comma between tables, or a table whose
--- columns are not known.
+-- The tables of a FROM clause in which tables are joined by [INNER] JOIN, each ON a condition or USING columns, and by NATURAL [INNER]
+-- JOIN. A FROM clause with another kind of join, a comma between tables, or a table with unknown columns is not read.
 use Rattle.std.specs.Prelude.{ℕ, zero, suc, ◌||◌, ◌&&◌, not, if◌then◌else◌, nat_lt, Bool, List, [], ◌∷◌, length, take, drop, Option, Some, None}
 use Rattle.wd_lex.specs.declared.token.Token.{Token}
 use Rattle.wd_schema.specs.Tables.{TableRule}
@@ -13,14 +12,14 @@ use Rattle.wd_using.specs.Kinds.{begins_table, is_inner}
 use Rattle.wd_using.specs.Reach.{reach}
 use Rattle.wd_natural.specs.Kinds.{begins_condition, is_join, is_natural}
 
--- NATURAL, if it stands there, FROM or JOIN, and what follows
+-- NATURAL, if it is written, FROM or JOIN, and the tokens after them
 pub record Head : Type 0 where
   pub natural : Option Token
   pub join : Token
   pub behind : List Token
 
--- a table as it is joined: NATURAL, if it is joined so, FROM or JOIN, the table with its alias, its columns, and what stands
--- behind it: a condition, or INNER before the next JOIN
+-- a table as it is joined: NATURAL, if it is written, FROM or JOIN, the table with its alias, its columns, and what follows it: a
+-- condition, or INNER before the next JOIN
 pub record NaturalTable : Type 0 where
   pub natural : Option Token
   pub join : Token
@@ -32,7 +31,7 @@ abbrev pub behind_inner : List Token → List Token
 behind_inner [] = []
 behind_inner (word ∷ tokens) = if is_inner word.kind then tokens else word ∷ tokens
 
--- JOIN behind NATURAL
+-- JOIN after NATURAL
 abbrev pub natural_head : Token → List Token → Option Head
 natural_head word [] = None
 natural_head word (join ∷ tokens) = if is_join join.kind then Some (record { natural = Some word; join = join; behind = tokens }) else None
@@ -44,7 +43,7 @@ head_at (word ∷ tokens) =
     if is_natural word.kind then natural_head word (behind_inner tokens)
     else (if begins_table word.kind then Some (record { natural = None; join = word; behind = tokens }) else None)
 
--- nothing, or INNER before the next JOIN, stands behind a table, or its condition, which no NATURAL JOIN has
+-- nothing, or INNER before the next JOIN, comes after a table or its condition; a NATURAL JOIN has no condition
 abbrev pub fits : Option Token → List Token → Bool
 fits None rest = ends rest || begins begins_condition rest
 fits (Some natural) rest = ends rest
@@ -68,14 +67,14 @@ with_source head tokens source = record {
   rest = drop source.alias.count tokens;
 }
 
--- a table, its alias, and what stands behind it
+-- a table, its alias, and the tokens after it
 abbrev pub joined_at : List TableRule → Head → List Token → Option NaturalTable
 joined_at schema head tokens = source_at schema tokens >>= λ source. if_read (with_source head tokens source)
 
 abbrev pub with_behind : List Token → NaturalTable → Option (NaturalTable × List Token)
 with_behind behind table = Some (table, behind)
 
--- a table with the words that join it, and what follows
+-- a table with the words that join it, and the tokens after it
 abbrev pub behind_head : List TableRule → Head → Option (NaturalTable × List Token)
 behind_head schema head = joined_at schema head (take (reach Table head.behind) head.behind) >>= with_behind (drop (reach Table head.behind) head.behind)
 
@@ -93,7 +92,7 @@ abbrev pub with_further : (List Token → Option (List NaturalTable)) → Option
 with_further further None = None
 with_further further (Some found) = with_next further found.0 found.1
 
--- the tables of a FROM clause, at most so many
+-- the tables of a FROM clause, at most the given number
 unfoldable pub joined_tables : List TableRule → ℕ → List Token → Option (List NaturalTable)
 joined_tables schema zero tokens = None
 joined_tables schema (suc more) tokens = with_further (joined_tables schema more) (table_at schema tokens)

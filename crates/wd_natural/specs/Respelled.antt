@@ -1,5 +1,5 @@
--- A query without NATURAL JOIN: a NATURAL JOIN b is a JOIN b USING the columns that both have. A FROM clause is left as it is
--- where it is not read.
+-- A query without NATURAL JOIN: a NATURAL JOIN b is a JOIN b USING the columns that both have. A FROM clause that is not read stays as it
+-- is.
 use Rattle.std.specs.Prelude.{ℕ, if◌then◌else◌, List, [], ◌++◌, take, drop, Option, Some, None, Result}
 use Rattle.wd_lex.specs.declared.token.Token.{Token}
 use Rattle.wd_schema.specs.Tables.{TableRule}
@@ -14,14 +14,14 @@ use Rattle.wd_natural.specs.Kinds.{is_natural}
 use Rattle.wd_natural.specs.Naturals.{NaturalTable, joined_tables, most_tables}
 use Rattle.wd_natural.specs.Written.{all_joined}
 
--- the tables of a FROM clause, if NATURAL stands in it
+-- the tables of a FROM clause, if NATURAL is in it
 abbrev pub tables_in : List TableRule → List Token → Option (List NaturalTable)
 tables_in schema clause = if has is_natural clause then joined_tables schema most_tables clause else None
 
 abbrev pub with_tables : List Token → List Token → List NaturalTable → Option (List Token)
 with_tables front after tables = Some (front ++ all_joined [] tables ++ after)
 
--- what stands for a FROM clause between these tokens
+-- what replaces a FROM clause between these tokens
 abbrev pub respelled_clause : List TableRule → List Token → List Token → List Token → Option (List Token)
 respelled_clause schema front clause after = tables_in schema clause >>= with_tables front after
 

@@ -15,7 +15,7 @@ use wd_lex::Token;
 use wd_schema::Schema;
 use wd_using::{Extent, split_at};
 
-/// NATURAL, if it stands there, FROM or JOIN, and what follows.
+/// NATURAL, if it is written, FROM or JOIN, and the tokens after them.
 #[derive(Drop)]
 pub struct Head<'t> {
     pub natural: Option<&'t Token>,
@@ -23,7 +23,7 @@ pub struct Head<'t> {
     pub behind: &'t [Token],
 }
 
-/// A table as it is joined: NATURAL, if it is joined so, FROM or JOIN, the table with its alias, its columns, and what stands behind it.
+/// A table as it is joined: NATURAL, if it is written, FROM or JOIN, the table with its alias, its columns, and the tokens after it.
 #[derive(Drop)]
 pub struct Joined<'t> {
     pub natural: Option<&'t Token>,
@@ -33,7 +33,7 @@ pub struct Joined<'t> {
     pub rest: &'t [Token],
 }
 
-/// What stands behind INNER, which may be left out.
+/// The tokens after INNER, which may be left out.
 fn behind_inner(tokens: &[Token]) -> &[Token]
     ensures { result.now ≡ spec.behind_inner tokens.now }
 {
@@ -43,7 +43,7 @@ fn behind_inner(tokens: &[Token]) -> &[Token]
     }
 }
 
-/// JOIN behind NATURAL.
+/// JOIN after NATURAL.
 fn natural_head<'t>(word: &'t Token, tokens: &'t [Token]) -> Option<Head<'t>>
     ensures { Finds named.join_head result (spec.natural_head word.now tokens.now) }
 {
@@ -77,7 +77,7 @@ fn head_at(tokens: &[Token]) -> Option<Head<'_>>
     None
 }
 
-/// Whether nothing stands there, or INNER before the next JOIN.
+/// Whether no token is left, or INNER comes before the next JOIN.
 fn ends(tokens: &[Token]) -> bool
     ensures { result ≡ joins.ends tokens.now }
 {
@@ -88,7 +88,7 @@ fn ends(tokens: &[Token]) -> bool
     }
 }
 
-/// Whether that may stand behind a table.
+/// Whether these tokens may come after a table.
 fn fits(natural: Option<&Token>, rest: &[Token]) -> bool
     ensures { result ≡ spec.fits (option_map (λ word. word.now) natural.entry) rest.now }
 {
@@ -104,7 +104,7 @@ fn fits(natural: Option<&Token>, rest: &[Token]) -> bool
 // The most columns of a table.
 const MOST_COLUMNS: usize = 128;
 
-/// A table, its alias, and what stands behind it.
+/// A table, its alias, and the tokens after it.
 fn joined_at<'t>(
     alloc: Global,
     schema: &'t Schema,
@@ -129,7 +129,7 @@ fn joined_at<'t>(
     Ok(None)
 }
 
-/// A table with the words that join it, and what follows.
+/// A table with the words that join it, and the tokens after it.
 #[tactic(auto, unfolding(crate::specs::Naturals::table_at))]
 fn table_at<'t>(
     alloc: Global,
@@ -148,7 +148,7 @@ fn table_at<'t>(
     }
 }
 
-/// Whether nothing follows.
+/// Whether no token is left.
 fn is_end(tokens: &[Token]) -> bool
     ensures { result ≡ joins.is_end tokens.now }
 {

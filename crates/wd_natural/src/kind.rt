@@ -31,21 +31,21 @@ pub fn is_select(kind: &TokenKind) -> bool
     matches!(kind, TokenKind::Terminal(Terminal::Select))
 }
 
-/// Whether FROM or JOIN stands there, before a table.
+/// Whether the token is FROM or JOIN, after which a table begins.
 pub fn begins_table(kind: &TokenKind) -> bool
     ensures { result ≡ joining.begins_table kind.now }
 {
     matches!(kind, TokenKind::Terminal(Terminal::From | Terminal::Join))
 }
 
-/// Whether a condition on which tables are joined begins there.
+/// Whether the token begins a condition on which tables are joined.
 pub fn begins_condition(kind: &TokenKind) -> bool
     ensures { result ≡ spec.begins_condition kind.now }
 {
     matches!(kind, TokenKind::Terminal(Terminal::On | Terminal::Using))
 }
 
-/// Whether FROM stands first.
+/// Whether the first token is FROM.
 pub fn starts_with_from(tokens: &[Token]) -> bool
     ensures { result ≡ kinds.begins kinds.is_from tokens.now }
 {
@@ -55,7 +55,7 @@ pub fn starts_with_from(tokens: &[Token]) -> bool
     }
 }
 
-/// Whether NATURAL stands among the tokens.
+/// Whether NATURAL is among the tokens.
 pub fn has_natural(mut tokens: &[Token]) -> bool
     ensures { result ≡ joining.has spec.is_natural tokens.entry.now }
 {

@@ -2,7 +2,7 @@
 
 ghost use Rattle.wd_natural.specs.Examples.{NaturalComesOut};
 
-/// Worked joins: what is written in their place, and which are left as they are.
+/// Worked joins: what replaces them, and which stay as they are.
 pub fn natural_comes_out()
     ensures { NaturalComesOut }
 {}

@@ -19,7 +19,7 @@ use wd_schema::Schema;
 // The most FROM clauses that are looked at.
 const MOST_CLAUSES: usize = 128;
 
-/// The tables of a FROM clause, if NATURAL stands in it.
+/// The tables of a FROM clause, if NATURAL is in it.
 fn tables_in<'t>(
     alloc: Global,
     schema: &'t Schema,
@@ -34,7 +34,7 @@ fn tables_in<'t>(
     Ok(None)
 }
 
-/// What stands for a FROM clause between these tokens.
+/// What replaces a FROM clause between these tokens.
 fn respelled_clause(
     alloc: Global,
     schema: &Schema,
@@ -72,7 +72,7 @@ fn respelled_at(
     Ok(None)
 }
 
-/// FROM clauses whose tables are joined by NATURAL JOIN, over a schema.
+/// The respelling of FROM clauses with NATURAL JOIN, over a schema.
 #[derive(Clone, Copy)]
 struct Naturals<'s> {
     schema: &'s Schema,
@@ -101,8 +101,8 @@ impl<'s> Selects for Naturals<'s> {
     }
 }
 
-/// The query without NATURAL JOIN, as far as its FROM clauses are read. An error if the query, or what is written, is longer than
-/// 65,536 tokens, or if memory ran out.
+/// The query without NATURAL JOIN, as far as its FROM clauses are read. An error if the query or the result is longer than 65,536 tokens,
+/// or if memory runs out.
 pub fn without_natural(
     alloc: Global,
     schema: &Schema,

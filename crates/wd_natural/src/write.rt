@@ -27,7 +27,7 @@ fn has_column(name: &str, mut columns: &[&str]) -> bool
     false
 }
 
-/// The columns that are among others.
+/// The columns that both tables have.
 fn common<'t>(alloc: Global, left: &[&str], columns: &[&'t str]) -> Result<Vec<&'t str>, AllocError>
     ensures { IfOk result (λ x. map (λ name. name.now) x.items ≡ spec.common (map (λ column. column.now) left.now) (map (λ column. column.now) columns.now)) }
 {
@@ -42,7 +42,7 @@ fn common<'t>(alloc: Global, left: &[&str], columns: &[&'t str]) -> Result<Vec<&
     Ok(names)
 }
 
-/// Adds a name behind a terminal.
+/// Adds a name after a terminal.
 fn add_name(
     alloc: Global,
     written: &mut Vec<Token>,
@@ -76,7 +76,7 @@ fn add_names(
     Ok(())
 }
 
-/// Adds `USING ( names )`, or ON TRUE where there is none.
+/// Adds `USING ( names )`, or ON TRUE where there are no names.
 fn add_condition(
     alloc: Global,
     written: &mut Vec<Token>,
@@ -96,7 +96,7 @@ fn add_condition(
     Ok(())
 }
 
-/// Adds the condition of a NATURAL JOIN with a table, behind tables with these columns.
+/// Adds the condition of a NATURAL JOIN with a table, after tables with these columns.
 fn add_condition_if(
     alloc: Global,
     written: &mut Vec<Token>,
@@ -115,7 +115,7 @@ fn add_condition_if(
     }
 }
 
-/// Adds a table behind tables with these columns, and the condition on which it is joined.
+/// Adds a table after tables with these columns, and the condition on which it is joined.
 fn add_joined(
     alloc: Global,
     written: &mut Vec<Token>,
@@ -131,7 +131,7 @@ fn add_joined(
     Ok(())
 }
 
-/// Adds columns behind others.
+/// Adds columns after others.
 fn add_columns<'t>(left: &mut Vec<&'t str>, mut columns: &[&'t str]) -> Result<(), AllocError>
     ensures { IfOk result (λ _. map (λ column. column.now) left.new.items ≡ map (λ column. column.now) left.old.items ++ map (λ column. column.now) columns.entry.now) }
 {
@@ -160,7 +160,7 @@ fn add_all_joined(
     Ok(())
 }
 
-/// What stands for a FROM clause between these tokens.
+/// What replaces a FROM clause between these tokens.
 pub fn written(
     alloc: Global,
     front: &[Token],

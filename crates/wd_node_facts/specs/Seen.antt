@@ -32,7 +32,7 @@ fact_by shown kept = record { from = columns_named (columns_of (slice_get shown 
 abbrev pub facts_kept : Keeps → List Fact
 facts_kept keeps = map (fact_by (map traced_of keeps.traces.items)) keeps.list.items
 
--- these as the node above names them
+-- the facts that a side keeps, as the node above numbers them
 abbrev pub side_facts : Side → List Fact
 side_facts side = moved_facts (λ c. side.by + c) side.row (facts_kept side.keeps)
 
@@ -65,7 +65,7 @@ HasNoOther (Window w input) kept more = more ≡ []
 HasNoOther (Distinct input) kept more = more ≡ []
 HasNoOther (Limit limit input) kept more = more ≡ []
 
--- the number that column 0 of the child has among the columns of the facts, at a Join of the left one
+-- the number of the child's column 0 among the columns of the facts; at a Join of the left child's
 abbrev pub first_below : PlanTree → ℕ
 first_below (Scan table columns) = 0
 first_below (Join condition left right) = 0
@@ -76,7 +76,7 @@ first_below (Window w input) = 0
 first_below (Distinct input) = 0
 first_below (Limit limit input) = 0
 
--- what the child's row is there
+-- the member that the child's row becomes
 abbrev pub row_below : PlanTree → Member
 row_below (Scan table columns) = member.Row
 row_below (Join condition left right) = member.Left
@@ -87,7 +87,7 @@ row_below (Window w input) = member.Row
 row_below (Distinct input) = member.Row
 row_below (Limit limit input) = member.Row
 
--- the number that column 0 of the right child of a Join has
+-- the number of the column 0 of a Join's right child
 abbrev pub first_beside : PlanTree → ℕ
 first_beside (Scan table columns) = 0
 first_beside (Join condition left right) = width left
@@ -98,7 +98,7 @@ first_beside (Window w input) = 0
 first_beside (Distinct input) = 0
 first_beside (Limit limit input) = 0
 
--- what is given of what the child keeps: of a Group what its one set keeps of that
+-- the facts that are given by what the child keeps; of a Group what its one set keeps of them
 abbrev pub kept_through : PlanTree → List Fact → List Fact
 kept_through (Scan table columns) kept = kept
 kept_through (Join condition left right) kept = kept
@@ -119,7 +119,7 @@ is_group (Window w input) = false
 is_group (Distinct input) = false
 is_group (Limit limit input) = false
 
--- a node's own facts beside those of its sides; those of a Group stand first
+-- a node's own facts and those of its sides; those of a Group come first
 abbrev pub with_own : Bool → FactList → List Fact → List Fact → FactList
 with_own first own left right = record {
   columns = own.columns;

@@ -1,5 +1,5 @@
-//! The facts that a node keeps, and those that are given at the node above: a kept fact is its targets and the number of its trace,
-//! so that many facts by one trace share its columns.
+//! The facts that a node keeps, and those that are given at the node above. A kept fact is its targets and the number of its trace, so
+//! that many facts by one trace share its columns.
 
 ghost use Rattle.std.specs.Prelude.{◌≡◌, [], ◌∷◌, ◌++◌, true, map, filter, flat_map, nat_lt, slice_get, IfOk};
 ghost use Rattle.std.specs.List.{list_all};
@@ -23,14 +23,14 @@ use wd_sets::Set;
 use wd_step_facts::cut_members;
 use wd_value::OutOfMemory;
 
-/// A trace's columns, each once, and the members by which it reaches what it does.
+/// A trace's columns, each once, and the members after its uses; what follows from these is reached.
 #[derive(Drop)]
 pub struct Followed {
     pub from: Vec<u16>,
     pub set: Set,
 }
 
-/// A kept fact: the number of its trace, and what the trace's columns give, each once.
+/// A kept fact: the number of its trace, and what the trace's columns determine, each once.
 #[derive(Drop)]
 pub struct KeptFact {
     pub trace: usize,
@@ -44,7 +44,7 @@ pub struct Keeps {
     pub list: Vec<KeptFact>,
 }
 
-/// What a child keeps, as the node above names it: column 0 is the one with the number `by`, the row is `row`.
+/// What a child keeps, as the node above numbers it: column 0 becomes the column `by`, and the row becomes `row`.
 #[derive(Drop)]
 pub struct Side {
     pub keeps: Keeps,
@@ -52,13 +52,12 @@ pub struct Side {
     pub row: Member,
 }
 
-/// The given facts of a node, in their order: of a Group those that it gives stand before what its child keeps, of another node
-/// behind that.
+/// The given facts of a node, in order: of a Group its own facts come before those that its child keeps, of another node after them.
 #[derive(Drop)]
 pub struct NodeFacts {
-    /// How many columns the facts speak of.
+    /// How many columns the facts are over.
     pub columns: u16,
-    /// At a Join, how many of them are the left side's.
+    /// At a Join, how many of the columns are the left side's.
     pub split: Option<u16>,
     pub first: Vec<Given>,
     pub left: Side,
@@ -67,7 +66,7 @@ pub struct NodeFacts {
 }
 
 impl Keeps {
-    /// Nothing.
+    /// No facts.
     pub fn none(alloc: Global) -> Keeps
         ensures { facts_kept result ≡ [] }
     {
@@ -78,7 +77,7 @@ impl Keeps {
     }
 }
 
-/// The columns of the trace with a number; none where no trace has it.
+/// The columns of the trace with a number; empty where no trace has it.
 pub fn columns_of(traces: &[Followed], number: usize) -> &[u16]
     ensures { result.now ≡ spec.columns_of (slice_get (map traced_of traces.now) number) }
 {
@@ -88,7 +87,7 @@ pub fn columns_of(traces: &[Followed], number: usize) -> &[u16]
     }
 }
 
-/// Whether each of the numbers is one of so many columns.
+/// Whether each of the numbers is below the number of columns.
 pub fn are_columns(columns: u16, from: &[u16]) -> bool
     ensures { result ≡ list_all (λ c. nat_lt c columns) from.now }
 {
@@ -100,7 +99,7 @@ pub fn are_columns(columns: u16, from: &[u16]) -> bool
     true
 }
 
-/// A kept fact with those of its targets that are one of so many columns or the row.
+/// A kept fact with those of its targets that are one of the first `columns` columns or the row.
 fn cut_fact(alloc: Global, columns: u16, kept: &KeptFact) -> Result<KeptFact, OutOfMemory>
     ensures trace { IfOk result (λ k. k.trace ≡ kept.now.trace) }
     ensures to { IfOk result (λ k. k.to.items ≡ filter (facts_spec.is_plain columns) kept.now.to.items) }
@@ -119,7 +118,7 @@ fn push_kept(list: &mut Vec<KeptFact>, kept: KeptFact) -> Result<(), OutOfMemory
     Ok(())
 }
 
-/// Appends a kept fact that begins with some of so many columns, with the targets that are such columns or the row.
+/// Appends a kept fact whose columns are all among the first `columns`, with the targets that are such columns or the row.
 fn add_cut(
     alloc: Global,
     columns: u16,
@@ -137,7 +136,7 @@ fn add_cut(
     }
 }
 
-/// Kept facts, cut to so many columns.
+/// Kept facts, restricted to the first `columns` columns.
 #[tactic(auto, using(crate::proofs::Sides::cut_next))]
 fn cut_list(
     alloc: Global,
@@ -154,7 +153,7 @@ fn cut_list(
     Ok(list)
 }
 
-/// What one set of a Group keeps of what its child does; several sets keep nothing.
+/// What a Group with one set keeps of its child's facts; one with several sets keeps none.
 fn group_keeps(alloc: Global, group: &Group, keeps: Keeps) -> Result<Keeps, OutOfMemory>
     ensures { IfOk result (λ k. facts_kept k ≡ facts_of_group (grouping_of group.now) (facts_kept keeps)) }
 {
@@ -166,7 +165,7 @@ fn group_keeps(alloc: Global, group: &Group, keeps: Keeps) -> Result<Keeps, OutO
     Ok(Keeps { traces, list })
 }
 
-/// The number that column 0 of the child has among the columns of the facts, at a Join of the left one.
+/// The number of the child's column 0 among the columns of the facts; at a Join of the left child's.
 #[tactic(auto, using(wd_plan::proofs::Ranges::narrow))]
 fn first_below(plan: &Plan, schema: &Schema) -> u16
     requires { fitting.fits (schema_of schema.now) (plan_of plan.now) ≡ true }
@@ -178,7 +177,7 @@ fn first_below(plan: &Plan, schema: &Schema) -> u16
     }
 }
 
-/// What the child's row is there.
+/// The member that the child's row becomes.
 fn row_below(plan: &Plan) -> Member
     ensures { result ≡ spec.row_below (plan_of plan.now) }
 {
@@ -188,7 +187,7 @@ fn row_below(plan: &Plan) -> Member
     }
 }
 
-/// The number that column 0 of the right child of a Join has.
+/// The number of the column 0 of a Join's right child.
 #[tactic(auto, using(wd_plan::proofs::Ranges::narrow))]
 fn first_beside(plan: &Plan, schema: &Schema) -> u16
     requires { fitting.fits (schema_of schema.now) (plan_of plan.now) ≡ true }
@@ -200,7 +199,7 @@ fn first_beside(plan: &Plan, schema: &Schema) -> u16
     }
 }
 
-/// What is given of what the child keeps: of a Group what its one set keeps of that.
+/// The facts that are given by what the child keeps; of a Group what its one set keeps of them.
 fn kept_through(alloc: Global, plan: &Plan, keeps: Keeps) -> Result<Keeps, OutOfMemory>
     ensures { IfOk result (λ k. facts_kept k ≡ spec.kept_through (plan_of plan.now) (facts_kept keeps)) }
 {
@@ -216,7 +215,7 @@ fn is_group(plan: &Plan) -> bool
     matches!(plan, Plan::Group { .. })
 }
 
-/// A node's own facts beside those that its children keep; those of a Group stand first.
+/// A node's own facts and those that its children keep; those of a Group come first.
 fn node_facts(alloc: Global, is_group: bool, own: Facts, left: Side, right: Side) -> NodeFacts
     ensures seen { seen_of result ≡ spec.with_own is_group (facts_of own) (spec.side_facts left) (spec.side_facts right) }
     ensures left { result.left ≡ left }
@@ -242,7 +241,7 @@ fn node_facts(alloc: Global, is_group: bool, own: Facts, left: Side, right: Side
     }
 }
 
-/// The given facts of a plan's top node, whose children keep these; where there is no child, nothing is kept.
+/// The given facts of a plan's top node, whose children keep these; nothing is kept where there is no child.
 #[tactic(auto, using(crate::proofs::Sides::none_named, crate::proofs::Sides::given_seen, crate::proofs::Sides::left_narrow, crate::proofs::Sides::right_narrow))]
 pub fn facts_at(
     alloc: Global,

@@ -13,7 +13,7 @@ use Rattle.wd_operands.specs.declared.nest.Step.TheVariants.{Opens, Closes, Pass
 abbrev pub most_open : ℕ
 most_open = 64
 
--- what a token does to the brackets that are open
+-- what a token does to the open brackets
 abbrev pub step_of : TokenKind → Step
 step_of (t.Terminal m.LeftBracket) = Opens Round
 step_of (t.Terminal m.Case) = Opens Case
@@ -36,24 +36,25 @@ abbrev pub closed_by : Bracket → List Bracket → Option (List Bracket)
 closed_by closing [] = None
 closed_by closing (opened ∷ unclosed) = if is_pair opened closing then Some unclosed else None
 
--- what is open after a token; nothing can follow where it closes what is not open, or opens one too many
+-- what is open after a token; nothing can follow where it closes a bracket that is not open, or opens one too many
 abbrev pub open_after : List Bracket → Step → Option (List Bracket)
 open_after unclosed (Opens bracket) = if nat_lt (length unclosed) most_open then Some (bracket ∷ unclosed) else None
 open_after unclosed (Closes bracket) = closed_by bracket unclosed
 open_after unclosed Passes = Some unclosed
 
--- the tokens end where nothing is open any more, and go on where something is
+-- the tokens end where no bracket is open any more, and continue where one is
 abbrev pub end_or_on : ℕ → Option (List Bracket) → (List Bracket → ℕ) → ℕ
 end_or_on count None on = 0
 end_or_on count (Some []) on = count
 end_or_on count (Some (bracket ∷ unclosed)) on = on (bracket ∷ unclosed)
 
--- how many tokens stand up to the one after which nothing is open; so many stand before these, and so much is open
+-- how many tokens there are up to the one after which no bracket is open, from a number of tokens before these and the brackets open
+-- before them
 unfoldable pub nest_from : ℕ → List Bracket → List Token → ℕ
 nest_from count unclosed [] = 0
 nest_from count unclosed (token ∷ tokens) = end_or_on (count + 1) (open_after unclosed (step_of token.kind)) (λ now. nest_from (count + 1) now tokens)
 
--- how many tokens stand up to the bracket that closes the one they begin with, it included
+-- how many tokens there are up to and including the bracket that closes the first one
 unfoldable pub nest_length : List Token → ℕ
 nest_length [] = 0
 nest_length (token ∷ tokens) = if opens (step_of token.kind) then nest_from 0 [] (token ∷ tokens) else 0

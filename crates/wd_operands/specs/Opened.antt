@@ -4,7 +4,7 @@ use Rattle.wd_operands.specs.declared.nest.Bracket.{Bracket}
 use Rattle.wd_operands.specs.declared.nest.Bracket.TheVariants.{Round}
 use Rattle.wd_operands.specs.declared.nest.Open.{Open}
 
--- the first so many brackets, the last of them first
+-- the first n brackets, the last of them first
 abbrev pub last_first : ℕ → List Bracket → List Bracket
 last_first zero brackets = []
 last_first (suc count) brackets = slice_index_or brackets count Round ∷ last_first count brackets

@@ -1,5 +1,5 @@
--- Arithmetic operands at the start of a list of tokens: what binds more tightly than BETWEEN, IN and comparisons. Each length
--- is 0 where what is said of it does not stand first.
+-- Arithmetic operands at the start of a list of tokens: what binds more tightly than BETWEEN, IN and comparisons. Each length is 0 where
+-- the tokens don't begin so.
 use Rattle.std.specs.Prelude.{ℕ, zero, suc, ◌+◌, ◌||◌, ◌&&◌, ◌==◌, not, codes, nat_lt, Bool, true, false, if◌then◌else◌, List, [], ◌∷◌, length, drop}
 use Rattle.std.specs.Str.{bytes_eq}
 use Rattle.wd_lex.specs.declared.token.Terminal.TheVariants as m
@@ -10,11 +10,11 @@ use Rattle.wd_operands.specs.Nests.{nest_length}
 
 -- ---- single tokens
 
--- a word that stands between an operand and the next is no name
+-- a word that comes between an operand and the next is not a name
 abbrev pub is_test_word : List ℕ → Bool
 is_test_word text = bytes_eq text (codes "between") || bytes_eq text (codes "in") || bytes_eq text (codes "like") || bytes_eq text (codes "ilike") || bytes_eq text (codes "similar")
 
--- a name is a word, or it stands in quotes
+-- a name is a word, or it is in quotes
 abbrev pub is_name : TokenKind → Bool
 is_name (t.Word text) = not (is_test_word text)
 is_name (t.Quoted text) = true
@@ -127,7 +127,7 @@ primary_length tokens = or_else (or_else (nest_length tokens) (call_length token
 
 -- ---- operands
 
--- how many signs stand first; so many stand before these
+-- how many signs the tokens begin with, added to the given number
 unfoldable pub signs_from : ℕ → List Token → ℕ
 signs_from count [] = count
 signs_from count (token ∷ tokens) = if is_sign token.kind then signs_from (count + 1) tokens else count
@@ -141,7 +141,7 @@ unfoldable pub link_length : List Token → ℕ
 link_length [] = 0
 link_length (token ∷ tokens) = if is_operator token.kind then (if factor_length tokens == 0 then 0 else 1 + factor_length tokens) else 0
 
--- so many tokens, and all links after them; the number bounds the turns
+-- how many tokens an operand takes with all links from here on, added to a count; the first number bounds the turns
 unfoldable pub links_from : ℕ → ℕ → List Token → ℕ
 links_from zero count tokens = count
 links_from (suc turns) count tokens = if link_length tokens == 0 then count else links_from turns (count + link_length tokens) (drop (link_length tokens) tokens)

@@ -1,6 +1,6 @@
-//! How far something reaches at the start of a list of tokens, where no tree is built of it.
+//! How many tokens a bracket or an operand takes at the start of a list of tokens; no tree is built.
 //!
-//! `nest` says where a bracket is closed, and `operand` how far an arithmetic operand goes.
+//! `nest` finds the bracket that closes the first one, and `operand` the end of an arithmetic operand, whose parts are in `primary`.
 #![tactic(auto)]
 
 pub mod laws;

@@ -18,7 +18,7 @@ enum Bracket {
     Case,
 }
 
-/// What a token does to the brackets that are open.
+/// What a token does to the open brackets.
 #[derive(Clone, Copy)]
 enum Step {
     Opens(Bracket),
@@ -45,14 +45,14 @@ fn step_of(kind: &TokenKind) -> Step
     }
 }
 
-/// Whether a token opens a bracket.
+/// Whether a step opens a bracket.
 fn opens(step: Step) -> bool
     ensures { result ≡ opens step }
 {
     matches!(step, Step::Opens(_))
 }
 
-/// Whether a bracket is closed by one of that kind.
+/// Whether a bracket is closed by a bracket of that kind.
 fn is_pair(opened: Bracket, closing: Bracket) -> bool
     ensures { result ≡ is_pair opened closing }
 {
@@ -63,7 +63,7 @@ fn is_pair(opened: Bracket, closing: Bracket) -> bool
 }
 
 impl Open {
-    /// Opens a bracket, where there is room.
+    /// Opens a bracket, if there is room.
     fn push(&mut self, bracket: Bracket) -> bool
         requires { self.old.count ≤ 64 }
         ensures brackets { open_after (open_in self.old) (Step.Opens bracket) ≡ (if result then Some (open_in self.new) else None) }
@@ -77,7 +77,7 @@ impl Open {
         true
     }
 
-    /// Closes the bracket that was opened last, where it is of that kind.
+    /// Closes the bracket that was opened last, if it is of that kind.
     fn close(&mut self, bracket: Bracket) -> bool
         requires { self.old.count ≤ 64 }
         ensures brackets { closed_by bracket (open_in self.old) ≡ (if result then Some (open_in self.new) else None) }
@@ -90,7 +90,7 @@ impl Open {
         true
     }
 
-    /// Goes past a token, unless it closes what is not open or opens one too many.
+    /// Takes a token, unless it closes a bracket that is not open or opens one too many.
     fn pass(&mut self, step: Step) -> bool
         requires { self.old.count ≤ 64 }
         ensures brackets { open_after (open_in self.old) step ≡ (if result then Some (open_in self.new) else None) }
@@ -104,8 +104,8 @@ impl Open {
     }
 }
 
-/// How many tokens stand up to the bracket that closes the one they begin with, it included. 0 where they begin with none, or
-/// it is not closed, or is closed by one of the other kind, or more than 64 are open at once.
+/// How many tokens there are up to and including the bracket that closes the first one. 0 where the first token opens no bracket, or the
+/// bracket is not closed or is closed by one of the other kind, or more than 64 are open at once.
 #[tactic(auto, unfolding(crate::specs::Nests::nest_length, crate::specs::Nests::nest_from))]
 pub fn nest_length(tokens: &[Token]) -> usize
     ensures value { result ≡ nest_length tokens.now }

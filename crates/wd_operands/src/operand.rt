@@ -23,7 +23,7 @@ fn is_operator(kind: &TokenKind) -> bool
     )
 }
 
-/// How many signs stand first.
+/// How many signs the tokens begin with.
 #[tactic(auto, unfolding(crate::specs::Operands::signs_from))]
 fn signs_length(tokens: &[Token]) -> usize
     ensures value { result ≡ signs_from 0 tokens.now }
@@ -41,7 +41,7 @@ fn signs_length(tokens: &[Token]) -> usize
     count
 }
 
-/// Signs and a primary.
+/// How many tokens signs and a primary take.
 #[tactic(auto, unfolding(crate::specs::Operands::factor_length))]
 fn factor_length(tokens: &[Token]) -> usize
     ensures value { result ≡ factor_length tokens.now }
@@ -52,7 +52,7 @@ fn factor_length(tokens: &[Token]) -> usize
     if primary == 0 { 0 } else { signs + primary }
 }
 
-/// An operator and what it is applied to.
+/// How many tokens an operator and its right operand take.
 #[tactic(auto, unfolding(crate::specs::Operands::link_length))]
 fn link_length(tokens: &[Token]) -> usize
     ensures value { result ≡ link_length tokens.now }
@@ -68,7 +68,7 @@ fn link_length(tokens: &[Token]) -> usize
     if factor == 0 { 0 } else { 1 + factor }
 }
 
-/// How many tokens the longest arithmetic operand takes that stands at the start. 0 where none does.
+/// How many tokens the longest arithmetic operand at the start takes; 0 where none begins.
 #[tactic(auto, unfolding(crate::specs::Operands::operand_length, crate::specs::Operands::links_from))]
 pub fn operand_length(tokens: &[Token]) -> usize
     ensures value { result ≡ operand_length tokens.now }

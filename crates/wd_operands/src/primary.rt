@@ -1,4 +1,4 @@
-//! What an operand is made of: names, calls, constants, and what stands in brackets.
+//! The parts of an operand: names, calls, constants, and brackets.
 
 ghost use Rattle.std.specs.Prelude.{◌≡◌, ◌≤◌, length, drop, true};
 ghost use Rattle.wd_operands.specs.Operands.{brackets_length, call_length, call_tail_length, constant_length, filter_length, is_column, is_constant, is_filter, is_left_bracket, is_name, is_over, is_test_word, name_length, over_length, or_else, primary_length, typed_length, window_length};
@@ -6,7 +6,7 @@ ghost use Rattle.wd_operands.specs.Operands.{brackets_length, call_length, call_
 use crate::nest::nest_length;
 use wd_lex::{Terminal, Token, TokenKind};
 
-/// The tokens after so many.
+/// The tokens after the first `count`.
 pub fn past(tokens: &[Token], count: usize) -> &[Token]
     requires { count ≤ length tokens.now }
     ensures { result.now ≡ drop count tokens.now }
@@ -14,7 +14,7 @@ pub fn past(tokens: &[Token], count: usize) -> &[Token]
     tokens.split_at(count).1
 }
 
-/// Whether a word begins what stands between an operand and the next, so that it is no name.
+/// Whether a word begins what comes between an operand and the next, so that it is not a name.
 fn is_test_word(text: &str) -> bool
     ensures { result ≡ is_test_word text.now }
 {
@@ -156,7 +156,7 @@ fn call_length(tokens: &[Token]) -> usize
     }
 }
 
-/// A word and a text, as `DATE '2026-01-01'`
+/// A word and a text, as `DATE '2026-01-01'`.
 fn typed_length(tokens: &[Token]) -> usize
     ensures value { result ≡ typed_length tokens.now }
     ensures within { result ≤ length tokens.now }
@@ -177,7 +177,7 @@ fn typed_length(tokens: &[Token]) -> usize
     }
 }
 
-/// Whether `. name` stands first.
+/// Whether the tokens begin with `. name`.
 fn is_column(tokens: &[Token]) -> bool
     ensures value { result ≡ is_column tokens.now }
     ensures within { result ≡ true → 2 ≤ length tokens.now }
@@ -210,7 +210,7 @@ fn name_length(tokens: &[Token]) -> usize
     if is_column(rest) { 3 } else { 1 }
 }
 
-/// A text, a number, NULL, TRUE or FALSE
+/// A text, a number, NULL, TRUE or FALSE.
 #[tactic(auto, unfolding(crate::specs::Operands::constant_length))]
 fn constant_length(tokens: &[Token]) -> usize
     ensures value { result ≡ constant_length tokens.now }
@@ -229,7 +229,7 @@ fn or_else(first: usize, second: usize) -> usize
     if first == 0 { second } else { first }
 }
 
-/// What is no sum, product or sign.
+/// An operand without sums, products and signs outside brackets.
 #[tactic(auto, unfolding(crate::specs::Operands::primary_length))]
 pub fn primary_length(tokens: &[Token]) -> usize
     ensures value { result ≡ primary_length tokens.now }

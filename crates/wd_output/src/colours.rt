@@ -3,7 +3,7 @@
 use std::alloc::Global;
 use wd_value::OutOfMemory;
 
-/// The lines of blocks in colours: where something stands in bold, its carets in red, its help in green.
+/// The lines of blocks in colours: the line with a block's place in bold, its carets in red, its help in green.
 pub(crate) fn coloured(alloc: Global, text: &[u8]) -> Result<Vec<u8>, OutOfMemory> {
     let mut out = Vec::new(alloc);
     let mut is_head = true;
@@ -28,7 +28,7 @@ pub(crate) fn coloured(alloc: Global, text: &[u8]) -> Result<Vec<u8>, OutOfMemor
     Ok(out)
 }
 
-/// What turns the colour of a line on, where it has one.
+/// The code that turns on the colour of a line, if it has one.
 fn code_of(line: &[u8], is_head: bool) -> Option<&'static [u8]> {
     if line.is_empty() {
         None

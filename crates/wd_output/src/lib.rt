@@ -1,6 +1,6 @@
-//! What `wdreport` tells, and how.
+//! What `wdreport` prints, and how.
 //!
-//! `report` has what is told as a person, a program or a GitHub workflow reads it, and `screen` puts it out, in the `colours` of a
+//! `report` has the findings as a person, a program or a GitHub workflow reads them, and `screen` prints them, in the `colours` of a
 //! terminal and with the `progress` of the run.
 #![tactic(auto)]
 

@@ -1,27 +1,27 @@
-//! How far a run is.
+//! The progress of a run.
 
 use std::io::Write;
 use std::rt::Clock;
 use std::time::Instant;
 
-/// How far a run is. Of a file that is still to be read nobody knows how many queries it has: it counts as one of those that are
+/// The progress of a run. The number of queries in a file that is still to be read is unknown: such a file counts as one of the files
 /// left.
 #[derive(Clone, Copy)]
 pub(crate) struct Progress {
-    /// When it began; none where nothing is shown.
+    /// When the run began; `None` where nothing is shown.
     began: Option<Instant>,
-    /// Whether a line stands on the terminal.
+    /// Whether a line is on the terminal.
     is_shown: bool,
     /// How many queries are done.
     done: u64,
-    /// How many queries the files have that are read.
+    /// How many queries the files have that were read.
     read: u64,
     /// How many files are still to be read.
     left: u64,
 }
 
 impl Progress {
-    /// A run over so many files that begins now, and is shown on a terminal alone.
+    /// A run over the given number of files that begins now; its progress is shown only on a terminal.
     pub(crate) fn new<C: Clock>(clock: &C, is_terminal: bool, files: u64) -> Progress {
         Progress {
             began: if is_terminal {
@@ -41,7 +41,7 @@ impl Progress {
         self.left = self.left.saturating_sub(1);
     }
 
-    /// The file has so many queries.
+    /// Adds the queries of a file.
     pub(crate) fn add_queries(&mut self, queries: u64) {
         self.read = self.read.saturating_add(queries);
     }
@@ -51,7 +51,7 @@ impl Progress {
         self.done = self.done.saturating_add(1);
     }
 
-    /// Shows how many queries of all are done, a second after the beginning and later.
+    /// Shows how many of the queries are done, from one second after the beginning on.
     pub(crate) fn show<C: Clock, E: Write>(&mut self, clock: &C, err: &mut E) {
         let Some(began) = self.began else {
             return;
@@ -69,7 +69,7 @@ impl Progress {
         }
     }
 
-    /// Takes off what is shown.
+    /// Removes what is shown.
     pub(crate) fn clear<E: Write>(&mut self, err: &mut E) {
         if self.is_shown {
             let _ = err.write_all(b"\r\x1b[K");

@@ -1,4 +1,4 @@
-//! What is found, as a person, a program or a GitHub workflow reads it.
+//! The findings, as a person, a program or a GitHub workflow reads them.
 
 ghost use Rattle.std.specs.Prelude.{◌≡◌, IfErr};
 
@@ -12,21 +12,21 @@ use wd_source::{Position, position_at};
 use wd_value::OutOfMemory;
 use wd_words::Format;
 
-/// A block, and what it is about.
+/// A block of lines, and what it is about.
 #[derive(Clone, Copy)]
 struct Told<'p, 'b, 'm> {
-    /// What a program calls it.
+    /// A program's word for it.
     word: &'static str,
-    /// How grave it is to a workflow.
+    /// Its severity for a workflow.
     level: Level,
     path: &'p str,
     position: Position,
     block: &'b str,
-    /// The text of the statement with which it has one answer, where one is known.
+    /// The text of the statement with added keys with which it has one answer, if one is known.
     mended: Option<&'m [u8]>,
 }
 
-/// What is told of some files, in a format.
+/// What is reported of some files, in a format.
 #[derive(Drop)]
 pub struct Report {
     pub format: Format,
@@ -35,7 +35,7 @@ pub struct Report {
 }
 
 impl Report {
-    /// A report that tells nothing yet.
+    /// An empty report.
     pub fn new(alloc: Global, format: Format) -> Report {
         Report {
             format,
@@ -43,7 +43,7 @@ impl Report {
         }
     }
 
-    /// Adds what is told.
+    /// Adds a block.
     fn add(&mut self, alloc: Global, told: Told<'_, '_, '_>) -> Result<(), OutOfMemory>
         ensures kept { IfErr result (λ _. self.new.bytes.items ≡ self.old.bytes.items) }
     {
@@ -51,7 +51,7 @@ impl Report {
         Ok(self.bytes.extend_from_slice(&more)?)
     }
 
-    /// Adds a block of what is judged of a statement of a query's file, over the schema of another file.
+    /// Adds a block about a statement of a query's file, which was checked over the schema of another file.
     pub fn add_block(
         &mut self,
         alloc: Global,
@@ -83,7 +83,7 @@ impl Report {
         )
     }
 
-    /// Adds that a comment of a query's file, which begins as an excuse, is none.
+    /// Adds that a comment of a query's file begins as an excuse but is none.
     pub fn add_comment(
         &mut self,
         alloc: Global,
@@ -176,14 +176,14 @@ impl Report {
         )
     }
 
-    /// Adds a remark on a path of which nothing is read.
+    /// Adds a remark on a path that is not read.
     pub fn add_remark(&mut self, alloc: Global, path: &str, remark: &str) -> Result<(), OutOfMemory>
         ensures kept { IfErr result (λ _. self.new.bytes.items ≡ self.old.bytes.items) }
     {
         self.add_line(alloc, kind_word(Kind::NotRead), Level::Error, path, remark)
     }
 
-    /// Adds a line on a path, which a program knows by this word.
+    /// Adds a line about a path, with a program's word for it.
     pub fn add_line(
         &mut self,
         alloc: Global,
@@ -210,7 +210,7 @@ impl Report {
     }
 }
 
-/// What is told, in a format.
+/// A block in a format.
 fn told_in(alloc: Global, format: Format, told: Told<'_, '_, '_>) -> Result<Vec<u8>, OutOfMemory> {
     match format {
         Format::Text => Ok(Vec::from_slice(alloc, told.block.as_bytes())?),
@@ -235,7 +235,7 @@ fn told_in(alloc: Global, format: Format, told: Told<'_, '_, '_>) -> Result<Vec<
     }
 }
 
-/// Bytes as a text, where they are one.
+/// Bytes as a text, if they are one.
 fn text_of(bytes: Option<&[u8]>) -> Option<&str> {
     match bytes {
         Some(bytes) => str::from_utf8(bytes).ok(),
@@ -243,7 +243,7 @@ fn text_of(bytes: Option<&[u8]>) -> Option<&str> {
     }
 }
 
-/// What a program calls a finding.
+/// A program's word for a finding.
 fn kind_word(kind: Kind) -> &'static str {
     match kind {
         Kind::Deterministic => "deterministic",
@@ -253,7 +253,7 @@ fn kind_word(kind: Kind) -> &'static str {
     }
 }
 
-/// How grave a finding is to a workflow.
+/// The severity of a finding for a workflow.
 fn kind_level(kind: Kind) -> Level {
     match kind {
         Kind::Depends | Kind::NotRead => Level::Error,

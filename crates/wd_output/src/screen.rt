@@ -1,7 +1,7 @@
-//! What a terminal shows: what is told, in colours, and how far a run is.
+//! What a terminal shows: the findings, in colours, and the progress of the run.
 //!
-//! Where standard error is a terminal and a run takes more than a second, its last line tells how many queries are done. It is
-//! taken off before anything else is written, and at the end.
+//! Where standard error is a terminal and a run takes more than a second, its last line says how many queries are done. The line is
+//! removed before anything else is written, and at the end.
 
 use crate::colours::coloured;
 use crate::progress::Progress;
@@ -16,21 +16,21 @@ use wd_words::{Colour, Format};
 /// Which of the streams are terminals.
 #[derive(Clone, Copy, Debug, PartialEq, Eq)]
 pub struct Terminals {
-    /// Whether standard output is one.
+    /// Whether standard output is a terminal.
     pub out: bool,
-    /// Whether standard error is one.
+    /// Whether standard error is a terminal.
     pub err: bool,
 }
 
-/// How a run shows what it tells.
+/// How a run shows its findings.
 #[derive(Clone, Copy, Debug, PartialEq, Eq)]
 pub struct Look {
     pub colour: Colour,
-    /// Whether standard output has another text, so that what is told goes to standard error.
+    /// Whether standard output has another text, so that the findings go to standard error.
     pub is_filter: bool,
 }
 
-/// Why what is told is not written.
+/// Why the findings are not written.
 #[derive(Clone, Copy, Debug, PartialEq, Eq)]
 pub enum ScreenError {
     /// A stream can't be written.
@@ -50,19 +50,19 @@ impl From<io::Error> for ScreenError {
     }
 }
 
-/// What is told how far a run is.
+/// Receives the progress of a run.
 pub trait Watch {
     /// One more file is begun.
     fn begin_file(&mut self);
 
-    /// The file has so many queries.
+    /// Adds the queries of a file.
     fn add_queries(&mut self, queries: u64);
 
     /// One more query is done.
     fn add_done(&mut self);
 }
 
-/// The streams of a run, and how far it is.
+/// The streams of a run, and its progress.
 #[derive(Drop)]
 pub struct Screen<'s, C, O, E> {
     look: Look,
@@ -74,7 +74,7 @@ pub struct Screen<'s, C, O, E> {
 }
 
 impl<'s, C: Clock, O: Write, E: Write> Screen<'s, C, O, E> {
-    /// The streams of a run over so many files that begins now.
+    /// The streams of a run over the given number of files that begins now.
     pub fn new(
         look: Look,
         terminals: Terminals,
@@ -93,7 +93,7 @@ impl<'s, C: Clock, O: Write, E: Write> Screen<'s, C, O, E> {
         }
     }
 
-    /// Writes what is told, in colours where a terminal shows a text.
+    /// Writes findings, in colours where a terminal shows a text.
     pub fn tell(&mut self, alloc: Global, report: &Report) -> Result<(), ScreenError> {
         if report.bytes.is_empty() {
             return Ok(());
@@ -111,7 +111,7 @@ impl<'s, C: Clock, O: Write, E: Write> Screen<'s, C, O, E> {
         }
     }
 
-    /// Writes bytes of what is told.
+    /// Writes bytes of findings.
     pub fn write(&mut self, bytes: &[u8]) -> Result<(), ScreenError> {
         self.progress.clear(self.err);
         if self.look.is_filter {
@@ -121,14 +121,14 @@ impl<'s, C: Clock, O: Write, E: Write> Screen<'s, C, O, E> {
         }
     }
 
-    /// Writes the text that standard output has, and waits until all is handed on.
+    /// Writes the text of standard output, and waits until all of it is passed on.
     pub fn finish(&mut self, text: &[u8]) -> Result<(), ScreenError> {
         self.progress.clear(self.err);
         self.out.write_all(text)?;
         Ok(self.out.flush()?)
     }
 
-    /// Shows how far the run is.
+    /// Shows the progress of the run.
     fn show(&mut self) {
         self.progress.show(self.clock, self.err);
     }

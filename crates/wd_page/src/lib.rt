@@ -1,8 +1,8 @@
-//! The page of wdreport: one file of HTML with all queries, and what is found of each.
+//! The page of wdreport: one file of HTML with all queries and the findings on each.
 //!
-//! `query` says what there is to show of a query, `section` makes its part of the page of what `wd_page_parts` has, with the
-//! words of `words`, and `report` keeps what is found and lays out the file. All of it is written through `wd_markup`, so that
-//! whatever comes from an input stands in the file as an escaped text.
+//! `query` has what there is to show of a query, `section` makes its part of the page from the parts of `wd_page_parts` and the words of
+//! `words`, and `report` collects the findings and lays out the file. All of it is written through `wd_markup`, so that every text from
+//! an input is escaped in the file.
 #![tactic(auto)]
 
 mod query;

@@ -13,32 +13,32 @@ use wd_value::{Row, Text};
 #[derive(Clone, Copy)]
 pub struct Query<'p, 't, 'e> {
     pub path: &'p str,
-    /// The line on which it begins, from 1.
+    /// The line on which the statement begins, from 1.
     pub line: u64,
     pub text: &'t [u8],
-    /// How what is found of it is taken.
+    /// How its finding counts.
     pub standing: Standing,
-    /// Why it is excused, where it is.
+    /// Why the statement is excused, if it is.
     pub excused: Option<&'e [u8]>,
 }
 
-/// What is found of a query that is read.
+/// What was found of a query that was read.
 #[derive(Clone, Copy)]
 pub struct Judged<'a> {
     pub kind: Kind,
     pub schema: &'a Schema,
     pub plan: &'a Plan,
-    /// Whether that is not the query's own plan but a simpler one with the same answers.
+    /// Whether the plan is not the query's own but a simpler one with the same answers.
     pub is_simpler: bool,
     /// The names of the answer's columns.
     pub names: &'a [Text],
     /// What justifies each call and each limit, where the query is deterministic.
     pub certificate: Option<&'a Certificate>,
-    /// The rows over which it has two answers, by the names of the tables, where they are known.
+    /// The rows over which the query has two answers, by the names of the tables, if they are known.
     pub tables: Option<&'a BTreeMap<String, Vec<Row>>>,
-    /// The columns of these tables by which rows tie that the two choices put into other places.
+    /// The columns of these tables by which the rows tie that the two choices order differently.
     pub ties: &'a [TableColumn],
-    /// These answers.
+    /// The two answers.
     pub answers: Option<(&'a Outcome, &'a Outcome)>,
 }
 
@@ -49,7 +49,7 @@ pub struct Refusal<'p, 't> {
     pub path: &'p str,
     pub text: &'t [u8],
     pub number: u32,
-    /// What it is about, where it names a place.
+    /// The bytes that the refusal is about, if it names a place.
     pub span: Option<Span>,
     pub sentence: &'static str,
     pub remedy: &'static str,

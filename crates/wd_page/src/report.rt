@@ -19,7 +19,7 @@ use wd_value::OutOfMemory;
 /// The heads of the table of all queries.
 const HEADS: [&str; 4] = ["Query", "Verdict", "Open", "Help"];
 
-/// What is found of queries, for a page. Contracts see for each query its row in the table of all and its section, and the counts.
+/// The findings on queries, for a page. Contracts see for each query its row in the table of all queries and its section, and the counts.
 #[derive(Drop)]
 pub struct Report {
     alloc: Global,
@@ -27,7 +27,7 @@ pub struct Report {
     counts: Counts,
 }
 
-/// What is found of a query, as it stands in the page.
+/// What was found of a query, as it appears in the page.
 #[derive(Drop)]
 struct Entry {
     kind: Kind,
@@ -45,7 +45,7 @@ impl Model for Report {
 }
 
 impl Report {
-    /// A report on no query yet.
+    /// A report without queries.
     pub fn new(alloc: Global) -> Report {
         Report {
             alloc,
@@ -54,8 +54,8 @@ impl Report {
         }
     }
 
-    /// Adds a query that is read: the calls and the limits that are open, and the text with which it has one answer, where one
-    /// is known. Refused for want of memory, the report is as it was.
+    /// Adds a query that was read: its open calls and limits, and the text with added keys with which it has one answer, if one is known.
+    /// Where memory runs out, the report is unchanged.
     pub fn add_judged(
         &mut self,
         query: Query<'_, '_, '_>,
@@ -71,7 +71,7 @@ impl Report {
         self.add(entry)
     }
 
-    /// Adds a query that is not read. Refused for want of memory, the report is as it was.
+    /// Adds a query that was not read. Where memory runs out, the report is unchanged.
     pub fn add_refused(
         &mut self,
         query: Query<'_, '_, '_>,
@@ -103,7 +103,7 @@ impl Report {
         Ok(())
     }
 
-    /// The file: a page of HTML, in which what comes from an input stands only as escaped text.
+    /// The file: a page of HTML, in which texts from an input appear only escaped.
     pub fn to_bytes(&self) -> Result<Vec<u8>, OutOfMemory>
         ensures page { IfOk result (λ v. IsPage v.items) }
     {
@@ -157,7 +157,7 @@ impl Report {
         Ok(page.close(Tag::Bulleted)?)
     }
 
-    /// How many queries have which verdict.
+    /// How many queries have each verdict.
     fn shares(&self) -> [(Kind, u64); 4] {
         [
             (Kind::Depends, self.counts.depend),
@@ -191,7 +191,7 @@ fn add_share(alloc: Global, page: &mut Page, kind: Kind, count: u64) -> Result<(
     Ok(page.element(Tag::Item, kind_class(kind), words.as_bytes())?)
 }
 
-/// Adds what stands below all sections.
+/// Adds what is below all sections.
 fn add_footer(page: &mut Page) -> Result<(), OutOfMemory> {
     Ok(page.element(
         Tag::Footer,
@@ -200,7 +200,7 @@ fn add_footer(page: &mut Page) -> Result<(), OutOfMemory> {
     )?)
 }
 
-/// What is found of a query that is read.
+/// The entry of a query that was read.
 fn judged_entry(
     alloc: Global,
     number: u64,
@@ -234,7 +234,7 @@ fn judged_entry(
     })
 }
 
-/// What is found of a query that is not read.
+/// The entry of a query that was not read.
 fn refused_entry(
     alloc: Global,
     number: u64,
@@ -283,7 +283,7 @@ fn add_row(
     Ok(page.close(Tag::Row)?)
 }
 
-/// What the table says of how a query is taken, and of a help.
+/// The table's words for how a finding counts, and for a help.
 fn help_words(standing: Standing, is_mended: bool) -> &'static str {
     match (standing, is_mended) {
         (Standing::Excused, true) => "excused; a key mends it",

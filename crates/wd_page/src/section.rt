@@ -50,7 +50,7 @@ pub(crate) fn add_refused(
     Ok(page.close(Tag::Section)?)
 }
 
-/// Begins a section: where the query stands, its verdict, and why it is excused.
+/// Begins a section: the place of the query, its verdict, and why it is excused.
 fn begin_section(
     alloc: Global,
     page: &mut Page,
@@ -79,7 +79,7 @@ pub(crate) fn add_place(
     add_number(alloc, page, ":", line)
 }
 
-/// Adds why a query is excused, where it is.
+/// Adds why a query is excused, if it is.
 fn add_excuse(page: &mut Page, excused: Option<&[u8]>) -> Result<(), OutOfMemory> {
     if let Some(reason) = excused {
         page.open(Tag::Paragraph, Class::Soft)?;
@@ -148,7 +148,7 @@ fn add_places(alloc: Global, page: &mut Page, places: &[Place]) -> Result<(), Ou
     Ok(page.close(Tag::Numbered)?)
 }
 
-/// Adds what is said of a place that is open.
+/// Adds the words for an open place.
 fn add_open(alloc: Global, page: &mut Page, place: Place) -> Result<(), OutOfMemory> {
     page.open(Tag::Item, Class::Plain)?;
     if place.span.is_some() {
@@ -161,7 +161,7 @@ fn add_open(alloc: Global, page: &mut Page, place: Place) -> Result<(), OutOfMem
     Ok(page.close(Tag::Item)?)
 }
 
-/// Adds a number behind a word.
+/// Adds a number after a word.
 pub(crate) fn add_number(
     alloc: Global,
     page: &mut Page,
@@ -186,7 +186,7 @@ fn rows_heading(ties: &[TableColumn]) -> &'static str {
     }
 }
 
-/// Adds the rows over which a query has two answers, and these.
+/// Adds the rows over which a query has two answers, and the answers.
 fn add_evidence(alloc: Global, page: &mut Page, judged: Judged<'_>) -> Result<(), OutOfMemory> {
     if let Some(tables) = judged.tables {
         add_heading(page, rows_heading(judged.ties))?;
@@ -199,7 +199,7 @@ fn add_evidence(alloc: Global, page: &mut Page, judged: Judged<'_>) -> Result<()
     Ok(())
 }
 
-/// Adds the help, where there is one.
+/// Adds the help, if there is one.
 fn add_help(
     alloc: Global,
     page: &mut Page,
@@ -213,7 +213,7 @@ fn add_help(
     Ok(())
 }
 
-/// Adds the plan, which opens where it is asked for.
+/// Adds the plan, which the reader can open.
 fn add_plan_part(
     alloc: Global,
     page: &mut Page,
@@ -238,7 +238,7 @@ fn add_plan_part(
     Ok(page.close(Tag::Details)?)
 }
 
-/// Adds what PostgreSQL may be asked, where there are rows for it.
+/// Adds a script for PostgreSQL, if there are rows for it.
 fn add_replay_part(
     alloc: Global,
     page: &mut Page,

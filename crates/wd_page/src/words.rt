@@ -23,7 +23,7 @@ pub(crate) fn kind_word(kind: Kind) -> &'static str {
     }
 }
 
-/// The word of a verdict after how many queries have it.
+/// The word of a verdict after the number of queries that have it.
 pub(crate) fn counted_word(kind: Kind, count: u64) -> &'static str {
     if matches!(kind, Kind::Depends) && count != 1 {
         "depend"
@@ -32,7 +32,7 @@ pub(crate) fn counted_word(kind: Kind, count: u64) -> &'static str {
     }
 }
 
-/// What a verdict says.
+/// The meaning of a verdict.
 pub(crate) fn kind_sentence(kind: Kind) -> &'static str {
     match kind {
         Kind::Deterministic => {

@@ -12,17 +12,17 @@ use wd_value::{OutOfMemory, Row, Text, Value, same};
 /// The most rows of an answer that are compared.
 const MOST_COMPARED: usize = 500;
 
-/// The most rows of an answer that are all shown. Of longer ones, only those in which they differ are.
+/// The most rows of an answer that are shown in full. Of longer answers only the rows are shown in which they differ.
 const MOST_SHOWN: usize = 24;
 
-/// A row of an answer beside the other answer.
+/// A row of an answer compared with the other answer.
 #[derive(Clone, Copy)]
 enum Standing {
-    /// The other answer has it, too.
+    /// The other answer has the row, too.
     Shared,
-    /// Only this answer has it.
+    /// Only this answer has the row.
     Alone,
-    /// Only this answer has it, and only the other one has the row with this number there.
+    /// Only this answer has the row, and in its place the other one has the row with this number.
     Beside(usize),
 }
 
@@ -118,7 +118,7 @@ fn add_rows(
     Ok(())
 }
 
-/// The numbers of the rows that stand more often in one list than in another.
+/// The numbers of the rows that appear more often in one list than in the other.
 fn lacking(alloc: Global, rows: &[Row], others: &[Row]) -> Result<Vec<usize>, OutOfMemory> {
     let mut found = Vec::new(alloc);
     for (number, row) in rows.iter().enumerate() {
@@ -140,7 +140,7 @@ fn is_same(a: &[Value], b: &[Value]) -> bool {
     a.len() == b.len() && a.iter().zip(b).all(|(x, y)| same(x, y))
 }
 
-/// How the row with a number stands, by the numbers of those that only this answer has, and of those that only the other one has.
+/// How the row with a number compares, by the numbers of the rows that only this answer has, and of those that only the other one has.
 fn standing_of(alone: &[usize], there: &[usize], number: usize) -> Standing {
     match alone.iter().position(|other| *other == number) {
         None => Standing::Shared,
@@ -171,7 +171,7 @@ fn add_row(
     Ok(page.close(Tag::Row)?)
 }
 
-/// What a cell looks like whose value only one answer has.
+/// The class of a cell whose value only one answer has.
 fn differing_class(value: &Value) -> Class {
     match value {
         Value::Int(_) => Class::NumberDiffers,
@@ -179,7 +179,7 @@ fn differing_class(value: &Value) -> Class {
     }
 }
 
-/// Whether the value in a column of a row is not that of the row beside it.
+/// Whether the value in a column of a row differs from that of the row in its place.
 fn differs(value: &Value, column: usize, standing: Standing, others: &[Row]) -> bool {
     match standing {
         Standing::Shared => false,

@@ -1,4 +1,4 @@
-//! A help: the lines of a query that change, as they are and as they have to be.
+//! A help: the lines of a query that change, before and after.
 
 ghost use Rattle.std.specs.Prelude.{◌≡◌, length, take, OnErr, OnOk};
 
@@ -6,7 +6,7 @@ use std::alloc::Global;
 use wd_markup::{Class, Page, Tag};
 use wd_value::OutOfMemory;
 
-/// Adds the lines in which two texts differ, which have as many: each of the old text in red, and below it that of the new one
+/// Adds the lines in which two texts of equally many lines differ: each line of the old text in red, and below it the line of the new one
 /// in green.
 pub fn add_change(alloc: Global, page: &mut Page, old: &[u8], new: &[u8]) -> Result<(), OutOfMemory>
     ensures appended { OnOk result (take (length page.old) page.new ≡ page.old) }
@@ -30,7 +30,7 @@ fn change_part(alloc: Global, old: &[u8], new: &[u8]) -> Result<Page, OutOfMemor
     Ok(page)
 }
 
-/// Adds a line and what it becomes, where it changes.
+/// Adds a line and its replacement, if they differ.
 fn add_line(page: &mut Page, old: &[u8], new: &[u8]) -> Result<(), OutOfMemory> {
     if old == new {
         return Ok(());

@@ -1,10 +1,9 @@
 //! What a section of wdreport's page shows of a query.
 //!
-//! `marked` has its text with marks, and the line of a refusal, `tables` the rows of a witness and `answers` its two answers,
-//! `change` the help, `plan` the plan with what is known of it, `place` what is open, and `replay` what PostgreSQL may be
-//! asked; `words` has the words of values and types. All of it is written through `wd_markup`, so that whatever
-//! comes from an input stands in the page as an escaped text. What a public call adds is a page of its own, which is appended in
-//! one step: where memory runs out, the page stays as it was.
+//! `marked` shows the query's text with marks, and the line of a refusal; `tables` the rows of a witness and `answers` its two answers;
+//! `change` the help; `plan` the plan with what is known of it; `place` what is open; and `replay` a script for PostgreSQL. `words` has
+//! the words of values and types. All of it is written through `wd_markup`, so that every text from an input is escaped in the page. What
+//! a public call adds is a page of its own, which is appended in one step: where memory runs out, the page stays as it was.
 #![tactic(auto)]
 
 mod answers;

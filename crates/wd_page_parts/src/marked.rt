@@ -8,7 +8,7 @@ use wd_markup::{Class, Page, Tag};
 use wd_source::line_around;
 use wd_value::OutOfMemory;
 
-/// Adds a text with marks at these spans of it, which stand in their order. Of spans that overlap, the first is marked.
+/// Adds a text with marks at these spans of it, which are in order. Of spans that overlap, the first is marked.
 pub fn add_marked(
     alloc: Global,
     page: &mut Page,
@@ -35,8 +35,8 @@ fn marked_part(alloc: Global, text: &[u8], spans: &[Span]) -> Result<Page, OutOf
     Ok(page)
 }
 
-/// Adds the text from a byte to the end of a span, which is marked; that end. Where the span begins before that byte, nothing
-/// is added.
+/// Adds the text from a byte to the end of a span, with the span marked; the result is that end. Where the span begins before that byte,
+/// nothing is added.
 fn add_mark(page: &mut Page, text: &[u8], from: usize, span: Span) -> Result<usize, OutOfMemory> {
     let start = (span.start as usize).min(text.len());
     let end = (span.end as usize).min(text.len());
@@ -93,7 +93,7 @@ fn add_blanks(page: &mut Page, text: &[u8]) -> Result<(), OutOfMemory> {
     Ok(())
 }
 
-/// Adds a caret for each character, and one where there is none.
+/// Adds a caret for each character, and one caret for an empty text.
 fn add_carets(page: &mut Page, text: &[u8]) -> Result<(), OutOfMemory> {
     page.text(b"^")?;
     for byte in text.iter().skip(1) {

@@ -1,4 +1,4 @@
-//! The plan of a query as boxes within one another: each node stands below what it reads.
+//! The plan of a query as boxes within one another: each node's inputs are in its box.
 
 ghost use Rattle.std.specs.Prelude.{◌≡◌, length, take, OnErr, OnOk};
 
@@ -18,7 +18,8 @@ use wd_value::{OutOfMemory, SortColumn, Text};
 /// The length from which a list of names is cut, in bytes.
 const LONG: usize = 400;
 
-/// What is known of a plan: the schema of its tables, what justifies each call and each limit where all are, and what is open.
+/// What is known of a plan: the schema of its tables, the certificate that justifies each call and each limit, if there is one, and what
+/// is open.
 #[derive(Clone, Copy)]
 pub struct Grounds<'s, 'c, 'p> {
     pub schema: &'s Schema,
@@ -26,7 +27,7 @@ pub struct Grounds<'s, 'c, 'p> {
     pub places: &'p [Place],
 }
 
-/// Adds the box of a plan, whose nodes are numbered from one on; the number behind them.
+/// Adds the box of a plan, whose nodes are numbered from `first` on; the result is the number after them.
 pub fn add_plan(
     alloc: Global,
     page: &mut Page,
@@ -48,14 +49,14 @@ pub fn add_plan(
     Ok(drawn.behind.node)
 }
 
-/// Where a walk over a plan is: the number of the next node, and how many tables it has met.
+/// The state of a walk over a plan: the number of the next node, and how many tables it has met.
 #[derive(Clone, Copy)]
 struct At {
     node: u64,
     scan: usize,
 }
 
-/// What is drawn of a plan: where the walk is behind it, and the names of its columns.
+/// The result of drawing a plan: the state of the walk after it, and the names of its columns.
 #[derive(Drop)]
 struct Drawn {
     behind: At,
@@ -102,7 +103,7 @@ fn add_box(
     above(alloc, grounds.schema, tables, below, plan)
 }
 
-/// Two plans side by side.
+/// Two plans joined: the columns of both.
 fn joined(names: Vec<Text>, second: Drawn) -> Result<Drawn, OutOfMemory> {
     let Drawn {
         behind,
@@ -115,7 +116,7 @@ fn joined(names: Vec<Text>, second: Drawn) -> Result<Drawn, OutOfMemory> {
     Ok(Drawn { behind, names })
 }
 
-/// What is drawn with the top node of a plan, whose inputs are drawn.
+/// The result of drawing the top node of a plan whose inputs are drawn.
 fn above(
     alloc: Global,
     schema: &Schema,
@@ -141,7 +142,7 @@ fn above(
     }
 }
 
-/// What stands before the names of a table's columns, where several tables are read.
+/// The qualifier of the names of a table's columns, where several tables are read.
 fn qualifier(tables: &[Text], scan: usize) -> Option<&str> {
     if tables.len() < 2 {
         return None;
@@ -217,7 +218,7 @@ fn add_condition(
     add_sql(page, does, words, sql.as_str())
 }
 
-/// Adds which pairs of rows a Join gives.
+/// Adds which pairs of rows a Join returns.
 fn add_join(
     alloc: Global,
     page: &mut Page,
@@ -239,7 +240,7 @@ fn add_join(
     }
 }
 
-/// Adds what a select list gives.
+/// Adds what a select list returns.
 fn add_select(
     alloc: Global,
     page: &mut Page,
@@ -250,7 +251,7 @@ fn add_select(
     add_sql(page, "Select", "", sql.as_str())
 }
 
-/// Outputs in a row, as many as a reader takes in.
+/// Outputs in one line, as many as fit.
 fn listed_outputs(alloc: Global, names: &[Text], outputs: &[Expr]) -> Result<String, OutOfMemory> {
     let mut words = String::new(alloc);
     for (number, output) in outputs.iter().enumerate() {
@@ -281,7 +282,7 @@ fn add_group(
     add_sql(page, "", "with", sql.as_str())
 }
 
-/// Names in a row, as many as a reader takes in.
+/// Names in one line, as many as fit.
 fn listed(alloc: Global, names: &[Text]) -> Result<String, OutOfMemory> {
     let mut words = String::new(alloc);
     for (number, name) in names.iter().enumerate() {
@@ -294,7 +295,7 @@ fn listed(alloc: Global, names: &[Text]) -> Result<String, OutOfMemory> {
     Ok(words)
 }
 
-/// Words of which some more are not shown.
+/// Words after which more are left out.
 fn more(words: String) -> Result<String, OutOfMemory> {
     let mut words = words;
     words.push_str(", ..")?;
@@ -320,7 +321,7 @@ fn add_scan(
     }
 }
 
-/// Adds a table, as it is called, and its keys.
+/// Adds a table under its name, and its keys.
 fn add_table(
     alloc: Global,
     page: &mut Page,
@@ -335,7 +336,7 @@ fn add_table(
     Ok(())
 }
 
-/// What is said of a key of a table.
+/// The words for a key of a table.
 fn key_words(alloc: Global, table: &Table, key: &Key) -> Result<String, OutOfMemory> {
     let mut words = String::new(alloc);
     for (number, column) in key.columns.iter().enumerate() {
@@ -450,7 +451,7 @@ fn call_rule(certificate: &Certificate, node: u64, call: u32) -> Option<Rule> {
     Some(*entry.calls.get(call as usize)?)
 }
 
-/// What a call or a limit lacks, where it is open.
+/// What a call or a limit lacks, if it is open.
 fn lack_of(places: &[Place], node: u64, call: Option<u32>) -> Option<&'static str> {
     for place in places {
         if place.node == node && place.call == call {
@@ -460,7 +461,7 @@ fn lack_of(places: &[Place], node: u64, call: Option<u32>) -> Option<&'static st
     None
 }
 
-/// Adds what a call or a limit lacks, where it is open.
+/// Adds what a call or a limit lacks, if it is open.
 fn add_lack(page: &mut Page, lack: Option<&'static str>) -> Result<(), OutOfMemory> {
     if let Some(words) = lack {
         page.open(Tag::Span, Class::Open)?;
@@ -529,7 +530,7 @@ fn is_sort(limit: &Limit) -> bool {
     limit.count.is_none() && limit.offset == 0
 }
 
-/// What a Limit does: its sort keys, and before them which rows it keeps where it doesn't keep all.
+/// The words of a Limit: its sort keys, and before them which rows it keeps, if it doesn't keep all.
 fn limit_words(alloc: Global, names: &[Text], limit: &Limit) -> Result<String, OutOfMemory> {
     let mut words = String::new(alloc);
     if !is_sort(limit) {

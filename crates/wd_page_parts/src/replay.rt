@@ -1,4 +1,4 @@
-//! What PostgreSQL may be asked: the tables of a witness, filled in one order and in the other, with the query behind each.
+//! A script for PostgreSQL: the tables of a witness, filled in one order and in the other, with the query after each.
 
 ghost use Rattle.std.specs.Prelude.{◌≡◌, length, take, OnErr, OnOk};
 
@@ -74,7 +74,7 @@ fn add_query(page: &mut Page, query: &[u8]) -> Result<(), OutOfMemory> {
     Ok(page.text(b"\n;\n")?)
 }
 
-/// Adds a text between quotes, in which each of these stands twice.
+/// Adds a text between quotes, with each quote in it doubled.
 fn add_quoted(page: &mut Page, quote: u8, text: &[u8]) -> Result<(), OutOfMemory> {
     let quotes = [quote];
     page.text(&quotes)?;
@@ -107,7 +107,7 @@ fn add_column(page: &mut Page, column: &Column) -> Result<(), OutOfMemory> {
     Ok(page.text(type_word(column.kind).as_bytes())?)
 }
 
-/// Adds the rows of tables, in their order.
+/// Adds the rows of tables, in order.
 fn add_inserts(
     alloc: Global,
     page: &mut Page,
@@ -121,7 +121,7 @@ fn add_inserts(
     Ok(())
 }
 
-/// Empties tables, and adds their rows in the other order.
+/// Empties tables, and adds their rows in reverse order.
 fn add_turned(
     alloc: Global,
     page: &mut Page,
@@ -155,7 +155,7 @@ fn add_insert(
     Ok(page.text(b");\n")?)
 }
 
-/// Adds a value as it is written in SQL.
+/// Adds a value as a literal of SQL.
 fn add_literal(alloc: Global, page: &mut Page, value: &Value) -> Result<(), OutOfMemory> {
     match value {
         Value::Text(text) => add_quoted(page, b'\'', text.as_bytes()),

@@ -10,7 +10,7 @@ use wd_schema::{Column, Schema};
 use wd_ties::{TableColumn, is_among};
 use wd_value::{OutOfMemory, Row, Value};
 
-/// Adds tables of a schema with these rows, side by side. The names of the columns among `ties` are marked.
+/// Adds tables of a schema with these rows, side by side. The names of the columns in `ties` are marked.
 pub fn add_tables(
     alloc: Global,
     page: &mut Page,
@@ -46,7 +46,7 @@ fn tables_part(
     Ok(page)
 }
 
-/// Begins a figure with a table, below this caption.
+/// Begins a figure with a table under this caption.
 pub(crate) fn begin_table(page: &mut Page, caption: &str) -> Result<(), OutOfMemory> {
     page.open(Tag::Figure, Class::Plain)?;
     page.element(Tag::Caption, Class::Plain, caption.as_bytes())?;
@@ -61,7 +61,7 @@ pub(crate) fn end_table(page: &mut Page) -> Result<(), OutOfMemory> {
     Ok(page.close(Tag::Figure)?)
 }
 
-/// Adds the names of the columns of the table with this number, marked where rows tie by them.
+/// Adds the names of the columns of the table with this number, with those marked on which rows tie.
 fn add_columns(
     page: &mut Page,
     columns: &[Column],
@@ -99,7 +99,7 @@ fn add_row(alloc: Global, page: &mut Page, row: &[Value]) -> Result<(), OutOfMem
     Ok(page.close(Tag::Row)?)
 }
 
-/// What a cell with a value looks like.
+/// The class of a cell with a value.
 pub(crate) fn class_of(value: &Value) -> Class {
     match value {
         Value::Null => Class::Null,

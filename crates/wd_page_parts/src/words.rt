@@ -4,7 +4,7 @@ use std::alloc::Global;
 use std::fmt::Write;
 use wd_value::{ColumnType, Fault, OutOfMemory, Value};
 
-/// What a fault is called.
+/// The words for a fault.
 pub(crate) fn fault_words(fault: Fault) -> &'static str {
     match fault {
         Fault::DivisionByZero => "an error: division by zero",
@@ -36,7 +36,7 @@ pub(crate) fn value_text(alloc: Global, value: &Value) -> Result<String, OutOfMe
     Ok(text)
 }
 
-/// What stands before an item of a list with this number.
+/// The separator before the item of a list with this number.
 pub(crate) fn separator(number: usize) -> &'static str {
     if number > 0 { ", " } else { "" }
 }

@@ -1,4 +1,4 @@
--- Refusals: their numbers and places, and what stands in the tokens where they are answered.
+-- Refusals: their numbers and places, and the properties of the tokens for which they are reported.
 use Rattle.std.specs.Prelude.{◌≡◌, ℕ, Option, Some, None, Result, Ok, Err}
 use Rattle.wd_syntax.specs.declared.query.Query.{Query}
 use Rattle.wd_read_cursor.specs.Tokens.{Kinds}
@@ -19,13 +19,13 @@ place_of (Unexpected place) = Some place
 place_of (PastLimit place) = Some place
 place_of OutOfMemory = None
 
--- No well-levelled tree spells the tokens; or a limit is passed at the place, and by each tree that spells the tokens.
+-- No well-levelled tree spells the tokens; or each tree that spells them passes a limit, at this place.
 abbrev pub HasCause : ParseError → Kinds → Type 0
 HasCause (Unexpected place) ts = (tree : QueryTree) → IsTreeOf ts tree → ⊥
 HasCause (PastLimit place) ts = PassesLimitAt ts place × ((tree : QueryTree) → IsTreeOf ts tree → KeepsLimits tree → ⊥)
 HasCause OutOfMemory ts = Unit {0}
 
--- The answer is that tree, or memory ran out.
+-- The answer is this tree, or memory ran out.
 abbrev pub GivesTree : QueryTree → Result Query ParseError → Type 0
 GivesTree tree (Ok query) = view_query query ≡ tree
 GivesTree tree (Err (Unexpected place)) = ⊥

@@ -1,4 +1,4 @@
--- What follows FROM, as the code's values show it, and what the code answers.
+-- What follows FROM, as the code's values show it, and the code's answers.
 use Rattle.std.specs.Prelude.{◌≡◌, ◌-◌, ℕ, List, length, map, Result, Ok, Err}
 use Rattle.wd_syntax.specs.declared.query.From.{From}
 use Rattle.wd_syntax.specs.Tree.{TableTree, JoinTree}

@@ -1,4 +1,4 @@
--- How the tokens of a query are read, from left to right; the expressions in it as wd_read_expression reads them.
+-- How the tokens of a query are read from left to right; its expressions are read as in wd_read_expression.
 use Rattle.std.specs.Prelude.{ℕ, zero, suc, List, [], ◌∷◌, length, Bool, true, false, Option, Some, None, Result, Ok, Err}
 use Rattle.wd_lex.specs.declared.token.Terminal.TheVariants as m
 use Rattle.wd_read_cursor.specs.declared.words.KeyWord.TheVariants as k
@@ -79,12 +79,12 @@ within left (suc depth) f = f depth
 unfoldable pub some_columns_at : Parser (List GroupColumn)
 some_columns_at ts = list_at m.Comma group_column_at ts >>= λ cs. expect m.RightBracket cs.1 >>= λ r. Ok (cs.0, r)
 
--- the same, and none where there may be none
+-- columns, and the closing bracket; no column where none is required
 unfoldable pub columns_at : Bool → Parser (List GroupColumn)
 columns_at true ts = choose (eat m.RightBracket ts) (λ r. Ok ([], r)) (some_columns_at ts)
 columns_at false ts = some_columns_at ts
 
--- a column, or columns in brackets; none where there may be none
+-- a column, or columns in brackets; no column where none is required
 unfoldable pub set_at : ℕ → Bool → Parser SetTree
 set_at depth empty ts =
     choose (eat m.LeftBracket ts) (λ r. within (length ts) depth (λ k. columns_at empty r) >>= λ cs. Ok (columns cs.0, cs.1))
@@ -96,14 +96,14 @@ takes_empty Rollup = false
 takes_empty Cube = false
 takes_empty Sets = true
 
--- ROLLUP and CUBE before a bracket, and GROUPING SETS; else they are names
+-- ROLLUP and CUBE only before a bracket, and GROUPING SETS; otherwise they are names
 unfoldable pub grouping_word_at : Kinds → Option (GroupingWord × Kinds)
 grouping_word_at ts =
     choose (eat_word k.Rollup ts) (λ r. choose (eat m.LeftBracket r) (λ q. Some (Rollup, r)) None)
     (choose (eat_word k.Cube ts) (λ r. choose (eat m.LeftBracket r) (λ q. Some (Cube, r)) None)
     (choose (eat_word k.Grouping ts) (λ r. choose (eat_word k.Sets r) (λ q. Some (Sets, q)) None) None))
 
--- after such a word
+-- the sets after a grouping word
 unfoldable pub sets_at : ℕ → GroupingWord → Parser GroupTree
 sets_at depth word ts = expect m.LeftBracket ts >>= λ r. within (length ts) depth (λ k. list_at m.Comma (set_at k (takes_empty word)) r >>= λ sets. expect m.RightBracket sets.1 >>= λ q. Ok (constructed word sets.0, q))
 
@@ -152,7 +152,7 @@ number_if (Err e) ts = (None, ts)
 unfoldable pub number_option_at : Kinds → Option ℕ × Kinds
 number_option_at ts = number_if (number_at ts) ts
 
--- ONLY or WITH TIES: whether it is the second
+-- ONLY or WITH TIES; the result is whether it is WITH TIES
 unfoldable pub ties_at : Parser Bool
 ties_at ts = choose (eat m.With ts) (λ r. expect_word k.Ties r >>= λ r. Ok (true, r)) (expect_word k.Only ts >>= λ r. Ok (false, r))
 
@@ -175,7 +175,7 @@ limits_at ts =
     try (offset_if ts) (λ o. optional count_if o.1 >>= λ c. Ok (Some (OffsetFirst o.0 c.0), c.1))
     (try (count_if ts) (λ c. optional offset_if c.1 >>= λ o. Ok (Some (CountFirst c.0 o.0), o.1)) (Ok (None, ts)))
 
--- what reads a select one level deeper, if a level is left
+-- how a select is read one level deeper, if a level is left
 abbrev pub Inner : Type 0
 Inner = Option (Parser SelectTree)
 
@@ -207,7 +207,7 @@ select_at limit depth inside ts =
     order_at (read limit depth whole_height) windows.1 >>= λ order. limits_at order.1 >>= λ limits.
     Ok (select (record { quantifier = (quantifier_at r).0; items = items.0; tail = record { filter = filter.0; grouping = grouping.0; windows = windows.0; order = keys_of order.0; limits = limits.0 } }) tables.0.0 (joins_of tables.0.1), limits.1)
 
--- a select with so many levels left
+-- a select with the given number of levels left
 unfoldable pub selects : ℕ → ℕ → Parser SelectTree
 selects limit zero = select_at limit zero None
 selects limit (suc depth) = select_at limit (suc depth) (Some (selects limit depth))
@@ -220,6 +220,6 @@ abbrev pub if_last : QueryTree → Kinds → Result QueryTree Fault
 if_last q [] = Ok q
 if_last q (t ∷ ts) = Err (Unexpected (suc (length ts)))
 
--- a select and a semicolon, and nothing more
+-- a select and a semicolon, and no further token
 unfoldable pub whole : ℕ → ℕ → Kinds → Result QueryTree Fault
 whole limit depth ts = selects limit depth ts >>= λ s. choose (eat m.Semicolon s.1) (λ r. if_last (query s.0 true) r) (if_last (query s.0 false) s.1)

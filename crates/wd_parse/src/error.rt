@@ -1,12 +1,11 @@
-//! Why tokens are no query.
+//! Why tokens are not a query.
 
 ghost use Rattle.std.specs.Prelude.{◌≡◌};
 ghost use Rattle.wd_parse.specs.Causes.{number_of, place_of};
 
 use thiserror::Error;
 
-/// A refusal of tokens. A place is the number of the refused token, from 0, or the number of tokens where more of them
-/// are wanted.
+/// A refusal of tokens. A place is the number of the refused token, from 0, or the number of tokens where more of them are required.
 #[derive(Clone, Copy, Debug, Error)]
 pub enum ParseError {
     /// 201: the first token that no query continues.
@@ -20,7 +19,7 @@ pub enum ParseError {
 }
 
 impl ParseError {
-    /// The refusal's number, or `None` where memory runs out.
+    /// The refusal's number, or `None` where memory ran out.
     pub fn number(&self) -> Option<u32>
         ensures { result ≡ number_of self.now }
     {
@@ -31,7 +30,7 @@ impl ParseError {
         }
     }
 
-    /// The refused token, or `None` where memory runs out.
+    /// The number of the refused token, or `None` where memory ran out.
     pub fn place(&self) -> Option<u64>
         ensures { result ≡ place_of self.now }
     {

@@ -82,7 +82,7 @@ fn columns(
     some_columns(alloc, tokens)
 }
 
-/// Reads sets, with so many levels left; `empty` says whether `()` is one.
+/// Reads sets, with the given number of levels left; `empty` says whether `()` is one.
 #[derive(Clone, Copy)]
 struct GroupingSets {
     depth: u8,
@@ -134,7 +134,7 @@ fn set(
     }
 }
 
-/// Whether empty sets may stand between its brackets.
+/// Whether empty sets may appear between the brackets of the word.
 fn may_hold_empty(word: GroupingWord) -> bool
     ensures { result ≡ takes_empty word }
 {
@@ -145,7 +145,7 @@ fn may_hold_empty(word: GroupingWord) -> bool
     }
 }
 
-/// `ROLLUP` or `CUBE` before a bracket, or `GROUPING SETS`, where it stands first.
+/// `ROLLUP` or `CUBE` before a bracket, or `GROUPING SETS`, if the tokens begin with one.
 #[tactic(auto, unfolding(crate::specs::Reading::grouping_word_at))]
 fn word_at(tokens: &[Token]) -> Option<(GroupingWord, &[Token])>
     ensures { Finds (λ x. (x.0, kinds_of x.1.now)) result (grouping_word_at (kinds_of tokens.now)) }
@@ -192,7 +192,7 @@ fn sets(
     Ok((GroupItem::Sets(word, sets), rest))
 }
 
-/// Reads members of GROUP BY, with so many levels left.
+/// Reads members of GROUP BY, with the given number of levels left.
 #[derive(Clone, Copy)]
 struct GroupItems {
     depth: u8,

@@ -9,7 +9,7 @@ use wd_lex::{Terminal, Token, TokenKind};
 use wd_read_cursor::{KeyWord, Refusal, eat, eat_word, expect_word, number_at, unexpected};
 use wd_syntax::{Count, FetchWord, Limits, Offset, RowWord};
 
-/// `ROW` or `ROWS`, where it stands first.
+/// `ROW` or `ROWS`, if the tokens begin with one.
 #[tactic(auto, unfolding(crate::specs::Reading::row_at))]
 fn row_at(tokens: &[Token]) -> Option<(RowWord, &[Token])>
     ensures { Finds (λ x. (x.0, kinds_of x.1.now)) result (row_at (kinds_of tokens.now)) }
@@ -66,7 +66,7 @@ fn number_option_at(tokens: &[Token]) -> (Option<u64>, &[Token])
     }
 }
 
-/// `ONLY` or `WITH TIES`: whether it is the second.
+/// `ONLY` or `WITH TIES`; the result is whether it is `WITH TIES`.
 #[tactic(auto, unfolding(crate::specs::Reading::ties_at))]
 fn ties_at(tokens: &[Token]) -> Result<(bool, &[Token]), Refusal>
     ensures { Gives (λ x. (x.0, kinds_of x.1.now)) result (ties_at (kinds_of tokens.now)) }

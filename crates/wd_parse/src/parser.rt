@@ -42,14 +42,14 @@ pub fn parse(alloc: Global, tokens: &[Token]) -> Result<Query, ParseError>
     // The tree is well-levelled, and spells exactly the tokens.
     ensures tree { IfOk result (λ query. IsTreeOf (kinds_of tokens.now) (view_query query)) }
 
-    // It keeps the limits.
+    // The tree keeps the limits.
     ensures limits { IfOk result (λ query. KeepsLimits (view_query query)) }
 
     // 201 comes only where no well-levelled tree spells the tokens. 202 comes only where a limit is passed at that place:
     // some well-levelled tree begins with the tokens up to and with the refused one, and passes the limit there.
     ensures cause { IfErr result (λ refusal. HasCause refusal (kinds_of tokens.now)) }
 
-    // Where a tree that keeps the limits spells the tokens, it is given, unless memory runs out.
+    // Where a tree that keeps the limits spells the tokens, that tree is returned, unless memory runs out.
     ensures given { (tree : QueryTree) → IsTreeOf (kinds_of tokens.now) tree → KeepsLimits tree → GivesTree tree result }
 
     // Where a tree that passes a limit spells the tokens, the call refuses by 202, unless memory runs out.

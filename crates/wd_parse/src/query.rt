@@ -95,7 +95,7 @@ fn alias_at(alloc: Global, tokens: &[Token]) -> Result<(Option<Alias>, &[Token])
     }
 }
 
-/// `name . *`, where it stands first.
+/// `name . *`, if the tokens begin with it.
 #[tactic(auto, unfolding(crate::specs::Reading::star_at))]
 fn star_at(alloc: Global, tokens: &[Token]) -> Result<Option<(Name, &[Token])>, Refusal>
     ensures { MayFind (λ x. (x.0, kinds_of x.1.now)) result (star_at (kinds_of tokens.now)) }
@@ -112,7 +112,7 @@ fn star_at(alloc: Global, tokens: &[Token]) -> Result<Option<(Name, &[Token])>, 
     }
 }
 
-/// Reads the members of a select list, with so many levels left.
+/// Reads the members of a select list, with the given number of levels left.
 #[derive(Clone, Copy)]
 struct Items {
     depth: u8,
@@ -162,7 +162,7 @@ fn filter(alloc: Global, depth: u8, tokens: &[Token]) -> Result<(Option<Expr>, &
     }
 }
 
-/// Reads windows `name AS ( .. )`, with so many levels left.
+/// Reads windows `name AS ( .. )`, with the given number of levels left.
 #[derive(Clone, Copy)]
 struct NamedWindows {
     depth: u8,
@@ -214,7 +214,7 @@ fn windows(
     }
 }
 
-// A Vec inside the tree is a row there: this says once what it holds.
+// A Vec inside the tree is a list of its elements there: this says once what it holds.
 fn derived_of(select: Box<Select>, alias: Alias) -> Table
     ensures { view_table result ≡ derived (view_select select.value) alias }
 {
@@ -359,7 +359,7 @@ fn ended(select: Box<Select>, semicolon: bool, rest: &[Token]) -> Result<Query, 
     }
 }
 
-/// `select [;]`, and nothing more.
+/// `select [;]` and no further token.
 #[tactic(auto, unfolding(crate::specs::Reading::whole))]
 pub fn whole(alloc: Global, tokens: &[Token]) -> Result<Query, Refusal>
     ensures { Gives view_query result (whole most_operators most_levels (kinds_of tokens.now)) }

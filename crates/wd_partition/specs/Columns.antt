@@ -15,11 +15,11 @@ class_by partition order = record { partition = partition; order = order }
 abbrev pub partition_columns : List ℕ → List SortColumn
 partition_columns columns = map ascending columns
 
--- the partition's columns, and then the sort keys
+-- the partition's columns, followed by the sort keys
 abbrev pub sort_columns : ClassRule → List SortColumn
 sort_columns class = partition_columns class.partition ++ class.order
 
--- the first one last
+-- the first one moved to the end
 abbrev pub rotated : List ℕ → List ℕ
 rotated [] = []
 rotated (a ∷ rest) = rest ++ a ∷ []

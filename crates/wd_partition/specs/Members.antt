@@ -1,4 +1,4 @@
--- What an evaluator asks of the row at a position: the members of its partition, their peer groups and keys, and its place.
+-- What an evaluator reads for the row at a position: the members of its partition, their peer groups and keys, and its place.
 use Rattle.std.specs.Prelude.{◌≡◌, ℕ, ◌-◌, ◌<◌, ◌≤◌, Bool, true, false, List, [], ◌∷◌, map, length, take, drop, slice_index_or}
 use Rattle.wd_value.specs.declared.value.Value.{Value}
 use Rattle.wd_value.specs.declared.value.Value.TheVariants.{Null, Int, Text, Bool as Truth}
@@ -10,7 +10,7 @@ use Rattle.wd_plan.specs.Plans.{ClassRule}
 use Rattle.wd_plan.specs.Sorting.{IsOrdering}
 use Rattle.wd_partition.specs.declared.places.Place.{Place}
 
--- the members of a partition in their ordering, the peer group number and the key of each, and the place of one of them
+-- the members of a partition in the ordering's order, the peer group number and the key of each, and the place of one of them
 pub record MemberRule : Type 0 where
   pub positions : List ℕ
   pub groups : List ℕ
@@ -24,14 +24,14 @@ number_part (Int n) = Int n
 number_part (Text bytes) = Null
 number_part (Truth b) = Null
 
--- the numbers of the only sort key, where they are asked for
+-- the numbers of the only sort key, if they are requested
 abbrev pub key_numbers : Bool → List SortColumn → List Row → List Value
 key_numbers true (key ∷ []) rows = map (λ r. number_part (column_of r key.column)) rows
 key_numbers true [] rows = []
 key_numbers true (key ∷ other ∷ keys) rows = []
 key_numbers false keys rows = []
 
--- of the row at p under an ordering
+-- the member record of the row at p under an ordering
 abbrev pub member_of : ClassRule → Bool → List Row → List ℕ → ℕ → MemberRule
 member_of class numbers rows ordering p =
     let part = partition_of class rows ordering p in
@@ -46,7 +46,7 @@ member_of class numbers rows ordering p =
 abbrev pub own_group : ClassRule → List Row → List ℕ → ℕ → ℕ
 own_group class rows ordering p = group_of class (partition_of class rows ordering p) (row_at rows p)
 
--- of each row
+-- the member record of each row
 abbrev pub members_of : ClassRule → Bool → List Row → List ℕ → List MemberRule
 members_of class numbers rows ordering = map (member_of class numbers rows ordering) (positions (length rows))
 
@@ -55,11 +55,11 @@ pub record ArePartitions (class : ClassRule) (numbers : Bool) (rows : List Row) 
   pub lawful : IsOrdering class rows ordering
   pub each : members ≡ members_of class numbers rows ordering
 
--- a stretch of a list
+-- a range of a list
 abbrev pub stretch : {X : Type 0} → Place → List X → List X
 stretch {X} place xs = take (place.end - place.start) (drop place.start xs)
 
--- of a row, by its place among the positions sorted by partition
+-- the member record of a row, by its place among the positions sorted by partition
 abbrev pub member_at : List ℕ → List ℕ → List Value → Place → MemberRule
 member_at grouped groups numbers place = record {
   positions = stretch place grouped;
@@ -68,13 +68,13 @@ member_at grouped groups numbers place = record {
   place = place.index - place.start;
 }
 
--- a stretch of a list of n elements, and one of its elements
+-- a range within a list of n elements, and an index that does not come before its start
 pub record IsWithin (n : ℕ) (place : Place) : Type 0 where
   pub starts : place.start ≤ place.index
   pub ends : place.start ≤ place.end
   pub within : place.end ≤ n
 
--- what the places name is there
+-- each place is within the lists
 pub record AreWithin (grouped groups : List ℕ) (numbers : List Value) (places : List Place) : Type 0 where
   pub groups_long : length groups ≡ length grouped
   pub numbers_long : 0 < length numbers → length numbers ≡ length grouped

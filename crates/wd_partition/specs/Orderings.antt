@@ -1,4 +1,4 @@
--- An ordering of a class beside its positions by partition.
+-- An ordering of a class and its positions by partition.
 use Rattle.std.specs.Prelude.{ℕ, List, IsSorted}
 use Rattle.wd_value.specs.Rows.{Row}
 use Rattle.wd_sort.specs.Sorting.{IsStableSortOf, compare_rows_at}
@@ -6,7 +6,7 @@ use Rattle.wd_plan.specs.Plans.{ClassRule}
 use Rattle.wd_plan.specs.Sorting.{IsOrdering}
 use Rattle.wd_partition.specs.Columns.{partition_columns}
 
--- the positions of a lawful ordering, one partition after another, in each as the ordering has them
+-- the positions of a lawful ordering, one partition after another, and in each in the ordering's order
 pub record AreGrouped (class : ClassRule) (rows : List Row) (ordering grouped : List ℕ) : Type 0 where
   pub lawful : IsOrdering class rows ordering
   pub sorted : IsStableSortOf (partition_columns class.partition) rows ordering grouped

@@ -2,7 +2,7 @@
 use Rattle.std.specs.Prelude.{◌≡◌, ℕ, Bool, false, List, length, nat_eq, slice_index_or, count_by, if◌then◌else◌}
 use Rattle.wd_value.specs.Bags.{times}
 
--- a mark for each position below n: each position marked stands once in the list, and no other one stands there
+-- a mark for each position below n; the marked positions appear once in the list, and no others do
 pub record AreSeen (n : ℕ) (taken : List ℕ) (marks : List Bool) : Type 0 where
   pub long : length marks ≡ n
   pub once : (p : ℕ) → times nat_eq p taken ≡ (if slice_index_or marks p false then 1 else 0)

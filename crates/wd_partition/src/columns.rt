@@ -8,8 +8,7 @@ ghost use Rattle.wd_value.specs.Keys as sort_keys;
 use std::alloc::Global;
 use wd_value::{OutOfMemory, SortColumn, SortKey};
 
-/// The partition's columns, ascending with NULL last: the order of the partitions is left open by
-/// the SQL standard, and none is asked for.
+/// The partition's columns, ascending with NULL last. The SQL standard leaves the order of the partitions open, so any order is correct.
 pub fn partition_columns(alloc: Global, partition: &[u16]) -> Result<Vec<SortColumn>, OutOfMemory>
     ensures { IfOk result (λ v. v.items ≡ spec.partition_columns partition.now) }
 {
@@ -30,7 +29,7 @@ fn ascending(column: u16) -> SortColumn
     SortColumn { column, key }
 }
 
-/// The partition's columns, and then the sort keys.
+/// The partition's columns, followed by the sort keys.
 pub fn sort_columns(
     alloc: Global,
     partition: &[u16],

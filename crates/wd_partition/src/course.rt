@@ -4,8 +4,7 @@ use crate::steps::Step;
 use wd_columns::RowSource;
 use wd_value::SortColumn;
 
-/// The positions of an ordering, one partition after another, and how each row stands to the one
-/// before it.
+/// The positions of an ordering, one partition after another, and how each row relates to the one before it.
 #[derive(Clone, Copy)]
 pub struct Course<'a, 'r> {
     pub rows: &'a RowSource<'r>,

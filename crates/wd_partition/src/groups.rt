@@ -27,7 +27,7 @@ pub fn group_numbers(alloc: Global, course: &Course) -> Result<Vec<u32>, OutOfMe
     Ok(groups)
 }
 
-/// The number after a step, from that before it.
+/// The peer group number after a step, from the number before it.
 fn group_after(step: Step, group: u32) -> u32
     requires { group + 1 < 2 ^ 32 }
     ensures is { result ≡ spec.group_after step group }
@@ -40,8 +40,8 @@ fn group_after(step: Step, group: u32) -> u32
     }
 }
 
-/// The value of the only sort key at each of the positions, where these are asked for: whole
-/// numbers, and NULL in place of everything else. No text is copied.
+/// The value of the only sort key at each of the positions, if these values are requested: whole numbers, and NULL in place of everything
+/// else. No text is copied.
 pub fn key_numbers(
     alloc: Global,
     rows: &RowSource,

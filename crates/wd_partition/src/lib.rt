@@ -1,4 +1,9 @@
 //! Orderings of rows under a class, and the partitions of a class.
+//!
+//! `ordering` sorts rows, or checks a given ordering by sorting it once more by partition alone, and `steps` compares neighbours along
+//! the sorted positions. From these `runs` finds where partitions begin and end, `groups` the peer groups and `placing` each row's place;
+//! `members` keeps the result, and `listing` is the way in. wd_sort sorts; many rows are sorted and compared by numbers in their place,
+//! if they have such numbers.
 #![tactic(auto)]
 
 mod columns;

@@ -14,10 +14,9 @@ use std::alloc::Global;
 use wd_columns::RowSource;
 use wd_value::{OutOfMemory, SortColumn};
 
-/// The partitions of an ordering of the rows under a class, with the numbers of its sort key where
-/// they are asked for and it has exactly one; none where the list is no ordering of the class (SQL,
-/// window clause). Takes fewer than 2^32 rows, since peer group numbers have 32 bits, and n log n
-/// comparisons.
+/// The partitions of an ordering of the rows under a class, with the numbers of its sort key if they are requested and it has exactly
+/// one; `None` where the list is no ordering of the class (SQL, window clause). Takes fewer than 2^32 rows, since peer group numbers have
+/// 32 bits, and n log n comparisons.
 pub fn partitions(
     alloc: Global,
     rows: &RowSource,
@@ -45,8 +44,8 @@ pub struct SortedPartitions {
     pub partitions: Partitions,
 }
 
-/// What [`sorted_ordering`] gives, and its partitions. The ordering is used as it was sorted: it is
-/// not judged. Takes fewer than 2^32 rows, since peer group numbers have 32 bits.
+/// The ordering of [`sorted_ordering`] and its partitions. The ordering is not checked again. Takes fewer than 2^32 rows, since peer
+/// group numbers have 32 bits.
 pub fn sorted_partitions(
     alloc: Global,
     rows: &RowSource,

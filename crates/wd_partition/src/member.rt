@@ -1,17 +1,17 @@
-//! What an evaluator asks of the row at a position.
+//! What an evaluator reads for the row at a position.
 
 use wd_value::Value;
 
-/// The partition of a row, as its ordering has it.
+/// The partition of a row, in the order of its ordering.
 #[derive(Clone, Copy)]
 pub struct Member<'a> {
-    /// The positions of the partition's rows, in their ordering.
+    /// The positions of the partition's rows, in the ordering's order.
     pub positions: &'a [u64],
     /// The peer group number of each of these rows, from 0.
     pub groups: &'a [u32],
-    /// The value of the only sort key in each of these rows, where they were asked for: whole
-    /// numbers, and NULL in place of everything else. Otherwise none.
+    /// The value of the only sort key in each of these rows, if requested: whole numbers, and NULL in place of everything else. Otherwise
+    /// empty.
     pub numbers: &'a [Value],
-    /// The place of the row itself among them, from 0.
+    /// The place of the row itself among these, from 0.
     pub place: usize,
 }

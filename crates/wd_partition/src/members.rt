@@ -20,8 +20,8 @@ use std::marker::Model;
 use wd_columns::RowSource;
 use wd_value::{OutOfMemory, SortColumn, Value};
 
-/// The partitions of an ordering: for each row the members of its partition, their peer group
-/// numbers, and its place there. A few words for each row.
+/// The partitions of an ordering: for each row the members of its partition, their peer group numbers, and its place among them. Takes a
+/// few words for each row.
 #[derive(Drop)]
 pub struct Partitions {
     /// The ordering's positions, one partition after another.
@@ -41,7 +41,7 @@ impl Model for Partitions {
 }
 
 impl Partitions {
-    /// The partition of the row at a position, and none past the last row. Takes constant time.
+    /// The partition of the row at a position; `None` past the last row. Takes constant time.
     pub fn member(&self, position: usize) -> Option<Member<'_>>
         ensures { option_map member_rule result ≡ slice_get self.now position }
     {
@@ -60,7 +60,7 @@ impl Partitions {
     }
 }
 
-/// The numbers of a stretch, where there are numbers.
+/// The numbers in a row's partition; empty where there are no numbers.
 fn numbers_at(numbers: &[Value], place: Place) -> &[Value]
     requires ends { place.start ≤ place.end }
     requires within { 0 < length numbers.now → place.end ≤ length numbers.now }

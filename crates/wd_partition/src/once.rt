@@ -6,8 +6,7 @@ ghost use Rattle.wd_value.specs.Bags.{EachOnce};
 use std::alloc::Global;
 use wd_value::OutOfMemory;
 
-/// Whether the list has each position below `count` once, and nothing else. Takes time that goes
-/// with `count`, and a mark for each position.
+/// Whether the list has each position below `count` once, and nothing else. Takes time linear in `count`, and a mark for each position.
 pub fn has_each_once(alloc: Global, count: usize, list: &[u64]) -> Result<bool, OutOfMemory>
     ensures { IfOk result (λ b. IsTrue b ↔ EachOnce count list.now) }
 {

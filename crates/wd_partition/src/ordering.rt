@@ -1,4 +1,4 @@
-//! Orderings of rows under a class: the sorted one, and the test of a given one.
+//! Orderings of rows under a class: the sorted one, and the check of a given one.
 
 ghost use Rattle.std.specs.Prelude.{◌≡◌, ◌↔◌, ◌++◌, IfOk, IfSome, IsSorted, IsTrue, MatchOption, length};
 ghost use Rattle.wd_partition.specs.Columns as columns_of_class;
@@ -17,20 +17,18 @@ use wd_columns::RowSource;
 use wd_sort::{row_coding, sorted_by_coding, sorted_in};
 use wd_value::{OutOfMemory, SortColumn};
 
-/// Fewer rows are sorted as they are: to find numbers for them would take longer.
+/// Fewer rows than these are sorted directly: finding numbers for them would take longer.
 const FEW: usize = 32;
 
-/// Positions sorted by partition, and the step to each.
+/// Positions sorted by partition, and the step to each of them.
 #[derive(Drop)]
 pub struct Arrangement {
     pub positions: Vec<u64>,
     pub steps: Vec<Step>,
 }
 
-/// The ordering that a stable sort gives: the positions of the rows by the partition columns,
-/// ascending with NULL last, and then by the sort keys. Rows that tie on all of these stand
-/// in the order in which `turn` takes them. It is an ordering that the class allows (SQL, window
-/// clause).
+/// The ordering of a stable sort: the positions of the rows by the partition columns, ascending with NULL last, and then by the sort
+/// keys. Rows that tie on all of these are in the order of `turn`. The class allows this ordering (SQL, window clause).
 pub fn sorted_ordering(
     alloc: Global,
     rows: &RowSource,
@@ -48,7 +46,7 @@ pub fn sorted_ordering(
 }
 
 /// Whether the list is an ordering that the class allows: each position of the rows once, and the
-/// rows of each partition sorted by the keys, where rows that tie may stand in any order (SQL,
+/// rows of each partition sorted by the keys, where rows that tie may appear in any order (SQL,
 /// window clause). Takes n log n comparisons.
 pub fn is_ordering(
     alloc: Global,
@@ -65,9 +63,9 @@ pub fn is_ordering(
     }
 }
 
-/// The positions of an ordering, one partition after another and in each as the ordering has them,
-/// with the step to each; none where the list is no ordering of the class. Where each position stands once, the list is
-/// one exactly if its stable sort by partition is sorted by all columns.
+/// The positions of an ordering, one partition after another and in each in the ordering's order, with the step to each; `None` where the
+/// list is no ordering of the class. A list with each position once is an ordering of the class exactly if its stable sort by partition
+/// is sorted by all columns.
 pub fn grouped(
     alloc: Global,
     rows: &RowSource,
@@ -130,7 +128,8 @@ pub fn sorted_arrangement(
     Ok(arrangement)
 }
 
-/// The sorted ordering by numbers in the place of rows, which are found once for both; none where the rows have none.
+/// The sorted ordering by numbers in place of the rows, which are found once for sorting and steps; `None` where the rows have no such
+/// numbers.
 fn coded_arrangement(
     alloc: Global,
     rows: &RowSource,

@@ -1,7 +1,6 @@
-//! Where the row at each position stands among the positions sorted by partition.
+//! The place of the row at each position among the positions sorted by partition.
 
-/// The stretch of a row's partition among the positions sorted by partition, from `start` up to
-/// `end`, and the place of the row itself there.
+/// The range of a row's partition among the positions sorted by partition, from `start` up to `end`, and the place of the row itself.
 #[derive(Clone, Copy, PartialEq, Eq)]
 pub struct Place {
     pub start: u32,

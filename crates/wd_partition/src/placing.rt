@@ -1,4 +1,4 @@
-//! Where the row at each position stands among the positions sorted by partition.
+//! The place of the row at each position among the positions sorted by partition.
 
 ghost use Rattle.std.specs.Prelude.{◌≡◌, ◌<◌, ◌^◌, IfOk, length};
 ghost use Rattle.wd_partition.specs.Places.{ArePlaces};
@@ -8,7 +8,7 @@ use crate::places::Place;
 use std::alloc::Global;
 use wd_value::OutOfMemory;
 
-/// For each position its place in the list, with where its partition starts and ends there.
+/// For each position its place in the list, and where its partition starts and ends in the list.
 pub fn places_of(
     alloc: Global,
     list: &[u64],

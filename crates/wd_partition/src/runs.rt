@@ -8,7 +8,7 @@ use crate::course::Course;
 use std::alloc::Global;
 use wd_value::OutOfMemory;
 
-/// For each of the sorted positions, how many stand before its partition.
+/// For each of the sorted positions, how many come before its partition.
 pub fn partition_starts(alloc: Global, course: &Course) -> Result<Vec<u32>, OutOfMemory>
     requires short { length course.now.positions.now < 2 ^ 32 }
     requires course { IsCourse course.now }
@@ -38,7 +38,7 @@ fn next_start(course: &Course, i: usize, start: u32) -> u32
     }
 }
 
-/// For each of the sorted positions, how many stand before the end of its partition.
+/// For each of the sorted positions, how many come before the end of its partition.
 pub fn partition_ends(alloc: Global, course: &Course) -> Result<Vec<u32>, OutOfMemory>
     requires short { length course.now.positions.now < 2 ^ 32 }
     requires course { IsCourse course.now }

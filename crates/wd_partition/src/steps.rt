@@ -1,4 +1,4 @@
-//! How neighbours stand to one another among the positions sorted by partition.
+//! How neighbours relate to one another among the positions sorted by partition.
 
 ghost use Rattle.std.specs.Prelude.{◌≡◌, ◌++◌, ◌<◌, IfOk, IfSome, IsSorted, MatchOption, Some, length, slice_index};
 ghost use Rattle.wd_partition.specs.Steps as spec;
@@ -11,14 +11,14 @@ use wd_columns::RowSource;
 use wd_sort::compare_source_at;
 use wd_value::{OutOfMemory, SortColumn};
 
-/// How a row stands to the one before it.
+/// How a row relates to the one before it.
 #[derive(Clone, Copy)]
 pub enum Step {
-    /// It begins a partition.
+    /// The row begins a partition.
     Partition,
-    /// It begins a peer group of the same partition.
+    /// The row begins a peer group of the same partition.
     Group,
-    /// It ties with the one before.
+    /// The row ties with the one before.
     Peer,
 }
 
@@ -33,8 +33,7 @@ impl Step {
     }
 }
 
-/// The step to each of the positions, which are sorted by partition; none where they are not sorted
-/// by the keys in each partition.
+/// The step to each of the positions, which are sorted by partition; `None` where some partition is not sorted by the keys.
 pub fn steps_of(
     alloc: Global,
     rows: &RowSource,
@@ -55,7 +54,7 @@ pub fn steps_of(
     Ok(Some(steps))
 }
 
-/// The step to the position at place `i`, and none where the keys fall.
+/// The step to the position at place `i`; `None` where the keys decrease.
 fn step_to(
     rows: &RowSource,
     by_partition: &[SortColumn],
@@ -88,8 +87,8 @@ fn key_step(order: Ordering) -> Option<Step>
     }
 }
 
-/// The step to each of the positions, by numbers that compare as the rows do, by partition and by the
-/// keys; none where the keys fall.
+/// The step to each of the positions, by numbers that compare as the rows do, by partition and by the keys; `None` where the keys
+/// decrease.
 pub fn coded_steps(
     alloc: Global,
     by_partition: &[u64],
@@ -108,7 +107,7 @@ pub fn coded_steps(
     Ok(Some(steps))
 }
 
-/// The step to the position at place `i`, and none where the keys fall.
+/// The step to the position at place `i`; `None` where the keys decrease.
 fn coded_step(by_partition: &[u64], by_keys: &[u64], positions: &[u64], i: usize) -> Option<Step>
     requires { i < length positions.now }
     ensures { result ≡ spec.step_to (compare_codes by_partition.now) (compare_codes by_keys.now) positions.now i }
@@ -122,7 +121,7 @@ fn coded_step(by_partition: &[u64], by_keys: &[u64], positions: &[u64], i: usize
     }
 }
 
-/// The numbers at two positions; past the last there is 0.
+/// The order of the numbers at two positions; past the last position the number is 0.
 fn compare_codes_at(codes: &[u64], p: u64, q: u64) -> Ordering
     ensures { result ≡ compare_codes codes.now p q }
 {
@@ -157,7 +156,7 @@ pub fn sorted_steps(
     Ok(steps)
 }
 
-/// The step to the position at place `i` of such positions.
+/// The step to the position at place `i`, where the positions are sorted by the partition's columns and then by the keys.
 fn sorted_step(
     rows: &RowSource,
     by_partition: &[SortColumn],

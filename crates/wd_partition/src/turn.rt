@@ -1,4 +1,4 @@
-//! The orders in which positions are taken before they are sorted: rows that tie stay so.
+//! The orders in which positions are taken before a stable sort: rows that tie keep this order.
 
 ghost use Rattle.std.specs.Prelude.{◌≡◌, IfOk};
 ghost use Rattle.wd_partition.specs.Columns as spec;
@@ -14,13 +14,13 @@ pub enum Turn {
     AsGiven,
     /// From the last to the first.
     Reversed,
-    /// The first one last, behind the others as they are.
+    /// The first one moved to the end.
     Rotated,
     /// Neighbours exchanged two by two; an odd last one stays.
     Exchanged,
 }
 
-/// The positions of so many rows in this order.
+/// The positions of `count` rows in this order.
 pub(crate) fn given_positions(
     alloc: Global,
     count: usize,
@@ -40,7 +40,7 @@ pub(crate) fn given_positions(
     }
 }
 
-/// The first position last.
+/// The positions with the first one moved to the end.
 fn rotated(alloc: Global, positions: &[u64]) -> Result<Vec<u64>, OutOfMemory>
     ensures { IfOk result (λ v. v.items ≡ spec.rotated positions.now) }
 {
@@ -54,7 +54,7 @@ fn rotated(alloc: Global, positions: &[u64]) -> Result<Vec<u64>, OutOfMemory>
     }
 }
 
-/// Neighbours exchanged two by two; an odd last one stays.
+/// The positions with neighbours exchanged two by two; an odd last one stays.
 fn exchanged(alloc: Global, positions: &[u64]) -> Result<Vec<u64>, OutOfMemory>
     ensures { IfOk result (λ v. v.items ≡ spec.exchanged positions.now) }
 {

@@ -97,7 +97,7 @@ fn add_expressions(walk: &mut Walk, trees: &[Expr]) -> Result<(), OutOfMemory> {
     Ok(())
 }
 
-/// Adds the parts of operands, each behind its operator.
+/// Adds the parts of operands, each after its operator.
 #[cycle(walk)]
 fn add_links(walk: &mut Walk, links: &[Link]) -> Result<(), OutOfMemory> {
     for link in links {
@@ -119,7 +119,7 @@ fn add_arms(walk: &mut Walk, arms: &[Arm]) -> Result<(), OutOfMemory> {
     Ok(())
 }
 
-/// Adds the parts of what ELSE gives, where it is written.
+/// Adds the parts of the operand of ELSE, if it is written.
 #[cycle(walk)]
 fn add_else(walk: &mut Walk, other: &Option<Box<Expr>>) -> Result<(), OutOfMemory> {
     match other {
@@ -131,7 +131,7 @@ fn add_else(walk: &mut Walk, other: &Option<Box<Expr>>) -> Result<(), OutOfMemor
     }
 }
 
-/// Adds the parts of what stands in OVER, where it is written.
+/// Adds the parts of what is in OVER, where it is written.
 #[cycle(walk)]
 fn add_over(walk: &mut Walk, over: &Option<Box<Over>>) -> Result<(), OutOfMemory> {
     let Some(over) = over else {
@@ -172,7 +172,7 @@ pub(crate) fn add_window(walk: &mut Walk, window: &Window) -> Result<(), OutOfMe
     Ok(())
 }
 
-/// Adds the parts of a window's sort keys, each behind BY or a comma.
+/// Adds the parts of a window's sort keys, each after BY or a comma.
 #[cycle(walk)]
 fn add_keys(walk: &mut Walk, keys: &[SortKey]) -> Result<(), OutOfMemory> {
     for key in keys {
@@ -183,7 +183,7 @@ fn add_keys(walk: &mut Walk, keys: &[SortKey]) -> Result<(), OutOfMemory> {
     Ok(())
 }
 
-/// Passes what stands behind the expression of a sort key.
+/// Passes what follows the expression of a sort key.
 pub(crate) fn pass_direction(walk: &mut Walk, key: &SortKey) {
     if key.direction.is_some() {
         walk.pass(1);

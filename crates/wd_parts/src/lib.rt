@@ -1,8 +1,8 @@
-//! The parts of a query's text or a schema's that may be the cause of a refusal, and the text with some of them replaced.
+//! The parts of a query's or a schema's text that may be the cause of a refusal, and the text with some of them replaced.
 //!
-//! `query`, `expression` and `schema` walk along the tree of a text and count its tokens; they list the parts that may be the cause of
-//! a refusal of some number, in the order in which the text is judged (`part`). `neutral` puts in the place of parts what is allowed
-//! there and is no such cause.
+//! `query`, `expression` and `schema` walk along the tree of a text and count its tokens; they list the parts that may be the cause of a
+//! refusal of a given number, in the order in which the text is checked (`part`). `neutral` replaces parts by something that is allowed
+//! there and causes no such refusal.
 #![tactic(auto)]
 
 mod expression;

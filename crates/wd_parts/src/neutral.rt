@@ -10,7 +10,7 @@ use wd_keys::Change;
 use wd_lex::{Span, Token};
 use wd_value::OutOfMemory;
 
-/// The bytes from the beginning of one token up to the end of the one before another.
+/// The bytes from the beginning of one token up to the end of the token before another one.
 pub fn bytes_of(tokens: &[Token], first: usize, end: usize) -> Option<Span>
     ensures { IfSome result (IsWhole tokens.now) }
 {
@@ -23,7 +23,7 @@ pub fn bytes_of(tokens: &[Token], first: usize, end: usize) -> Option<Span>
     Some(Span { start, end })
 }
 
-/// The changes that replace these parts in a text, but for those within others; `table` is the name of a table.
+/// The changes that replace these parts in a text, except those within others; `table` is the name of a table.
 pub fn changes(
     alloc: Global,
     text: &[u8],
@@ -48,7 +48,7 @@ pub fn changes(
     Ok(changes)
 }
 
-/// For each of so many tokens the longest of the parts that begin there.
+/// For each of the tokens the longest part that begins there.
 fn longest(alloc: Global, tokens: usize, parts: &[Part]) -> Result<Vec<Option<Part>>, OutOfMemory> {
     let mut longest: Vec<Option<Part>> = Vec::with_capacity(alloc, tokens)?;
     for _ in 0..tokens {
@@ -87,7 +87,7 @@ fn change(
     })
 }
 
-/// Adds what stands in the place of a part.
+/// Adds the replacement of a part.
 fn add_neutral(
     put: &mut String,
     text: &[u8],
@@ -125,7 +125,7 @@ fn add_quoted(put: &mut String, name: &str) -> Result<(), OutOfMemory> {
     Ok(put.push('"')?)
 }
 
-/// Adds the bytes of a text that stand there.
+/// Adds the bytes of a text at a span.
 fn add_bytes(put: &mut String, text: &[u8], span: Span) -> Result<(), OutOfMemory> {
     let end = (span.end as usize).min(text.len());
     let start = (span.start as usize).min(end);

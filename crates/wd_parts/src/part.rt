@@ -3,7 +3,7 @@
 use std::alloc::Global;
 use wd_value::OutOfMemory;
 
-/// What stands in the place of a part that is to be no cause.
+/// The replacement of a part, which causes no refusal.
 #[derive(Clone, Copy)]
 pub enum Neutral {
     /// `NULL`, for an expression.
@@ -19,9 +19,9 @@ pub enum Neutral {
     Table,
     /// A name that nothing else has.
     Name,
-    /// What stands there, by a name that nothing else has.
+    /// The text as it is, under a name that nothing else has.
     Called,
-    /// A column of such a name, for a member of a table's declaration.
+    /// A column with such a name, for a member of a table's declaration.
     Column,
     /// `TEXT`, for a type.
     Type,
@@ -30,13 +30,13 @@ pub enum Neutral {
 /// A part of a text, by the numbers of its tokens.
 #[derive(Clone, Copy)]
 pub struct Part {
-    /// The first token that something else may take the place of.
+    /// The first token that is replaced.
     pub first: usize,
-    /// The one behind the last.
+    /// The token after the last one that is replaced.
     pub end: usize,
-    /// The first of those where the cause stands if the part is one.
+    /// The first token that is shown as the cause, if the part is the cause.
     pub shown: usize,
-    /// The one behind the last of these; 0 where they end with the part.
+    /// The token after the last one that is shown; 0 where these end with the part.
     pub shown_end: usize,
     pub neutral: Neutral,
 }
@@ -48,7 +48,7 @@ pub(crate) struct Walk {
     pub(crate) number: u32,
     /// The number of the next token.
     pub(crate) at: usize,
-    /// The parts so far that may be its cause, in the order in which the text is judged, each before those within it.
+    /// The parts so far that may be the cause, in the order in which the text is checked, each before the parts within it.
     pub(crate) parts: Vec<Part>,
 }
 
@@ -61,13 +61,13 @@ impl Walk {
         }
     }
 
-    /// Passes so many tokens.
+    /// Passes the given number of tokens.
     pub(crate) fn pass(&mut self, tokens: usize) {
         self.at = self.at.saturating_add(tokens);
     }
 
-    /// Begins a part, where it may be the cause: its place in the list. Something else may take the place of the tokens from `first`
-    /// on; the cause is shown from the next token on.
+    /// Begins a part, if it may be the cause; the result is its number in the list. The tokens from `first` on are replaced; the cause is
+    /// shown from the next token on.
     pub(crate) fn open(
         &mut self,
         is_wanted: bool,
@@ -98,7 +98,7 @@ impl Walk {
         }
     }
 
-    /// The cause is not shown behind the tokens so far.
+    /// Ends the tokens that are shown as the cause before the next token.
     pub(crate) fn show(&mut self, opened: Option<usize>) {
         let at = self.at;
         if let Some(place) = opened {
@@ -108,7 +108,7 @@ impl Walk {
         }
     }
 
-    /// A part of so many tokens.
+    /// Adds a part of the given number of tokens.
     pub(crate) fn add(
         &mut self,
         is_wanted: bool,
@@ -121,7 +121,7 @@ impl Walk {
         Ok(())
     }
 
-    /// Puts the parts from one place up to another behind all others, since they are judged after these.
+    /// Moves the parts in a range of the list to its end, since they are checked after the others.
     pub(crate) fn put_behind(
         &mut self,
         alloc: Global,

@@ -16,7 +16,7 @@ pub fn query_parts(alloc: Global, query: &Query, number: u32) -> Result<Vec<Part
     Ok(walk.parts)
 }
 
-/// Adds the parts of a select: those of its list come behind those of its FROM and of all up to its WINDOW.
+/// Adds the parts of a select: those of its list come after those of its FROM and of all up to its WINDOW.
 #[cycle(select)]
 fn add_select(alloc: Global, walk: &mut Walk, select: &Select) -> Result<(), OutOfMemory> {
     walk.pass(if select.quantifier.is_some() { 2 } else { 1 });

@@ -20,7 +20,7 @@ pub fn schema_parts(
     Ok(walk.parts)
 }
 
-/// Adds the parts of a table's declaration, and passes the semicolon behind it.
+/// Adds the parts of a table's declaration, and passes the semicolon after it.
 fn add_table(walk: &mut Walk, table: &WrittenTable) -> Result<(), OutOfMemory> {
     let first = walk.at;
     walk.pass(2);
@@ -44,7 +44,7 @@ fn add_table(walk: &mut Walk, table: &WrittenTable) -> Result<(), OutOfMemory> {
     Ok(())
 }
 
-/// Adds the parts of a member of a table; something else may take the place of its tokens from `first` on, a comma being the first.
+/// Adds the parts of a member of a table; its tokens from `first` on, which begin with a comma, are replaced.
 fn add_element(walk: &mut Walk, first: usize, element: &Element) -> Result<(), OutOfMemory> {
     match element {
         Element::Column(column) => add_column(walk, first, column),
@@ -104,7 +104,7 @@ fn key_tokens(words: KeyWords) -> usize {
     }
 }
 
-/// Adds the parts of a key that stands by itself.
+/// Adds the parts of a key that is an element of its own.
 fn add_key(walk: &mut Walk, key: &WrittenKey) -> Result<(), OutOfMemory> {
     let first = walk.at;
     if key.constraint.is_some() {

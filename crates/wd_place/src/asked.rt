@@ -9,7 +9,7 @@ use wd_query::read_query;
 use wd_schema::{Schema, read_schema};
 use wd_value::OutOfMemory;
 
-/// What says whether a text is refused by some number.
+/// Decides whether a text is refused by some number.
 pub trait Judge: Drop {
     ghost Refused: { Self → List ℕ → Type 0 };
 
@@ -21,14 +21,14 @@ pub trait Judge: Drop {
         ensures passed { IfOk result (λ found. found ≡ false → Passed self.now text.now) };
 }
 
-/// Of queries over a schema.
+/// Decides it for queries over a schema.
 #[derive(Drop)]
 pub struct OfQueries<'a> {
     pub schema: &'a Schema,
     pub number: u32,
 }
 
-/// Of schemas.
+/// Decides it for schemas.
 #[derive(Drop)]
 pub struct OfSchemas {
     pub number: u32,
@@ -60,7 +60,7 @@ impl Judge for OfSchemas {
     }
 }
 
-/// Whether a refusal's number is this one; there is none where memory runs out.
+/// Whether a refusal's number is this one; an error where memory ran out.
 fn is_that(found: Option<u32>, number: u32) -> Result<bool, OutOfMemory>
     ensures same { IfOk result (λ is. is ≡ true → found ≡ Some number) }
     ensures other { IfOk result (λ is. is ≡ false → found ≢ Some number) }

@@ -1,4 +1,4 @@
-//! The part that is the cause of a refusal.
+//! The search for the part that is the cause of a refusal.
 
 ghost use Rattle.std.specs.Prelude.{◌≡◌, true, false, Some, IfOk, IfSome};
 ghost use Rattle.std.specs.List.{list_any};
@@ -18,7 +18,7 @@ use wd_read_statements::read_statements;
 use wd_schema::{Schema, read_schema};
 use wd_value::OutOfMemory;
 
-/// The tokens of a text, its parts that may be the cause of its refusal, and what says whether a changed text is refused so.
+/// The tokens of a text, the parts that may be the cause of its refusal, and what decides whether a changed text is refused so.
 #[derive(Drop)]
 struct Search<'a, J> {
     alloc: Global,
@@ -26,12 +26,12 @@ struct Search<'a, J> {
     text: &'a [u8],
     tokens: &'a [Token],
     parts: &'a [Part],
-    /// The name of a table, for what stands in the place of one.
+    /// The name of a table, as the replacement of one.
     table: &'a str,
 }
 
-/// Where the cause stands for which a query's text over a schema's is refused by a number from 401 to 419. None where it is not refused
-/// by it, and where no part of the text is found to be the cause.
+/// The place of the cause for which a query's text over a schema's is refused by a number from 401 to 419. `None` where it is not refused
+/// by that number, and where no part of the text is found to be the cause.
 pub fn query_place(
     alloc: Global,
     schema: &[u8],
@@ -46,7 +46,7 @@ pub fn query_place(
     }
 }
 
-/// The place in a query over a schema.
+/// The place of the cause in a query over a schema.
 fn place_over(
     alloc: Global,
     schema: &Schema,
@@ -80,8 +80,8 @@ fn place_over(
     search.found()
 }
 
-/// Where the cause stands for which a schema's text is refused by a number from 301 to 308. None where it is not refused by it, and
-/// where no part of the text is found to be the cause.
+/// The place of the cause for which a schema's text is refused by a number from 301 to 308. `None` where it is not refused by that
+/// number, and where no part of the text is found to be the cause.
 pub fn schema_place(alloc: Global, schema: &[u8], number: u32) -> Result<Option<Span>, OutOfMemory>
     ensures { IfOk result (λ found. IfSome found (IsSchemaCause schema.now number)) }
 {
@@ -102,7 +102,7 @@ pub fn schema_place(alloc: Global, schema: &[u8], number: u32) -> Result<Option<
 }
 
 impl<J: Judge> Search<'_, J> {
-    /// The place of a part with which the text is refused, and without which it is not; the parts behind it are replaced.
+    /// The place of a part with which the text is refused and without which it is not; the parts after it are replaced in both.
     fn found(&self) -> Result<Option<Span>, OutOfMemory>
         requires { IsLexed self.now.text.now self.now.tokens.now }
         ensures { IfOk result (λ found. IfSome found (IsCauseAt (J.Refused self.now.judge.now) (J.Passed self.now.judge.now) self.now.text.now)) }
@@ -123,7 +123,7 @@ impl<J: Judge> Search<'_, J> {
         self.judged(passing)
     }
 
-    /// The changes that replace the parts from the one of this number on.
+    /// The changes that replace the parts from this number on.
     fn changes_from(&self, number: usize) -> Result<Vec<Change>, OutOfMemory> {
         let first = number.min(self.parts.len());
         changes(
@@ -135,7 +135,7 @@ impl<J: Judge> Search<'_, J> {
         )
     }
 
-    /// Whether the text is refused with these changes. None where they can't be put in.
+    /// Whether the text with these changes is refused; `None` where they cannot be made.
     fn refuses(&self, changes: &[Change]) -> Result<Option<bool>, OutOfMemory>
         ensures refused { IfOk result (λ found. found ≡ Some true → WithChanges (J.Refused self.now.judge.now) self.now.text.now changes.now) }
         ensures passed { IfOk result (λ found. found ≡ Some false → WithChanges (J.Passed self.now.judge.now) self.now.text.now changes.now) }
@@ -146,7 +146,7 @@ impl<J: Judge> Search<'_, J> {
         }
     }
 
-    /// The place of the part of this number, where the text is refused with it and not without it.
+    /// The place of the part of this number, if the text is refused with it and not without it.
     fn judged(&self, number: usize) -> Result<Option<Span>, OutOfMemory>
         requires { IsLexed self.now.text.now self.now.tokens.now }
         ensures { IfOk result (λ found. IfSome found (IsCauseAt (J.Refused self.now.judge.now) (J.Passed self.now.judge.now) self.now.text.now)) }
@@ -161,7 +161,7 @@ impl<J: Judge> Search<'_, J> {
         }
     }
 
-    /// Where the part of this number is shown, where the latter changes take that out and the former don't.
+    /// The shown place of the part of this number, if the latter changes remove it and the former don't.
     fn taken_out(&self, number: usize, kept: &[Change], gone: &[Change]) -> Option<Span>
         ensures whole { IfSome result (IsWhole self.now.tokens.now) }
         ensures stays { IfSome result (λ span. list_any (spec.takes span) kept.now ≡ false) }
@@ -181,7 +181,7 @@ impl<J: Judge> Search<'_, J> {
     }
 }
 
-/// Whether one of the changes takes these bytes out.
+/// Whether one of the changes removes these bytes.
 fn is_taken(changes: &[Change], span: Span) -> bool
     ensures { result ≡ list_any (spec.takes span) changes.now }
 {

@@ -27,13 +27,13 @@ use Rattle.wd_plan.specs.Frames.{frame_of}
 use Rattle.wd_plan.specs.Partitions.{members, partition_of, place_in, group_of}
 use Rattle.wd_plan.specs.Plans.{ClassRule}
 
--- the first bucket from b on that reaches past a place, where members are dealt to n buckets as evenly as possible,
--- the larger ones first: the first b buckets hold b times the smaller size, and one more each where they are larger
+-- the first bucket from b on that reaches past a place, where members are dealt to n buckets as evenly as possible, the larger ones
+-- first: the first b buckets hold b times the smaller size, and one more member for each larger bucket among them
 abbrev pub bucket_from : ℕ → ℕ → ℕ → ℕ → ℕ → ℕ
 bucket_from zero b n members place = b
 bucket_from (suc more) b n members place = if nat_lt place (b * (members / n) + min b (members % n)) then b else bucket_from more (b + 1) n members place
 
--- the bucket of a place among so many members, from 1
+-- the bucket of a place among the given number of members, from 1
 abbrev pub bucket : ℕ → ℕ → ℕ → ℕ
 bucket n members place = bucket_from n 1 n members place
 
@@ -45,16 +45,16 @@ total (Text t ∷ vs) = total vs
 total (Truth b ∷ vs) = total vs
 total (Null ∷ vs) = total vs
 
--- NULL over no value; a total that 64 bits don't hold is a fault, and no running total is (own)
+-- NULL over no value; a total that 64 bits don't hold is a fault, but a running total is not (this project's choice)
 abbrev pub sum_of : List Value → Result Value Fault
 sum_of vs = if list_any (λ v. not (is_null v)) vs then (if fits_64 (total vs) then Ok (Int (total vs)) else Err OutOfRange) else Ok Null
 
--- the value that stands first under a sort key, or NULL over no value
+-- the value that comes first under a sort key, or NULL over no value
 abbrev pub first_by : SortKey → List Value → Value
 first_by key [] = Null
 first_by key (v ∷ vs) = let w = first_by key vs in if is_gt (compare key v w) then w else v
 
--- NULL stands last under both keys, so it is taken only where there is no other
+-- NULL comes last under both keys, so it is taken only where there is no other
 abbrev pub least : List Value → Value
 least vs = first_by (record { desc = false; nulls_first = false }) vs
 
@@ -73,7 +73,7 @@ aggregate_value (Sum c) rows = sum_of (column_values c rows)
 aggregate_value (Min c) rows = Ok (least (column_values c rows))
 aggregate_value (Max c) rows = Ok (greatest (column_values c rows))
 
--- the first, the last or the nth of the values; NULL where there is none
+-- the first, the last or the nth of the values; NULL where it does not exist
 abbrev pub taken : FrameRow → List Value → Value
 taken First values = slice_index_or values 0 Null
 taken Last values = slice_index_or (reverse values) 0 Null
@@ -84,14 +84,14 @@ abbrev pub frame_value : FrameFunction → List Row → Result Value Fault
 frame_value (ValueAt row c) rows = Ok (taken row (column_values c rows))
 frame_value (Aggregate a) rows = aggregate_value a rows
 
--- the number that a ranking function gives at place i of a partition list
+-- the value of a ranking function at place i of a partition list
 abbrev pub ranking_value : ClassRule → Ranking → List Row → ℕ → ℕ
 ranking_value class RowNumber partition i = i + 1
 ranking_value class Rank partition i = 1 + count_by (λ q. nat_lt (group_of class partition q) (group_of class partition (row_at partition i))) partition
 ranking_value class DenseRank partition i = group_of class partition (row_at partition i) + 1
 ranking_value class (Ntile n) partition i = bucket n (length partition) i
 
--- the value of column c k rows earlier or later than place i, else the default
+-- the value of column c at k rows before or after place i, else the default
 abbrev pub value_away : Direction → ℕ → ℕ → Value → List Row → ℕ → Value
 value_away Lag c k default partition i = if nat_le k i then column_of (row_at partition (i - k)) c else default
 value_away Lead c k default partition i = if nat_lt (i + k) (length partition) then column_of (row_at partition (i + k)) c else default

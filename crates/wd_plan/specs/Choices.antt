@@ -6,7 +6,7 @@ use Rattle.wd_plan.specs.Plans.{WindowRule, PlanTree, Scan, Join, Filter, Map, G
 use Rattle.wd_plan.specs.Outcomes.{RowsOrFault, outcome, class_at, ordering_at}
 use Rattle.wd_plan.specs.Sorting.{IsOrdering, limit_class}
 
--- a fact of the rows, where there are rows, and another one where there is a fault
+-- one property of the rows where there are rows, and another where there is a fault
 abbrev pub AtRows : RowsOrFault → (List Row → Type 0) → Type 0 → Type 0
 AtRows (Ok rows) P Q = P rows
 AtRows (Err fault) P Q = Q
@@ -16,7 +16,7 @@ pub record AreOrderings (w : WindowRule) (rows : List Row) (orderings : List (Li
   pub number : length orderings ≡ length w.classes
   pub each : (n : ℕ) → n < length w.classes → IsOrdering (class_at w n) rows (ordering_at orderings n)
 
--- each ordering is lawful over its node's input rows, as this choice makes them, and the empty list where the input is a fault
+-- each ordering is lawful over its node's input rows under this choice, and empty where the input is a fault
 abbrev pub AreLawful : PlanTree → Instance → List (List ℕ) → Type 0
 AreLawful (Scan table columns) instance choice = ⊤
 AreLawful (Join condition left right) instance choice = AreLawful left instance choice × AreLawful right instance (drop (ordering_count left) choice)
@@ -31,7 +31,7 @@ AreLawful (Limit limit input) instance choice =
     AreLawful input instance choice
     × (let own = ordering_at choice (ordering_count input) in AtRows (outcome input instance choice) (λ rows. IsOrdering (limit_class limit) rows own) (own ≡ []))
 
--- a valid choice: one lawful ordering for each class of each Window and for each Limit, in postorder, none missing and none left over
+-- a valid choice: one lawful ordering for each class of each Window and for each Limit, in postorder, and no further one
 pub record IsValidChoice (plan : PlanTree) (instance : Instance) (choice : List (List ℕ)) : Type 0 where
   pub number : length choice ≡ ordering_count plan
   pub lawful : AreLawful plan instance choice

@@ -8,7 +8,7 @@ use Rattle.wd_plan.specs.contracts.expression.Branch.{the_type as branches}
 use Rattle.wd_plan.specs.Expressions.{Expression, Column, Literal, Negate, Arithmetic, Compare, Not, And, Or, IsNull, IsNotNull, Case}
 use Rattle.wd_plan.specs.Fits.{same_kind}
 
--- one and the same tree; a literal's kind counts, and a CASE within ELSE is another tree than a further branch
+-- equal trees; the kind of a literal counts, and a CASE within ELSE differs from a further branch
 abbrev pub same_expression : Expression → Expression → Bool
 same_expression (Column c) (Column d) = nat_eq c d
 same_expression (Literal v kind) (Literal w other) = same v w && same_kind kind other

@@ -31,7 +31,7 @@ pub data Expression : Type 0 where
   Or : Expression → Expression → Expression
   IsNull : Expression → Expression
   IsNotNull : Expression → Expression
-  -- a branch of a CASE: its condition, its result, and the rest, which is the next branch or what ELSE gives
+  -- a branch of a CASE: its condition, its result, and the rest, which is the next branch or the operand of ELSE
   Case : Branch → Expression → Expression → Expression → Expression
 
 -- the expression that a value of the code shows
@@ -50,11 +50,11 @@ expression_of (code.Case' branch p a q b r c) = Case branch (expression_of a) (e
 
 -- ---- whole numbers
 
--- what 64 bits hold
+-- whether 64 bits hold the number
 abbrev pub fits_64 : ℤ → Bool
 fits_64 n = int_le (negsuc (2 ^ 63 - 1)) n && int_le n (pos (2 ^ 63 - 1))
 
--- a whole number, or the fault of one that 64 bits don't hold
+-- the whole number, or a fault where 64 bits don't hold it
 abbrev pub in_64 : ℤ → Result Value Fault
 in_64 n = if fits_64 n then Ok (Int n) else Err OutOfRange
 
@@ -71,7 +71,7 @@ arithmetic Multiply m n = in_64 (m *ℤ n)
 arithmetic Divide m n = unless_zero n (in_64 (int_div m n))
 arithmetic Remainder m n = unless_zero n (in_64 (int_rem m n))
 
--- a NULL operand gives NULL, also beside a zero divisor
+-- a NULL operand makes the value NULL, even with a zero divisor
 abbrev pub arithmetic_value : ArithmeticOp → Value → Value → Result Value Fault
 arithmetic_value op (Int m) (Int n) = arithmetic op m n
 arithmetic_value op a b = Ok Null
@@ -90,7 +90,7 @@ holds LessOrEqual order = not (is_gt order)
 holds Greater order = is_gt order
 holds GreaterOrEqual order = not (is_lt order)
 
--- a NULL side gives NULL
+-- a NULL side makes the comparison NULL
 abbrev pub comparison : ComparisonOp → Value → Value → Value
 comparison op Null b = Null
 comparison op a Null = Null
@@ -127,20 +127,20 @@ or_value (Truth false) b = Null
 or_value a (Truth true) = Truth true
 or_value a b = Null
 
--- where the left side of an AND is false, the right side is not looked at
+-- where the left side of an AND is false, the right side is not evaluated
 abbrev pub and_result : Value → Result Value Fault → Result Value Fault
 and_result (Truth false) right = Ok (Truth false)
 and_result a right = and_then right (λ b. Ok (and_value a b))
 
--- nor is that of an OR whose left side is true
+-- nor is the right side of an OR whose left side is true
 abbrev pub or_result : Value → Result Value Fault → Result Value Fault
 or_result (Truth true) right = Ok (Truth true)
 or_result a right = and_then right (λ b. Ok (or_value a b))
 
 -- ---- the value of an expression
 
--- The value of an expression over a row, or its fault: operands are evaluated left first, and the left one's fault is the
--- expression's; of a CASE only what is reached.
+-- The value of an expression over a row, or its fault. Operands are evaluated from left to right, and the first fault is the
+-- expression's; of a CASE only the parts that are reached are evaluated.
 abbrev pub value_of : Expression → Row → Result Value Fault
 value_of (Column c) row = Ok (column_of row c)
 value_of (Literal v kind) row = Ok v

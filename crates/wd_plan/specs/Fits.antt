@@ -1,6 +1,6 @@
--- When a plan fits a schema: its numbers of tables, columns and classes name something, each operand has the type that its
--- place asks for, and no node has more than 1,024 columns (SQL, value expression, window clause, window function; PG,
--- Window Function Calls; the limit is this project's choice).
+-- When a plan fits a schema: each table, column and class that it names exists, each operand has the type that its place asks for, and no
+-- node has more than 1,024 columns (SQL, value expression, window clause, window function; PG, Window Function Calls; the limit is this
+-- project's choice).
 use Rattle.std.specs.Prelude.{◌≡◌, ℕ, ◌+◌, ◌-◌, Bool, true, false, not, ◌&&◌, ◌||◌, List, [], ◌∷◌, length, nat_eq, nat_lt, nat_le, slice_get, if◌then◌else◌, Option, Some, None, is_some, option_map, option_and_then}
 use Rattle.std.specs.List.{list_all, list_any}
 use Rattle.wd_value.specs.declared.value.Value.{Value}
@@ -41,7 +41,7 @@ use Rattle.wd_plan.specs.Plans.{ClassRule, GroupCall, OfRows, Grouping, GroupRul
 abbrev pub Kinds : Type 0
 Kinds = ℕ → Option ValueKind
 
--- whole numbers of all widths are of one kind
+-- whole numbers of all widths are one kind
 abbrev pub kind_of_type : ColumnType → ValueKind
 kind_of_type type.SmallInt = Number
 kind_of_type type.Integer = Number
@@ -63,12 +63,12 @@ same_kind Text Text = true
 same_kind Truth Truth = true
 same_kind a b = false
 
--- there is a kind, and it is this one
+-- the kind is known, and it is this one
 abbrev pub is_kind : ValueKind → Option ValueKind → Bool
 is_kind kind None = false
 is_kind kind (Some other) = same_kind kind other
 
--- there are two kinds, and they are one
+-- both kinds are known, and they are equal
 abbrev pub are_alike : Option ValueKind → Option ValueKind → Bool
 are_alike None other = false
 are_alike (Some kind) other = is_kind kind other
@@ -135,14 +135,14 @@ kind_of_call kinds call = kind_of_function kinds call.function
 abbrev pub has_extremes : Option ValueKind → Bool
 has_extremes kind = is_kind Number kind || is_kind Text kind
 
--- what a signature asks of the kind of the argument
+-- whether the argument's kind is as a signature requires
 abbrev pub is_argument : Argument → Option ValueKind → Bool
 is_argument asks.Nothing kind = true
 is_argument asks.Any kind = is_some kind
 is_argument asks.Number kind = is_kind Number kind
 is_argument asks.Ordered kind = has_extremes kind
 
--- the argument is there and as the signature asks; COUNT(*) and the functions of a row's place have none
+-- the argument is present and as the signature asks; COUNT(*) and the functions of a row's place have none
 abbrev pub has_argument : Kinds → Argument → Option ℕ → Bool
 has_argument kinds asked None = true
 has_argument kinds asked (Some c) = is_argument asked (kinds c)
@@ -178,7 +178,7 @@ has_literals kinds (OfFrame f) = is_frame_function f
 abbrev pub takes : Kinds → Function → Bool
 takes kinds f = has_argument kinds (signature (name_of f)).argument (argument_of f) && has_literals kinds f
 
--- bounds may follow one another in this order
+-- the rank of a bound in the order in which bounds may follow one another
 abbrev pub bound_place : Bound → ℕ
 bound_place UnboundedPreceding = 0
 bound_place (Preceding n) = 1
@@ -186,8 +186,7 @@ bound_place CurrentRow = 2
 bound_place (Following n) = 3
 bound_place UnboundedFollowing = 4
 
--- a start is never UNBOUNDED FOLLOWING, an end never UNBOUNDED PRECEDING, and the end's kind does not stand earlier than the
--- start's
+-- a start is never UNBOUNDED FOLLOWING, an end never UNBOUNDED PRECEDING, and the end's kind does not come before the start's
 abbrev pub are_bounds : Bound → Bound → Bool
 are_bounds start end = nat_lt (bound_place start) 4 && (nat_lt 0 (bound_place end) && nat_le (bound_place start) (bound_place end))
 
@@ -222,7 +221,7 @@ has_keys kinds keys = list_all (λ (item : SortColumn). is_some (kinds item.colu
 abbrev pub has_class : Kinds → ClassRule → Bool
 has_class kinds class = has_columns kinds class.partition && has_keys kinds class.order
 
--- a call of a class: the frame goes with the sort keys, also where the function ignores it
+-- a call of a class: the frame is allowed with the sort keys, even where the function ignores the frame
 abbrev pub is_call : Kinds → List ClassRule → Call → Bool
 is_call kinds classes call = of_class (slice_get classes call.class)
   where
@@ -232,7 +231,7 @@ is_call kinds classes call = of_class (slice_get classes call.class)
 
 -- ---- groups
 
--- each set names grouping columns, and each of these stands in some set
+-- each set names grouping columns, and each of these is in some set
 abbrev pub are_sets : ℕ → List (List ℕ) → Bool
 are_sets columns sets = list_all (list_all (λ c. nat_lt c columns)) sets && list_all (λ c. list_any (λ set. has set c) sets) (positions columns)
 
@@ -247,7 +246,7 @@ is_group_call kinds columns (Grouping arguments) = (nat_lt 0 (length arguments) 
 
 -- ---- nodes
 
--- columns of a node with so many
+-- each column is below the number of columns of a node
 abbrev pub AreBelow : ℕ → List ℕ → Type 0
 AreBelow columns X = list_all (λ c. nat_lt c columns) X ≡ true
 
@@ -278,7 +277,7 @@ kinds_of tables (Window w input) c = if nat_lt c (width input) then kinds_of tab
 kinds_of tables (Distinct input) c = kinds_of tables input c
 kinds_of tables (Limit limit input) c = kinds_of tables input c
 
--- the table of this number has so many columns
+-- the table of this number has the given number of columns
 abbrev pub has_table : List TableRule → ℕ → ℕ → Bool
 has_table tables table columns = of_table (slice_get tables table)
   where
@@ -286,7 +285,7 @@ has_table tables table columns = of_table (slice_get tables table)
     of_table None = false
     of_table (Some t) = nat_eq columns (length t.columns)
 
--- a node has at most 1,024 columns (own)
+-- a node has at most 1,024 columns (this project's choice)
 abbrev pub is_narrow : ℕ → Bool
 is_narrow columns = nat_le columns 1024
 

@@ -16,7 +16,7 @@ use Rattle.wd_plan.specs.declared.window.FrameMode.TheVariants as mode
 use Rattle.wd_plan.specs.Plans.{ClassRule}
 use Rattle.wd_plan.specs.Partitions.{group_of}
 
--- what a start asks of the distance from the row to another: n PRECEDING asks that it is at least -n
+-- whether a start lets in a row at this distance: n PRECEDING does where the distance is at least -n
 abbrev pub starts_at : Bound → ℤ → Bool
 starts_at UnboundedPreceding d = true
 starts_at (Preceding n) d = int_le (neg_ℤ (pos n)) d
@@ -24,7 +24,7 @@ starts_at CurrentRow d = int_le (pos 0) d
 starts_at (Following n) d = int_le (pos n) d
 starts_at UnboundedFollowing d = false
 
--- what an end asks: n PRECEDING asks that the distance is at most -n
+-- whether an end lets in a row at this distance: n PRECEDING does where the distance is at most -n
 abbrev pub ends_at : Bound → ℤ → Bool
 ends_at UnboundedPreceding d = false
 ends_at (Preceding n) d = int_le d (neg_ℤ (pos n))
@@ -32,7 +32,7 @@ ends_at CurrentRow d = int_le d (pos 0)
 ends_at (Following n) d = int_le d (pos n)
 ends_at UnboundedFollowing d = true
 
--- the distance from one key to another, over unbounded whole numbers and mirrored under DESC; none where one is no whole number
+-- the distance from one key to another, over unbounded whole numbers and negated under DESC; none where one is no whole number
 abbrev pub value_distance : Bool → Value → Value → Option ℤ
 value_distance desc (Int a) (Int b) = Some (if desc then a -ℤ b else b -ℤ a)
 value_distance desc a b = None
@@ -43,13 +43,13 @@ key_distance [] r q = None
 key_distance (item ∷ []) r q = value_distance item.key.desc (column_of r item.column) (column_of q item.column)
 key_distance (item ∷ other ∷ items) r q = None
 
--- the distances from a row to another of its partition: of places, of peer groups, and of keys
+-- the distances from a row to another one of its partition: in places, in peer groups, and in keys
 pub record Distances : Type 0 where
   pub places : ℤ
   pub groups : ℤ
   pub keys : Option ℤ
 
--- a bound of RANGE asks of the distance of keys where it has an offset; where a key is NULL it asks what CURRENT ROW asks (own)
+-- a bound of RANGE with an offset tests the distance of keys; where a key is NULL it tests as CURRENT ROW does (this project's choice)
 abbrev pub range_asks : (Bound → ℤ → Bool) → Bound → Option ℤ → ℤ → Bool
 range_asks asks (Preceding n) (Some keys) groups = asks (Preceding n) keys
 range_asks asks (Preceding n) None groups = asks CurrentRow groups
@@ -59,13 +59,13 @@ range_asks asks UnboundedPreceding keys groups = asks UnboundedPreceding groups
 range_asks asks CurrentRow keys groups = asks CurrentRow groups
 range_asks asks UnboundedFollowing keys groups = asks UnboundedFollowing groups
 
--- ROWS asks of places, GROUPS of peer groups
+-- ROWS tests places, GROUPS tests peer groups
 abbrev pub bound_asks : FrameMode → (Bound → ℤ → Bool) → Bound → Distances → Bool
 bound_asks mode.Rows asks bound d = asks bound d.places
 bound_asks mode.Groups asks bound d = asks bound d.groups
 bound_asks mode.Range asks bound d = range_asks asks bound d.keys d.groups
 
--- whether the exclusion keeps a member: is it the row itself, is it in the row's peer group
+-- whether the exclusion keeps a member, by whether it is the row itself and whether it is in the row's peer group
 abbrev pub is_kept : Exclusion → Bool → Bool → Bool
 is_kept exclude.NoOthers self peer = true
 is_kept exclude.CurrentRow self peer = not self

@@ -1,4 +1,4 @@
--- The window functions: what each is called, what it takes and what it gives (SQL, window function; PG, Window Functions).
+-- The window functions: the name of each, what it takes and what it returns (SQL, window function; PG, Window Functions).
 use Rattle.std.specs.Prelude.{ℕ, Bool, true, false, codes, List, Option, Some, None}
 use Rattle.wd_plan.specs.declared.function.Aggregate.{Aggregate}
 use Rattle.wd_plan.specs.declared.function.Aggregate.TheVariants as of_rows
@@ -35,8 +35,8 @@ value_signature fewest most = record { fewest = fewest; most = most; star = fals
 abbrev pub rows_signature : Bool → Argument → ResultKind → Bool → Signature
 rows_signature star argument result nullable = record { fewest = 1; most = 1; star = star; argument = argument; result = result; by_peers = OverStableFrames; nullable = nullable }
 
--- how many arguments a function takes, and whether a star; what its value argument has to be; the kind of its values; whether
--- it goes by peers; whether its values can be NULL
+-- how many arguments a function takes, and whether a star; what its value argument has to be; the kind of its values; whether peers share
+-- one value; whether its values can be NULL
 abbrev pub signature : FunctionName → Signature
 signature RowNumber = place_signature 0 Never
 signature Rank = place_signature 0 Always

@@ -1,4 +1,4 @@
--- What a plan gives over an instance under a choice of orderings, and when two outcomes agree.
+-- What a plan returns over an instance under a choice of orderings, and when two outcomes agree.
 use Rattle.std.specs.Prelude.{◌≡◌, ℕ, zero, suc, ◌+◌, ◌^◌, pos, Bool, false, not, List, [], ◌∷◌, ◌++◌, map, filter, flat_map, length, take, drop, take_while, Option, Some, None, Result, Ok, Err, slice_index_or, if◌then◌else◌}
 use Rattle.std.specs.Ordering.{is_eq}
 use Rattle.wd_value.specs.declared.value.Value.{Value}
@@ -56,20 +56,20 @@ distinct (r ∷ rs) = r ∷ filter (λ q. not (same_row r q)) (distinct rs)
 
 -- ---- groups (SQL, group by clause, set function specification; PG, Table Expressions, Aggregate Functions)
 
--- what a row shows in the grouping columns, the first so many, under a set: NULL outside the set
+-- what a row shows in the grouping columns, the first n, under a set: NULL outside the set
 abbrev pub shown : ℕ → List ℕ → Row → Row
 shown columns set row = map (λ c. if has set c then column_of row c else Null) (positions columns)
 
--- the groups of a set, each by what its rows show, in order of their first row; the empty set has one, also of no rows
+-- the groups of a set, each as the row of shown values, in order of their first row; the empty set has one group even over no rows
 abbrev pub groups : ℕ → List ℕ → List Row → List Row
 groups columns [] rows = shown columns [] [] ∷ []
 groups columns (c ∷ set) rows = distinct (map (shown columns (c ∷ set)) rows)
 
--- the rows of a group: those that show it
+-- the rows of a group: those that show its values
 abbrev pub rows_of_group : ℕ → List ℕ → List Row → Row → List Row
 rows_of_group columns set rows group = filter (λ row. same_row group (shown columns set row)) rows
 
--- GROUPING is a mask: a bit for each argument, the last one's lowest, which is 0 where the column is in the set
+-- GROUPING is a mask with a bit for each argument, the last argument's lowest; a bit is 0 where the column is in the set
 abbrev pub mask : List ℕ → List ℕ → ℕ
 mask set [] = 0
 mask set (c ∷ columns) = (if has set c then 0 else 2 ^ length columns) + mask set columns
@@ -79,7 +79,7 @@ abbrev pub group_value : List ℕ → List Row → GroupCall → Result Value St
 group_value set rows (OfRows aggregate) = aggregate_value aggregate rows
 group_value set rows (Grouping columns) = Ok (Int (pos (mask set columns)))
 
--- a group and the values of its calls
+-- the row of a group: the values that it shows, then the values of its calls
 abbrev pub group_row : GroupRule → List Row → List ℕ → Row → Result Row StepFault
 group_row rule rows set group = and_then (all_ok (map (group_value set (rows_of_group rule.columns set rows group)) rule.calls)) (λ values. Ok (group ++ values))
 
@@ -93,11 +93,11 @@ group_outcome rule rows = all_ok (flat_map (set_rows rule rows) rule.sets)
 
 -- ---- windows
 
--- the class with this number, and one without columns past the last
+-- the class with this number; one without columns past the last
 abbrev pub class_at : WindowRule → ℕ → ClassRule
 class_at w n = slice_index_or w.classes n (record { partition = []; order = [] })
 
--- the ordering with this number, and the empty one past the last
+-- the ordering with this number; the empty one past the last
 abbrev pub ordering_at : List (List ℕ) → ℕ → List ℕ
 ordering_at orderings n = slice_index_or orderings n []
 
@@ -125,7 +125,7 @@ first_rows keys ties (suc n) [] = []
 first_rows keys ties (suc zero) (r ∷ rows) = r ∷ (if ties then take_while (peers keys r) rows else [])
 first_rows keys ties (suc (suc n)) (r ∷ rows) = r ∷ first_rows keys ties (suc n) rows
 
--- what a Limit keeps of rows that stand in its ordering: those after the offset, and where there is a count the first of them
+-- what a Limit keeps of rows in its ordering: those after the offset, and where there is a count the first of them
 abbrev pub cut : LimitRule → List Row → List Row
 cut limit rows = by_count limit.count
   where
@@ -135,8 +135,8 @@ cut limit rows = by_count limit.count
 
 -- ---- plans
 
--- The outcome of a plan under a choice. A node's orderings stand after those of the nodes below it, a Join's right side's
--- after the left side's; what stands after them is not read.
+-- The outcome of a plan under a choice. A node's orderings come after those of the nodes below it, and those of a Join's right side after
+-- those of its left side; orderings after these are not read.
 abbrev pub outcome : PlanTree → Instance → List (List ℕ) → RowsOrFault
 outcome (Scan table columns) instance choice = Ok (table_at instance table)
 outcome (Join condition left right) instance choice = and_then (outcome left instance choice) (λ ls. and_then (outcome right instance (drop (ordering_count left) choice)) (λ rs. join_outcome condition (pairs ls rs)))
@@ -147,7 +147,7 @@ outcome (Window w input) instance choice = and_then (outcome input instance choi
 outcome (Distinct input) instance choice = and_then (outcome input instance choice) (λ rows. Ok (distinct rows))
 outcome (Limit limit input) instance choice = and_then (outcome input instance choice) (λ rows. Ok (cut limit (rows_at rows (ordering_at choice (ordering_count input)))))
 
--- outcomes agree where they are the same fault, or lists with each row equally often
+-- outcomes agree where they are the same fault, or lists in which each row appears equally often
 abbrev pub Agree : RowsOrFault → RowsOrFault → Type 0
 Agree (Ok rows) (Ok others) = SameBag same_row rows others
 Agree (Ok rows) (Err g) = ⊥

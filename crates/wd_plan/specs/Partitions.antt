@@ -12,11 +12,11 @@ use Rattle.wd_plan.specs.Sorting.{same_partition}
 abbrev pub members : ClassRule → List Row → List ℕ → ℕ → List ℕ
 members class rows ordering r = filter (λ q. same_partition class (row_at rows r) (row_at rows q)) ordering
 
--- the partition list as the rows that stand there
+-- the partition list as rows
 abbrev pub partition_of : ClassRule → List Row → List ℕ → ℕ → List Row
 partition_of class rows ordering r = rows_at rows (members class rows ordering r)
 
--- the place of a position in a list: how many stand before it
+-- the place of a position in a list: how many come before it
 abbrev pub place_in : List ℕ → ℕ → ℕ
 place_in [] r = 0
 place_in (q ∷ qs) r = if nat_eq q r then 0 else suc (place_in qs r)
@@ -31,7 +31,7 @@ different (k ∷ ks) = (if list_any (same_row k) ks then 0 else 1) + different k
 abbrev pub group_of : ClassRule → List Row → Row → ℕ
 group_of class partition r = different (map (columns_of (key_columns class.order)) (filter (λ q. is_lt (compare_keys class.order q r)) partition))
 
--- the first peer group number along a partition list is 0, and each is that before it or one more
+-- along a partition list the first peer group number is 0, and each further one is the one before it or one more
 pub record GroupsRise (class : ClassRule) (partition : List Row) : Type 0 where
   pub first : 0 < length partition → group_of class partition (row_at partition 0) ≡ 0
   pub next : (i : ℕ) → i + 1 < length partition

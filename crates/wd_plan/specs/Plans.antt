@@ -32,8 +32,8 @@ pub record WindowRule : Type 0 where
 abbrev pub window_of : CodeWindow → WindowRule
 window_of window = record { classes = map class_of window.classes.items; calls = window.calls.items }
 
--- what a Group shows of a group beside its grouping columns: an aggregate of its rows, or which of these grouping columns its
--- set lacks
+-- what a Group shows of a group besides its grouping columns: an aggregate of its rows, or which of these grouping columns are not in its
+-- set
 pub data GroupCall : Type 0 where
   OfRows : Aggregate → GroupCall
   Grouping : List ℕ → GroupCall
@@ -42,7 +42,7 @@ abbrev pub group_call_of : CodeGroupCall → GroupCall
 group_call_of (shown.OfRows aggregate) = OfRows aggregate
 group_call_of (shown.Grouping columns) = Grouping columns.items
 
--- what a Group asks: the first so many columns of its input are the grouping columns, and each set is a list of these
+-- the parts of a Group: the first `columns` columns of its input are the grouping columns, and each set is a list of these
 pub record GroupRule : Type 0 where
   pub columns : ℕ
   pub sets : List (List ℕ)
@@ -59,7 +59,7 @@ grouping_of group = record { columns = group.columns; sets = sets_of group.sets.
 abbrev pub has : List ℕ → ℕ → Bool
 has set c = list_any (nat_eq c) set
 
--- what a Limit asks: its sort keys, how many rows it leaves out, how many it then gives at most, and whether with ties
+-- the parts of a Limit: its sort keys, how many rows it leaves out, how many it then keeps at most, and whether with ties
 pub record LimitRule : Type 0 where
   pub keys : List SortColumn
   pub offset : ℕ
@@ -113,16 +113,16 @@ node_count (Window rule input) = node_count input + 1
 node_count (Distinct input) = node_count input + 1
 node_count (Limit rule input) = node_count input + 1
 
--- a mask of at most 31 grouping columns
+-- GROUPING has at most 31 grouping columns
 abbrev pub HasMask : GroupCall → Type 0
 HasMask (OfRows aggregate) = ⊤
 HasMask (Grouping columns) = length columns ≤ 31
 
--- each GROUPING of a Group is one
+-- each GROUPING of a Group has at most 31 columns
 abbrev pub HaveMasks : GroupRule → Type 0
 HaveMasks g = AllByRecursion (λ (call : GroupCall). HasMask call) g.calls
 
--- each call names one of so many classes
+-- each call names one of the given number of classes
 abbrev pub NameBelow : ℕ → List Call → Type 0
 NameBelow classes calls = AllByRecursion (λ (call : Call). call.class < classes) calls
 
@@ -130,7 +130,7 @@ NameBelow classes calls = AllByRecursion (λ (call : Call). call.class < classes
 abbrev pub NamesClasses : WindowRule → Type 0
 NamesClasses w = NameBelow (length w.classes) w.calls
 
--- and so in each Window of a plan; and each Group has its masks
+-- in each Window of a plan each call names one of its classes, and each Group has its masks
 abbrev pub EachNamesClasses : PlanTree → Type 0
 EachNamesClasses (Scan table columns) = ⊤
 EachNamesClasses (Join condition left right) = EachNamesClasses left × EachNamesClasses right

@@ -18,7 +18,7 @@ use Rattle.wd_plan.specs.Outcomes.{outcome, class_at}
 use Rattle.wd_plan.specs.Plans.{ClassRule, NamesClasses, WindowRule, LimitRule, PlanTree, Scan, Join, Filter, Map, Group, Window, Distinct, Limit, ordering_count}
 use Rattle.wd_plan.specs.Sorting.{class_columns, order_columns, limit_class}
 
--- whether a function goes by peers over a frame
+-- whether a function has one value for peers over a frame
 abbrev pub goes_by_peers : ByPeers → Frame → Bool
 goes_by_peers Never frame = false
 goes_by_peers Always frame = true
@@ -32,16 +32,16 @@ is_by_peers frame function = goes_by_peers (signature (name_of function)).by_pee
 abbrev pub IsByValues : Frame → Function → ℕ → Type 0
 IsByValues frame function c = (is_stable frame ≡ true) × (row : FrameRow) × (function ≡ OfFrame (ValueAt row c))
 
--- a call goes by `peers`, or its class's columns give the row (`unique`), or the value that it takes (`values`)
+-- a call is settled by `peers`, or its class's columns determine the row (`unique`) or the value that it takes (`values`)
 abbrev pub IsByRow : ClassRule → Frame → Function → List Row → Type 0
 IsByRow class frame function rows = (is_by_peers frame function ≡ true) ⊎ (DeterminesRow rows (class_columns class) ⊎ ((c : ℕ) × IsByValues frame function c × Determines rows (class_columns class) c))
 
--- or its class is the node's one class whose columns give every column (`exchange`)
+-- or its class is the node's one exchange class, and the columns of that class determine every column (`exchange`)
 abbrev pub IsSettledCall : WindowRule → ℕ → ℕ → List Row → Call → Type 0
 IsSettledCall w exchange width rows call = let class = class_at w call.class in
     IsByRow class call.frame call.function rows ⊎ ((call.class ≡ exchange) × DeterminesAll rows width (class_columns class))
 
--- a limit takes all rows (`whole`), or ties and no offset (`ties`), or its sort keys give every column (`keys`)
+-- a limit takes all rows (`whole`), or has ties and no offset (`ties`), or its sort keys determine every column (`keys`)
 abbrev pub IsSettledLimit : LimitRule → ℕ → List Row → Type 0
 IsSettledLimit limit width rows =
     ((limit.count ≡ None) × (limit.offset ≡ 0))

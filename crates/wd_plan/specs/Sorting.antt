@@ -18,17 +18,17 @@ class_columns class = class.partition ++ order_columns class
 abbrev pub limit_class : LimitRule → ClassRule
 limit_class rule = record { partition = []; order = rule.keys }
 
--- not distinct on any of the partition's columns
+-- not distinct on any partition column
 abbrev pub same_partition : ClassRule → Row → Row → Bool
 same_partition class a b = same_row (columns_of class.partition a) (columns_of class.partition b)
 
--- a row that stands before a row of the same partition has no greater key
+-- a row that comes before a row of the same partition has no greater key
 abbrev pub IsInOrder : ClassRule → List Row → Type 0
 IsInOrder class [] = ⊤
 IsInOrder class (r ∷ rs) = AllByRecursion (λ q. same_partition class r q ≡ true → is_gt (compare_keys class.order r q) ≡ false) rs × IsInOrder class rs
 
--- a lawful ordering: each position of the rows once, and within each partition the rows sorted by the keys;
--- rows of one partition that tie on all keys may stand in any order
+-- a lawful ordering: each position of the rows once, and within each partition the rows sorted by the keys; rows of one partition that
+-- tie on all keys may appear in any order
 pub record IsOrdering (class : ClassRule) (rows : List Row) (ordering : List ℕ) : Type 0 where
   pub once : EachOnce (length rows) ordering
   pub in_order : IsInOrder class (rows_at rows ordering)

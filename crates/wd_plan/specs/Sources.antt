@@ -1,4 +1,4 @@
--- How the code finds the kind of an expression or a call: a column of the input gives it, or it is a kind of its own.
+-- How the code finds the kind of an expression or a call: it is that of a column of the input, or a kind of its own.
 use Rattle.std.specs.Prelude.{Option, Some}
 use Rattle.wd_plan.specs.declared.expression.ValueKind.{ValueKind}
 use Rattle.wd_plan.specs.declared.fits.KindSource.{KindSource}

@@ -1,4 +1,4 @@
--- How many steps a walk over an expression takes at most, that goes into its operands from the first on.
+-- How many steps a walk over an expression takes at most, which goes into its operands from the first on.
 use Rattle.std.specs.Prelude.{ℕ, ◌+◌}
 use Rattle.wd_plan.specs.Expressions.{Expression, Column, Literal, Negate, Arithmetic, Compare, Not, And, Or, IsNull, IsNotNull, Case}
 
@@ -15,7 +15,7 @@ steps (IsNull a) = steps a + 2
 steps (IsNotNull a) = steps a + 2
 steps (Case branch a b c) = steps a + steps b + steps c + 4
 
--- behind the first operand
+-- the steps left after the first operand
 abbrev pub rest_steps : Expression → ℕ
 rest_steps (Column c) = 1
 rest_steps (Literal v kind) = 1
@@ -29,7 +29,7 @@ rest_steps (IsNull a) = 1
 rest_steps (IsNotNull a) = 1
 rest_steps (Case branch a b c) = steps b + steps c + 3
 
--- behind the second operand
+-- the steps left after the second operand
 abbrev pub second_rest : Expression → ℕ
 second_rest (Case branch a b c) = steps c + 2
 second_rest e = 1

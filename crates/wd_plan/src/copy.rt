@@ -1,4 +1,4 @@
-//! Copies of expressions. What is still to be copied stands on the heap, and takes nothing of the stack however deep the expression is.
+//! Copies of expressions by a loop: the operands still to be copied wait on the heap, so the depth of an expression takes no stack.
 
 ghost use Rattle.std.specs.Prelude.{◌≡◌, ◌<◌, IfOk};
 ghost use Rattle.wd_plan.specs.Copies.{closed_tree, first_copied, second_copied, step_tree, steps_left, waiting_steps};
@@ -9,7 +9,7 @@ use crate::expression::Expr;
 use std::alloc::Global;
 use wd_value::OutOfMemory;
 
-/// An expression whose operands are being copied: its first one, or a later one behind those that are copied.
+/// An expression whose operands are being copied: the operand that is being copied by its place, and the copies made before it.
 #[derive(Drop)]
 enum Waiting<'e> {
     First(&'e Expr),
@@ -17,7 +17,7 @@ enum Waiting<'e> {
     Third(&'e Expr, Box<Expr>, Box<Expr>),
 }
 
-/// A copy that is made, or the operand that is copied before it.
+/// A finished copy, or an operand that has to be copied first.
 #[derive(Drop)]
 enum Step<'e> {
     Made(Expr),
@@ -47,7 +47,7 @@ pub(crate) fn copied(alloc: Global, expression: &Expr) -> Result<Expr, OutOfMemo
     }
 }
 
-/// The first step into an expression: to its first operand, where it has one.
+/// The first step into an expression: its first operand if it has operands, else its copy.
 fn opened<'e>(alloc: Global, expression: &'e Expr) -> Result<Step<'e>, OutOfMemory>
     ensures tree { IfOk result (λ s. step_tree s ≡ expression_of expression.now) }
     ensures fewer { IfOk result (λ s. steps_left s < steps (expression_of expression.now)) }
@@ -67,7 +67,7 @@ fn opened<'e>(alloc: Global, expression: &'e Expr) -> Result<Step<'e>, OutOfMemo
     }
 }
 
-/// The step after an operand is copied.
+/// The step after an operand is copied: the next operand of the expression around it, or that expression's copy.
 fn closed<'e>(outer: Waiting<'e>, copy: Box<Expr>) -> Step<'e>
     ensures tree { step_tree result ≡ closed_tree outer.entry (expression_of copy.value) }
     ensures fewer { steps_left result < waiting_steps outer.entry }

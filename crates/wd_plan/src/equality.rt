@@ -11,15 +11,15 @@ use std::alloc::Global;
 use wd_value::{OutOfMemory, same};
 
 impl Expr {
-    /// An equal expression of its own.
+    /// An equal expression with boxes of its own.
     pub fn copy(&self, alloc: Global) -> Result<Expr, OutOfMemory>
         ensures { IfOk result (λ e. expression_of e ≡ expression_of self.now) }
     {
         copied(alloc, self)
     }
 
-    /// Whether two expressions are one and the same tree. A literal's kind counts, and a CASE within ELSE is another tree
-    /// than a further branch. The left operands come last: a compiler makes a loop of that call.
+    /// Whether two expressions are equal trees. The kind of a literal counts, and a CASE within ELSE differs from a further branch. The
+    /// left operands come last, so that the compiler makes a loop of that call.
     pub fn same(&self, other: &Expr) -> bool
         ensures { result ≡ spec.same_expression (expression_of self.now) (expression_of other.now) }
     {

@@ -1,6 +1,6 @@
 use wd_value::Value;
 
-/// The kind of an expression's values. Whole numbers of all widths are of one kind.
+/// The kind of an expression's values. Whole numbers of all widths are one kind.
 #[derive(Clone, Copy, PartialEq, Eq, Debug)]
 pub enum ValueKind {
     Number,
@@ -29,15 +29,15 @@ pub enum ComparisonOp {
     GreaterOrEqual,
 }
 
-/// Which branch of a CASE one is. Its value doesn't rest on that; a further branch is another expression than a CASE
-/// within ELSE.
+/// Which branch of a CASE this is. The value does not depend on it, but a further branch and a CASE within ELSE are different
+/// expressions.
 #[derive(Clone, Copy, PartialEq, Eq, Debug)]
 pub enum Branch {
     First,
     Later,
 }
 
-/// A scalar expression over the columns of a row, which are counted from 0.
+/// A scalar expression over the columns of a row, which are numbered from 0.
 #[derive(Debug)]
 pub enum Expr {
     Column(u16),
@@ -51,12 +51,11 @@ pub enum Expr {
     Or(Box<Expr>, Box<Expr>),
     IsNull(Box<Expr>),
     IsNotNull(Box<Expr>),
-    /// A branch of a CASE: the first part is its condition, the second its result, the third the rest, which is the
-    /// next branch or what ELSE gives.
+    /// A branch of a CASE: its condition, its result, and the rest, which is the next branch or the operand of ELSE.
     Case(Branch, Box<Expr>, Box<Expr>, Box<Expr>),
 }
 
-/// Lets go along the left side, and along the branches of a CASE, by a loop: a chain of operators is as deep as it is long.
+/// Drops the left side and the branches of a CASE by a loop: a chain of operators is as deep as it is long.
 impl Drop for Expr {
     fn drop(mut self) {
         loop {

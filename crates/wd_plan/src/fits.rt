@@ -1,8 +1,8 @@
 //! Whether a plan fits a schema.
 //!
-//! A Group fits only where each grouping column stands in some set. A query never names one that doesn't, and for a plan by hand the
-//! facts of one set would be false: a column that is NULL everywhere would be determined by what determined it below. A set may name
-//! a column twice, and a list may have a set twice: its rows then come twice, and GROUPING does not tell them apart.
+//! A Group fits only where each grouping column is in some set. A query never names one that is in none, and for a plan made by hand the
+//! facts of one set would be false: a column that is NULL everywhere would be determined by what determined it below. A set may name a
+//! column twice, and a list may have a set twice: its rows then come twice, and GROUPING does not distinguish them.
 
 ghost use Rattle.std.specs.Prelude.{◌≡◌, ◌-◌, ◌^◌, min, map, nat_lt, option_and_then, option_map, slice_get};
 ghost use Rattle.std.specs.List.{list_all, list_any};
@@ -28,7 +28,7 @@ use wd_value::{ColumnType, SortColumn, Value};
 /// The largest number of columns of a node.
 const MAX_COLUMNS: u32 = 1024;
 
-/// What gives the kind of an expression's or a call's values: a column of the input, or a kind of its own.
+/// Where the kind of an expression's or a call's values comes from: a column of the input, or a kind of its own.
 #[derive(Clone, Copy)]
 enum KindSource {
     OfColumn(u16),
@@ -36,9 +36,8 @@ enum KindSource {
 }
 
 impl Plan {
-    /// Whether the plan fits the schema: its numbers of tables, columns and classes name something
-    /// there, each operand has the type that its place asks for, and no node has more than 1,024
-    /// columns. Takes no memory.
+    /// Whether the plan fits the schema: each table, column and class that it names exists, each operand has the type that its place asks
+    /// for, and no node has more than 1,024 columns. Takes no memory.
     pub fn fits(&self, schema: &Schema) -> bool
         ensures { result ≡ spec.fits (schema_of schema.now) (plan_of self.now) }
     {
@@ -82,7 +81,7 @@ impl Plan {
         }
     }
 
-    /// The kind of a column of the node's rows; None past the last column.
+    /// The kind of a column of the node's rows; `None` past the last column.
     pub fn kind(&self, column: u16, schema: &Schema) -> Option<ValueKind>
         ensures { result ≡ spec.kinds_of (schema_of schema.now) (plan_of self.now) column }
     {
@@ -132,7 +131,7 @@ fn is_narrow(columns: u32) -> bool
     columns <= MAX_COLUMNS
 }
 
-/// Whether the schema has a table of this number, with so many columns.
+/// Whether the schema has a table of this number with the given number of columns.
 fn has_table(schema: &Schema, table: u16, columns: u16) -> bool
     ensures { result ≡ spec.has_table (schema_of schema.now) table columns }
 {
@@ -162,7 +161,7 @@ pub fn kind_of_type(kind: ColumnType) -> ValueKind
     }
 }
 
-/// What gives the kind of the output with this number.
+/// Where the kind of the output with this number comes from.
 fn output_source(outputs: &[Expr], number: u16) -> Option<KindSource>
     ensures { (kinds : spec.Kinds) → option_and_then (kind_from kinds) result ≡ option_and_then (spec.kind_of kinds) (slice_get (map expression_of outputs.now) number) }
 {
@@ -170,7 +169,7 @@ fn output_source(outputs: &[Expr], number: u16) -> Option<KindSource>
     Some(output.source())
 }
 
-/// What gives the kind of the call with this number.
+/// Where the kind of the call with this number comes from.
 fn call_source(calls: &[Call], number: u16) -> Option<KindSource>
     ensures { (kinds : spec.Kinds) → option_and_then (kind_from kinds) result ≡ option_and_then (spec.kind_of_call kinds) (slice_get calls.now number) }
 {
@@ -178,7 +177,7 @@ fn call_source(calls: &[Call], number: u16) -> Option<KindSource>
     call.function.source()
 }
 
-/// What gives the kind of the call of a Group with this number.
+/// Where the kind of the call of a Group with this number comes from.
 fn group_source(calls: &[GroupCall], number: u16) -> Option<KindSource>
     ensures { (kinds : spec.Kinds) → option_and_then (kind_from kinds) result ≡ option_and_then (spec.kind_of_group_call kinds) (slice_get (map group_call_of calls.now) number) }
 {
@@ -187,7 +186,7 @@ fn group_source(calls: &[GroupCall], number: u16) -> Option<KindSource>
 }
 
 impl GroupCall {
-    /// What gives the kind of the call's values; None where it would be that of an argument that is not there.
+    /// Where the kind of the call's values comes from; `None` where it would be that of an argument that is missing.
     fn source(&self) -> Option<KindSource>
         ensures { (kinds : spec.Kinds) → option_and_then (kind_from kinds) result ≡ spec.kind_of_group_call kinds (group_call_of self.now) }
     {
@@ -197,7 +196,7 @@ impl GroupCall {
         }
     }
 
-    /// Whether the arguments are such as the call takes.
+    /// Whether the call takes these arguments.
     fn takes(&self, columns: u16, input: &Plan, schema: &Schema) -> bool
         ensures { result ≡ spec.is_group_call (spec.kinds_of (schema_of schema.now) (plan_of input.now)) columns (group_call_of self.now) }
     {
@@ -217,7 +216,7 @@ fn of_rows(aggregate: Aggregate) -> Function
     Function::OfFrame(FrameFunction::Aggregate(aggregate))
 }
 
-/// Whether these are among the first so many columns.
+/// Whether each of these columns is among the first `count`.
 fn are_below(columns: &[u16], count: u16) -> bool
     ensures { result ≡ list_all (λ c. nat_lt c count) columns.now }
 {
@@ -230,7 +229,7 @@ fn are_below(columns: &[u16], count: u16) -> bool
 }
 
 impl KindSource {
-    /// The kind that the source gives over the rows of a node.
+    /// The kind that the source has over the rows of a node.
     fn kind(self, input: &Plan, schema: &Schema) -> Option<ValueKind>
         ensures { result ≡ kind_from (spec.kinds_of (schema_of schema.now) (plan_of input.now)) self }
     {
@@ -275,7 +274,7 @@ fn is_of_kind(kind: ValueKind, value: &Value) -> bool
 }
 
 impl Expr {
-    /// What gives the kind of the expression's values.
+    /// Where the kind of the expression's values comes from.
     fn source(&self) -> KindSource
         ensures { (kinds : spec.Kinds) → kind_from kinds result ≡ spec.kind_of kinds (expression_of self.now) }
     {
@@ -294,8 +293,8 @@ impl Expr {
         self.source().kind(input, schema)
     }
 
-    /// Whether each operand is of the kind that its place asks for. The left one comes last: a compiler makes
-    /// a loop of that call, so that a long chain takes no stack.
+    /// Whether each operand is of the kind that its place asks for. The left operand comes last, so that the compiler makes a loop of
+    /// that call and a long chain takes no stack.
     fn is_typed(&self, input: &Plan, schema: &Schema) -> bool
         ensures { result ≡ spec.is_typed (spec.kinds_of (schema_of schema.now) (plan_of input.now)) (expression_of self.now) }
     {
@@ -385,7 +384,7 @@ fn are_typed(outputs: &[Expr], input: &Plan, schema: &Schema) -> bool
 }
 
 impl Function {
-    /// What gives the kind of the function's values; None where it would be that of an argument that is not there.
+    /// Where the kind of the function's values comes from; `None` where it would be that of an argument that is missing.
     fn source(&self) -> Option<KindSource>
         ensures { (kinds : spec.Kinds) → option_and_then (kind_from kinds) result ≡ spec.kind_of_function kinds self.now }
     {
@@ -398,7 +397,7 @@ impl Function {
         }
     }
 
-    /// Whether the arguments are such as the function takes.
+    /// Whether the function takes these arguments.
     fn takes(&self, input: &Plan, schema: &Schema) -> bool
         ensures { result ≡ spec.takes (spec.kinds_of (schema_of schema.now) (plan_of input.now)) self.now }
     {
@@ -410,7 +409,7 @@ impl Function {
         ) && self.has_literals(input, schema)
     }
 
-    /// Whether the literals among the arguments are such as the function takes.
+    /// Whether the function takes the literals among its arguments.
     fn has_literals(&self, input: &Plan, schema: &Schema) -> bool
         ensures { result ≡ spec.has_literals (spec.kinds_of (schema_of schema.now) (plan_of input.now)) self.now }
     {
@@ -425,7 +424,7 @@ impl Function {
     }
 }
 
-/// Whether the value argument, where there is one, is as the signature asks.
+/// Whether the value argument, if there is one, is as the signature asks.
 fn has_argument(asked: Argument, argument: Option<u16>, input: &Plan, schema: &Schema) -> bool
     ensures { result ≡ spec.has_argument (spec.kinds_of (schema_of schema.now) (plan_of input.now)) asked argument }
 {
@@ -473,7 +472,7 @@ fn is_default(kind: Option<ValueKind>, value: &Value) -> bool
     }
 }
 
-/// Whether MIN and MAX are there for values of the kind: for whole numbers and texts.
+/// Whether MIN and MAX are defined for values of the kind: they are for whole numbers and texts.
 pub fn has_extremes(kind: Option<ValueKind>) -> bool
     ensures { result ≡ spec.has_extremes kind }
 {
@@ -481,7 +480,7 @@ pub fn has_extremes(kind: Option<ValueKind>) -> bool
 }
 
 impl Bound {
-    /// Bounds may follow one another in this order.
+    /// The bound's rank in the order in which bounds may follow one another.
     fn place(self) -> u32
         ensures { result ≡ spec.bound_place self }
     {
@@ -494,7 +493,7 @@ impl Bound {
         }
     }
 
-    /// Whether it is so many rows, peer groups or so much of the key away.
+    /// Whether the bound has an offset: a number of rows, of peer groups, or a distance of keys.
     pub fn has_offset(self) -> bool
         ensures { result ≡ spec.has_offset self }
     {
@@ -505,15 +504,15 @@ impl Bound {
     }
 }
 
-/// Whether a frame may have this start and this end: the start is not UNBOUNDED FOLLOWING, the end not UNBOUNDED PRECEDING and of no
-/// earlier kind than the start.
+/// Whether a frame may have this start and this end: the start is not UNBOUNDED FOLLOWING, the end is not UNBOUNDED PRECEDING, and the
+/// end's kind does not come before the start's.
 pub fn are_bounds(start: Bound, end: Bound) -> bool
     ensures { result ≡ spec.are_bounds start end }
 {
     start.place() < 4 && 0 < end.place() && start.place() <= end.place()
 }
 
-/// Whether the sort keys are such as the frame needs.
+/// Whether the frame is allowed with these sort keys.
 fn has_keys_for(keys: &[SortColumn], frame: Frame, input: &Plan, schema: &Schema) -> bool
     ensures { result ≡ spec.has_keys_for (spec.kinds_of (schema_of schema.now) (plan_of input.now)) keys.now frame }
 {
@@ -578,7 +577,7 @@ fn is_group(group: &Group, input: &Plan, schema: &Schema) -> bool
         && are_group_calls(&group.calls, group.columns, input, schema)
 }
 
-/// Whether each set names grouping columns, the first so many, and each of these stands in some set.
+/// Whether each set names grouping columns, which are the first `columns` ones, and each of these is in some set.
 fn are_sets(sets: &[Vec<u16>], columns: u16) -> bool
     ensures { result ≡ spec.are_sets columns (sets_of sets.now) }
 {

@@ -1,4 +1,4 @@
-//! Window functions: their families, and what each takes and gives.
+//! Window functions: their families, and what each takes and returns.
 
 ghost use Rattle.std.specs.Prelude.{◌≡◌};
 ghost use Rattle.wd_plan.specs.Functions as spec;
@@ -23,7 +23,7 @@ pub enum FunctionName {
     Max,
 }
 
-/// What goes by a row's place in its partition, or by its peer group's.
+/// What a row's place in its partition, or that of its peer group, decides.
 #[derive(Clone, Copy, PartialEq, Eq, Debug)]
 pub enum Ranking {
     RowNumber,
@@ -33,16 +33,16 @@ pub enum Ranking {
     Ntile(u64),
 }
 
-/// Which way LAG and LEAD go.
+/// The direction of LAG and LEAD.
 #[derive(Clone, Copy, PartialEq, Eq, Debug)]
 pub enum Direction {
-    /// To rows that stand earlier.
+    /// To rows that come earlier.
     Lag,
-    /// To rows that stand later.
+    /// To rows that come later.
     Lead,
 }
 
-/// The value of a column so many rows away, and a default where there is no such row.
+/// The value of a column the given number of rows away, and a default where there is no such row.
 #[derive(Debug, Drop)]
 pub struct Shift {
     pub direction: Direction,
@@ -60,7 +60,7 @@ pub enum FrameRow {
     Nth(u64),
 }
 
-/// What goes by the rows alone, in whatever order they stand; an argument is a column.
+/// What depends on the rows alone, in whatever order; an argument is a column.
 #[derive(Clone, Copy, PartialEq, Eq, Debug)]
 pub enum Aggregate {
     /// COUNT(*).
@@ -71,7 +71,7 @@ pub enum Aggregate {
     Max(u16),
 }
 
-/// What goes by the rows of a frame.
+/// What depends on the rows of a frame.
 #[derive(Clone, Copy, PartialEq, Eq, Debug)]
 pub enum FrameFunction {
     /// The value of a column at one row of the frame.
@@ -106,7 +106,7 @@ pub enum ResultKind {
     OfArgument,
 }
 
-/// Whether a function has one value for rows that are peers, whatever order they stand in.
+/// Whether a function has one value for rows that are peers, whatever the order of these.
 #[derive(Clone, Copy)]
 pub enum ByPeers {
     Never,
@@ -115,16 +115,16 @@ pub enum ByPeers {
     OverStableFrames,
 }
 
-/// What a function takes and gives.
+/// What a function takes and returns.
 #[derive(Clone, Copy)]
 pub struct Signature {
     /// The least number of arguments.
     pub fewest: u8,
     /// The largest number of arguments.
     pub most: u8,
-    /// Whether it takes a star in their place.
+    /// Whether it takes a star instead of arguments.
     pub star: bool,
-    /// What the value argument has to be, where there is one.
+    /// What the value argument has to be, if there is one.
     pub argument: Argument,
     pub result: ResultKind,
     pub by_peers: ByPeers,
@@ -133,7 +133,7 @@ pub struct Signature {
 }
 
 impl FunctionName {
-    /// What the function takes and gives.
+    /// What the function takes and returns.
     pub fn signature(self) -> Signature
         ensures { result ≡ spec.signature self }
     {
@@ -153,7 +153,7 @@ impl FunctionName {
     }
 }
 
-/// A function of the row's place, with so many arguments, all of them literals.
+/// A function of the row's place with the given number of arguments, all of them literals.
 fn place_signature(arguments: u8, by_peers: ByPeers) -> Signature
     ensures { result ≡ spec.place_signature arguments by_peers }
 {
@@ -210,7 +210,7 @@ impl Function {
         }
     }
 
-    /// The value argument, where there is one.
+    /// The column of the value argument, if there is one.
     pub fn argument(&self) -> Option<u16>
         ensures { result ≡ spec.argument_of self.now }
     {

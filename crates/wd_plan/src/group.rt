@@ -3,16 +3,16 @@ ghost use Rattle.wd_plan.specs.Plans.{has};
 
 use crate::function::Aggregate;
 
-/// What a Group shows of a group beside its grouping columns.
+/// What a Group shows of a group besides its grouping columns.
 #[derive(Debug, Drop)]
 pub enum GroupCall {
     /// An aggregate of the group's rows; its argument is a column of the Group's input.
     OfRows(Aggregate),
-    /// GROUPING: which of these grouping columns the group's set lacks, as a mask.
+    /// GROUPING as a mask: which of these grouping columns are not in the group's set.
     Grouping(Vec<u16>),
 }
 
-/// Grouping sets over the first so many columns of the input, and what is shown of each group.
+/// Grouping sets over the first `columns` columns of the input, and what is shown of each group.
 #[derive(Debug, Drop)]
 pub struct Group {
     pub columns: u16,

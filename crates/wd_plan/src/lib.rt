@@ -1,4 +1,9 @@
-//! Plans of queries, and what a plan gives over an instance under a choice of orderings.
+//! Plans of queries, and what a plan returns over an instance under a choice of orderings.
+//!
+//! `plan` has the nodes, over the `expression`, `function`, `group` and `window` of each; `fits` checks a plan against a schema,
+//! `equality` compares expressions and `copy` copies them. The values are those of wd_value and the schemas those of wd_schema. A plan
+//! names columns and tables by numbers, never by names, and a choice lists the orderings of its Windows and Limits in postorder. Nothing
+//! here runs a plan: the outcome under a choice is a definition of `specs/`.
 #![tactic(auto)]
 
 mod copy;

@@ -6,10 +6,10 @@ use crate::group::Group;
 use crate::window::Window;
 use wd_value::{Fault, Row, SortColumn};
 
-/// A node of a query's plan, over the rows of its input.
+/// A node of a query's plan, over the rows of its input; a Scan has none, and a Join has two.
 #[derive(Debug, Drop)]
 pub enum Plan {
-    /// The rows of the schema's table with this number, which has so many columns.
+    /// The rows of the schema's table with this number, and how many columns it has.
     Scan {
         table: u16,
         columns: u16,
@@ -25,7 +25,7 @@ pub enum Plan {
         input: Box<Plan>,
         condition: Expr,
     },
-    /// The values of the expressions over each row of the input.
+    /// A row for each row of the input, with the values of the expressions over it.
     Map {
         input: Box<Plan>,
         outputs: Vec<Expr>,
@@ -40,19 +40,19 @@ pub enum Plan {
         input: Box<Plan>,
         window: Window,
     },
-    /// The first of rows that are not distinct.
+    /// The rows of the input without those that an earlier row equals.
     Distinct {
         input: Box<Plan>,
     },
-    /// The rows of the input that the limit keeps of them, in its order.
+    /// The rows of its input that the limit keeps, in the limit's order.
     Limit {
         input: Box<Plan>,
         limit: Limit,
     },
 }
 
-/// The rows as the keys sort them, without the first `offset`, and of those no more than `count`,
-/// where there is a count; with ties also those that follow and are peers of the last one taken.
+/// The rows as the keys sort them, without the first `offset`, and of the rest at most `count`, if there is a count; with `ties` also
+/// those that follow and are peers of the last one taken.
 #[derive(Debug, Drop)]
 pub struct Limit {
     pub keys: Vec<SortColumn>,
@@ -61,15 +61,15 @@ pub struct Limit {
     pub ties: bool,
 }
 
-/// What a plan gives: rows, or the least fault of the first step that has one.
+/// What a plan returns: rows, or the least fault of the first step that has one.
 #[derive(Drop)]
 pub enum Outcome {
     Rows(Vec<Row>),
     Fault(Fault),
 }
 
-/// All that a query's text leaves open, as data: for each class of each Window and for each Limit,
-/// in postorder, the positions of that node's input rows in the order that they take.
+/// Everything that a query's text leaves open, as data: for each class of each Window and for each Limit, in postorder, an ordering of
+/// the positions of that node's input rows.
 #[derive(Drop)]
 pub struct Choice {
     pub orderings: Vec<Vec<u64>>,
@@ -114,7 +114,7 @@ impl Plan {
     }
 }
 
-/// A number of classes as 32 bits hold it, the largest standing for all above.
+/// The number of classes as 32 bits; `u32::MAX` where there are more.
 pub(crate) fn capped(count: usize) -> u32
     ensures { result ≡ min count (2 ^ 32 - 1) }
 {

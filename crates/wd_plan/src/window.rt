@@ -5,14 +5,14 @@ ghost use Rattle.wd_plan.specs.Settled.{is_by_peers};
 use crate::function::{ByPeers, Function};
 use wd_value::SortColumn;
 
-/// The calls of one class see one and the same ordering: partition columns, and sort keys.
+/// Partition columns and sort keys; all calls of one class use the same ordering.
 #[derive(Debug, Drop)]
 pub struct Class {
     pub partition: Vec<u16>,
     pub order: Vec<SortColumn>,
 }
 
-/// By what the bounds of a frame count.
+/// What the bounds of a frame count.
 #[derive(Clone, Copy, PartialEq, Eq, Debug)]
 pub enum FrameMode {
     Rows,
@@ -30,7 +30,7 @@ pub enum Bound {
     UnboundedFollowing,
 }
 
-/// Which rows a frame leaves out, after its bounds.
+/// Which rows within its bounds a frame leaves out.
 #[derive(Clone, Copy, PartialEq, Eq, Debug)]
 pub enum Exclusion {
     NoOthers,
@@ -48,7 +48,7 @@ pub struct Frame {
     pub exclusion: Exclusion,
 }
 
-/// A window call: its class by number, its function, and its frame, which ranking functions ignore.
+/// A window call: the number of its class, its function, and its frame, which ranking functions ignore.
 #[derive(Debug, Drop)]
 pub struct Call {
     pub class: u16,
@@ -56,7 +56,7 @@ pub struct Call {
     pub frame: Frame,
 }
 
-/// What a Window computes: calls, each of a class by its number.
+/// What a Window computes: classes, and calls that each name a class by its number.
 #[derive(Debug, Drop)]
 pub struct Window {
     pub classes: Vec<Class>,
@@ -64,8 +64,8 @@ pub struct Window {
 }
 
 impl Frame {
-    /// Whether the rows of the frame are the same for rows that are peers, and whatever order these stand in: mode RANGE
-    /// or GROUPS, or ROWS between both unbounded ends, with any exclusion.
+    /// Whether the frame has the same rows for all rows that are peers, whatever the order of these: mode RANGE or GROUPS, or ROWS
+    /// between both unbounded ends, with any exclusion.
     pub fn is_stable(self) -> bool
         ensures { result ≡ is_stable self }
     {
@@ -88,7 +88,7 @@ impl Bound {
 }
 
 impl Call {
-    /// Whether rows that are peers have one value of the call, whatever order they stand in.
+    /// Whether the call has one value for all rows that are peers, whatever the order of these.
     pub fn is_by_peers(&self) -> bool
         ensures { result ≡ is_by_peers self.now.frame self.now.function }
     {

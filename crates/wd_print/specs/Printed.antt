@@ -91,13 +91,13 @@ piece_of (k.Quoted name) = QuotedName name
 piece_of (k.Literal text) = QuotedText text
 piece_of (k.Number number) = Number (decimal number)
 
--- what stands after a terminal: the line ends after a comma or a semicolon; after others a blank stands
+-- the white space after a terminal: a line feed after a comma or a semicolon, a blank after others
 unfoldable pub gap_after : Terminal → ℕ
 gap_after m.Comma = 10
 gap_after m.Semicolon = 10
 gap_after _ = 32
 
--- what stands after a token
+-- the white space after a token
 abbrev pub gap : TokenKind → ℕ
 gap (k.Terminal terminal) = gap_after terminal
 gap _ = 32

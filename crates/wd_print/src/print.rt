@@ -1,4 +1,5 @@
-//! Prints a token at the end of a text. A token is printed apart and then appended, so that a refusal leaves the text as it was.
+//! Prints a token at the end of a text. A token is printed into a text of its own and then appended, so that the text stays as it was
+//! where memory runs out.
 
 ghost use Rattle.std.specs.Prelude.{◌≡◌, ◌<◌, ◌++◌, OnErr, OnOk};
 ghost use Rattle.std.specs.String.{string_bytes};
@@ -21,7 +22,7 @@ pub fn push_terminal(text: &mut String, terminal: Terminal) -> Result<(), AllocE
     text.push_str(token.as_str())
 }
 
-/// Adds it to the text of a token.
+/// Adds a reserved word or a symbol to the text of a token.
 fn add_terminal(text: &mut String, terminal: Terminal) -> Result<(), AllocError>
     ensures { OnOk result (string_bytes text.new ≡ string_bytes text.old ++ printed_token (TokenKind.Terminal terminal)) }
 {
@@ -40,7 +41,7 @@ pub fn push_word(text: &mut String, word: &str) -> Result<(), AllocError>
     text.push_str(token.as_str())
 }
 
-/// Adds it to the text of a token.
+/// Adds a word to the text of a token.
 fn add_word(text: &mut String, word: &str) -> Result<(), AllocError>
     ensures { OnOk result (string_bytes text.new ≡ string_bytes text.old ++ printed_token (TokenKind.Word word.now)) }
 {
@@ -59,7 +60,7 @@ pub fn push_name(text: &mut String, name: &str) -> Result<(), AllocError>
     text.push_str(token.as_str())
 }
 
-/// Adds it to the text of a token.
+/// Adds a name in quotes to the text of a token.
 fn add_name(text: &mut String, name: &str) -> Result<(), AllocError>
     ensures { OnOk result (string_bytes text.new ≡ string_bytes text.old ++ printed_token (TokenKind.Quoted name.now)) }
 {
@@ -79,7 +80,7 @@ pub fn push_literal(text: &mut String, literal: &str) -> Result<(), AllocError>
     text.push_str(token.as_str())
 }
 
-/// Adds it to the text of a token.
+/// Adds a text in single quotes to the text of a token.
 fn add_literal(text: &mut String, literal: &str) -> Result<(), AllocError>
     ensures { OnOk result (string_bytes text.new ≡ string_bytes text.old ++ printed_token (TokenKind.Literal literal.now)) }
 {
@@ -99,7 +100,7 @@ pub fn push_number(text: &mut String, number: u64) -> Result<(), AllocError>
     text.push_str(token.as_str())
 }
 
-/// Adds it to the text of a token.
+/// Adds a number to the text of a token.
 fn add_number(text: &mut String, number: u64) -> Result<(), AllocError>
     ensures { OnOk result (string_bytes text.new ≡ string_bytes text.old ++ printed_token (TokenKind.Number number)) }
 {
@@ -108,7 +109,7 @@ fn add_number(text: &mut String, number: u64) -> Result<(), AllocError>
     Ok(())
 }
 
-/// Adds what quotes hold, with each quote in it doubled.
+/// Adds the text between quotes, with each quote in it doubled.
 fn push_doubled(text: &mut String, quote: char, inside: &str) -> Result<(), AllocError>
     requires { quote < 128 }
     ensures { OnOk result (string_bytes text.new ≡ string_bytes text.old ++ doubled quote inside.now) }

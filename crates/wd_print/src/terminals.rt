@@ -83,7 +83,7 @@ pub fn letters(terminal: Terminal) -> &'static str
     }
 }
 
-/// What stands after a terminal.
+/// The white space after a terminal.
 #[tactic(auto, unfolding(crate::specs::Printed::gap_after))]
 pub fn gap(terminal: Terminal) -> char
     ensures value { result ≡ gap_after terminal }

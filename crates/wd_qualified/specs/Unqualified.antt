@@ -1,5 +1,5 @@
--- A query in which the name of each table is the last of the names that dots join there. In SQL a dot stands only behind a
--- name, so where a table stands the dots and the names before them are left out.
+-- A query in which the name of each table is the last of the names joined by dots. In SQL a dot comes only after a name, so where a table
+-- is named, the dots and the names before them are left out.
 use Rattle.std.specs.Prelude.{◌&&◌, ◌||◌, if◌then◌else◌, Bool, true, false, List, [], ◌∷◌, ◌++◌}
 use Rattle.wd_lex.specs.declared.token.Terminal.TheVariants as m
 use Rattle.wd_lex.specs.declared.token.TokenKind.{TokenKind}
@@ -17,16 +17,16 @@ abbrev pub begins_name : List Token → Bool
 begins_name [] = false
 begins_name (token ∷ tokens) = is_name token.kind
 
--- a dot and a name behind it
+-- a dot and a name after it
 abbrev pub goes_on : List Token → Bool
 goes_on [] = false
 goes_on (dot ∷ tokens) = is_dot dot.kind && begins_name tokens
 
--- a name before a dot, or that dot, where a table stands
+-- a name before a dot, or such a dot, where a table is named
 abbrev pub is_left_out : List Place → Token → List Token → Bool
 is_left_out levels token after = is_table levels && (is_name token.kind && goes_on after || is_dot token.kind && begins_name after)
 
--- what stays of a token, and where the next one stands
+-- the token unless it is left out
 abbrev pub kept : Bool → Token → List Token
 kept left_out token = if left_out then [] else token ∷ []
 

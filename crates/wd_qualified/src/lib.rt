@@ -1,5 +1,5 @@
-//! Names of tables without their schemas: `public.orders` where a table stands is `orders`, as in a schema that is read. This
-//! holds only after the members of WITH are taken out: `public.orders` is none of them, and `orders` may be one.
+//! Names of tables without their schemas: where a table is named, `public.orders` is `orders`, as in a schema's text. This holds only
+//! after the members of WITH are taken out: `public.orders` is not one of them, but `orders` may be.
 #![tactic(auto)]
 
 mod unqualified;

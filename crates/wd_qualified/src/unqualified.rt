@@ -1,4 +1,4 @@
-//! A query in which the name of each table is the last of the names that dots join there.
+//! Queries in which the name of each table is the last of the names joined by dots.
 
 ghost use Rattle.std.specs.Prelude.{◌≡◌, ◌∷◌, [], reverse, IfOk};
 ghost use Rattle.wd_clauses.specs.Given.{Makes, Writes};
@@ -25,7 +25,7 @@ fn begins_name(tokens: &[Token]) -> bool
     }
 }
 
-/// Whether a dot stands first, and a name behind it.
+/// Whether the tokens begin with a dot and a name.
 fn goes_on(tokens: &[Token]) -> bool
     ensures { result ≡ spec.goes_on tokens.now }
 {
@@ -35,7 +35,7 @@ fn goes_on(tokens: &[Token]) -> bool
     }
 }
 
-/// Whether a name before a dot, or that dot, stands where a table stands.
+/// Whether the token is a name before a dot, or such a dot, where a table is named.
 fn is_left_out(levels: &[Place], token: &Token, after: &[Token]) -> bool
     ensures { result ≡ spec.is_left_out (reverse levels.now) token.now after.now }
 {
@@ -43,7 +43,7 @@ fn is_left_out(levels: &[Place], token: &Token, after: &[Token]) -> bool
         && (is_name(&token.kind) && goes_on(after) || is_dot(&token.kind) && begins_name(after))
 }
 
-/// Adds what stays of a token, and goes past it.
+/// Adds the token unless it is left out, and passes it.
 fn add_kept(
     written: &mut Vec<Token>,
     levels: &mut Vec<Place>,
@@ -61,7 +61,7 @@ fn add_kept(
     Ok(())
 }
 
-/// The query, with the last name of each table alone.
+/// The query, with only the last name of each table.
 #[tactic(auto, unfolding(crate::specs::Unqualified::unqualified))]
 pub fn unqualified_query(alloc: Global, tokens: &[Token]) -> Result<Vec<Token>, RespellError>
     ensures { Makes (λ x. x.items) (λ x. x) result (spec.unqualified (Elsewhere ∷ []) tokens.now) }

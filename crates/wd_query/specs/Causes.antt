@@ -1,4 +1,4 @@
--- The numbers and the places of refusals of texts, and what stands in a text where they are answered.
+-- The numbers and the places of refusals of texts, and the properties of the texts for which they are reported.
 use Rattle.std.specs.Prelude.{◌≢◌, ℕ, List, Option, None}
 use Rattle.wd_lex.specs.Causes as tokens
 use Rattle.wd_lex.specs.Lexed.{IsLexed, kinds_of}
@@ -41,9 +41,9 @@ abbrev pub text_place : TextError → Option ℕ
 text_place (text_error.Schema error) = tables.place_of error
 text_place (text_error.Query error) = query_place error
 
--- ---- what stands in the texts
+-- ---- the causes in the texts
 
--- the query's tokens are spelled by no tree, or pass a limit
+-- no tree spells the query's tokens, or the tree passes a limit
 pub record HasNoTree (query : List ℕ) (error : ParseError) : Type 0 where
   pub tokens : List Token
   pub lexed : IsLexed query tokens
@@ -63,7 +63,7 @@ HasQueryCause tables query (query_error.Tokens error) = error ≢ lex_error.OutO
 HasQueryCause tables query (query_error.Tree error) = HasNoTree query error
 HasQueryCause tables query (query_error.Meaning error) = HasNoPlan tables query error
 
--- why a schema's text and a query's text have no plan; where memory runs out nothing need stand in them
+-- why a schema's text and a query's text have no plan; where memory runs out the texts need not have a cause
 abbrev pub HasTextCause : List ℕ → List ℕ → TextError → Type 0
 HasTextCause schema query (text_error.Schema error) = error ≢ schema_error.OutOfMemory → schemas.HasCause schema error
 HasTextCause schema query (text_error.Query error) = (tables : List TableRule) × Declares schema tables × HasQueryCause tables query error

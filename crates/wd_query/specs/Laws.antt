@@ -10,13 +10,13 @@ use Rattle.wd_query.specs.declared.error.TextError.{TextError}
 abbrev pub HasOnePlan : Type 0
 HasOnePlan = (schema query : List ℕ) (first second : Answer) → Reads schema query first → Reads schema query second → first ≡ second
 
--- a plan reads the texts, and the query's tree keeps the limits of trees
+-- the texts have a plan, and the query's tree keeps the limits of trees
 pub record HaveMeaning (schema query : List ℕ) : Type 0 where
   pub read : Answer
   pub reads : Reads schema query read
   pub limits : KeepsLimits reads.tree
 
--- Texts that have a meaning are refused for nothing that stands in them, on the whole way from their bytes to the plan: a refusal
--- for another reason than that memory runs out has no cause there.
+-- Texts that have a meaning contain no cause of a refusal, from their bytes to the plan: only the refusal that memory runs out has no
+-- cause in them.
 abbrev pub HasMeaningOrCause : Type 0
 HasMeaningOrCause = (schema query : List ℕ) (refusal : TextError) → HaveMeaning schema query → IsSome (text_number refusal) → HasTextCause schema query refusal → ⊥

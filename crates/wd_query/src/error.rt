@@ -12,13 +12,13 @@ use wd_schema::SchemaError;
 /// Why a query's text is refused.
 #[derive(Debug, Drop, Error)]
 pub enum QueryError {
-    /// 101 to 107: the text has no tokens.
+    /// 101 to 107: the text cannot be split into tokens.
     #[error(transparent)]
     Tokens(LexError),
-    /// 201 and 202: the tokens are no query, or pass a limit.
+    /// 201 and 202: the tokens are not a query, or pass a limit.
     #[error(transparent)]
     Tree(ParseError),
-    /// 401 to 415: the query has no plan.
+    /// 401 to 419: the query has no plan.
     #[error(transparent)]
     Meaning(ResolveError),
 }
@@ -33,7 +33,7 @@ pub enum TextError {
 }
 
 impl QueryError {
-    /// The refusal's number, and None where memory runs out.
+    /// The refusal's number, or `None` where memory ran out.
     pub fn number(&self) -> Option<u32>
         ensures { result ≡ query_number self.now }
     {
@@ -57,7 +57,7 @@ impl QueryError {
 }
 
 impl TextError {
-    /// The refusal's number, and None where memory runs out.
+    /// The refusal's number, or `None` where memory ran out.
     pub fn number(&self) -> Option<u32>
         ensures { result ≡ text_number self.now }
     {

@@ -7,7 +7,7 @@ pub fn one_plan()
     ensures { HasOnePlan }
 {}
 
-/// Texts that have a meaning within the limits are refused for nothing that stands in them.
+/// Texts that have a meaning within the limits contain no cause of a refusal.
 pub fn meaning_or_cause()
     ensures { HasMeaningOrCause }
 {}

@@ -27,15 +27,15 @@ pub struct PlannedQuery {
 
 /// The schema of a text, and the plan of a query's text over its tables. The schema is read first.
 ///
-/// Each refusal comes only where its cause stands: 101 to 107 and 301 to 309 of the schema; 101 to 107, 201, 202 and 401 to 415 of
-/// the query.
+/// A refusal is returned only where its cause is in the texts: 101 to 107 and 301 to 309 of the schema; 101 to 107, 201, 202 and 401 to
+/// 419 of the query.
 pub fn read_texts(alloc: Global, schema: &[u8], query: &[u8]) -> Result<PlannedQuery, TextError>
     ensures read { IfOk result (λ p. IsRead schema.now query.now p) }
     ensures well_formed { IfOk result (λ p. IsWellFormed (schema_of p.schema)) }
     ensures fits { IfOk result (λ p. fits (schema_of p.schema) (plan_of p.resolved.plan) ≡ true) }
     ensures refused { IfErr result (λ e. HasTextCause schema.now query.now e) }
 
-    // Texts that a plan reads, whose tree keeps the limits, are refused only where memory runs out.
+    // Texts that have a plan, and whose query's tree keeps the limits, are refused only where memory runs out.
     ensures given { IfErr result (λ e. HaveMeaning schema.now query.now → IsSome (text_number e) → ⊥) }
 {
     meaning_or_cause();
@@ -49,8 +49,8 @@ pub fn read_texts(alloc: Global, schema: &[u8], query: &[u8]) -> Result<PlannedQ
     }
 }
 
-/// The plan of a query's text over the tables of a schema, and the names of its outputs. The text is cut into tokens, these are
-/// read as a tree, and this is resolved.
+/// The plan of a query's text over the tables of a schema, and the names of its outputs. The text is split into tokens, these are read as
+/// a tree, and the tree is resolved.
 pub fn read_query(alloc: Global, schema: &Schema, text: &[u8]) -> Result<Resolved, QueryError>
     ensures planned { IfOk result (λ r. IsPlanned (schema_of schema.now) text.now (resolved_of r)) }
     ensures fits { IfOk result (λ r. fits (schema_of schema.now) (plan_of r.plan) ≡ true) }

@@ -1,4 +1,4 @@
--- Texts of queries, in which what the profile refuses is respelled, and numbers that count units.
+-- Texts of queries in which the queries that the profile refuses are respelled, and those with numbers that count units.
 use Rattle.std.specs.Prelude.{ℕ, ◌<◌, ◌⊎◌, IsSome, List, length, slice_range, All}
 use Rattle.wd_dialect_read.specs.declared.said.Statement.{Statement}
 use Rattle.wd_fix.specs.Fixes.{IsFixed}
@@ -14,7 +14,7 @@ use Rattle.wd_schema.specs.Tables.{TableRule}
 use Rattle.wd_schema.specs.Texts.{Declares}
 use Rattle.wd_source.specs.Statements.{AreStatements}
 
--- the text of the statement that stands there
+-- the text of the statement in these bytes
 abbrev pub statement_of : List ℕ → Span → List ℕ
 statement_of text span = slice_range text span.start span.end
 
@@ -28,15 +28,15 @@ pub record IsRefused (schema query : List ℕ) : Type 0 where
 abbrev pub IsDue : List Statement → List ℕ → List ℕ → Type 0
 IsDue statements schema query = IsRefused schema query ⊎ CountsUnits statements query
 
--- a text that the profile refuses as too long, whatever it says
+-- a text that the profile refuses as too long, whatever its contents
 abbrev pub IsTooLong : List ℕ → Type 0
 IsTooLong text = most_bytes < length text
 
--- the query over these tables is respelled so, or else nothing that is read takes its place
+-- the query over these tables is respelled so, or replaced by a text that is not read
 abbrev pub IsPut : List TableRule → List Statement → List ℕ → List ℕ → Type 0
 IsPut tables statements query other = IsRespelledAs tables statements query other ⊎ IsTooLong other
 
--- what takes the place of a statement that is respelled over this schema
+-- what replaces a statement that is respelled over this schema
 pub record IsRespelledAt (statements : List Statement) (schema text : List ℕ) (fix : Fix) : Type 0 where
   pub due : IsDue statements schema (statement_of text fix.span)
   pub tables : List TableRule
@@ -53,11 +53,11 @@ pub record IsRefusedForGood (tables : List TableRule) (statements : List Stateme
   pub refused : IsRefused schema query
   pub left : respelled.IsLeft tables statements query
 
--- a query is left as it is only where the profile reads it as it stands, or nothing else is to be read
+-- a query is left as it is only where the profile reads it as it is, or there is nothing else to be read
 abbrev pub IsLeft : List TableRule → List Statement → List ℕ → List ℕ → Type 0
 IsLeft tables statements schema query = IsReadAsItStands statements schema query ⊎ IsRefusedForGood tables statements schema query
 
--- each statement of a text is left so, over the tables that the schema declares
+-- each statement of a text is left as it is, over the tables that the schema declares
 pub record AreLeft (statements : List Statement) (schema text : List ℕ) : Type 0 where
   pub tables : List TableRule
   pub declared : Declares schema tables
@@ -65,7 +65,7 @@ pub record AreLeft (statements : List Statement) (schema text : List ℕ) : Type
   pub are : AreStatements text spans
   pub each : All (λ span. IsLeft tables statements schema (statement_of text span)) spans
 
--- this is the text with at least one of its statements respelled, and all else as it was, byte for byte
+-- this is the text with at least one of its statements respelled, and everything else unchanged, byte for byte
 pub record IsRespelledText (statements : List Statement) (schema text after : List ℕ) : Type 0 where
   pub fixes : List Fix
   pub some : 0 < length fixes

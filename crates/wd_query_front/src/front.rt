@@ -1,4 +1,4 @@
-//! The text over which the queries of a file are judged.
+//! The text over which the queries of a file are checked.
 
 ghost use Rattle.std.specs.Prelude.{◌≡◌, ◌≤◌, [], All, IfNone, IfOk, IfSome, IsNone, List, length, map};
 ghost use Rattle.wd_fix.specs.Fixes.{span_of};
@@ -29,14 +29,14 @@ const UNREAD: usize = 65537;
 #[derive(Drop)]
 pub struct RespelledText {
     pub text: Vec<u8>,
-    /// What is told of members of WITH that are read more than once, a line each.
+    /// Notes on members of WITH that are read more than once, one line each.
     pub notes: Vec<String>,
 }
 
-/// The text of a file in which each statement that the profile refuses over a schema, or whose numbers count units, stands as the
-/// equations respell it, where there is such a statement. What its columns count is known by what statements of PostgreSQL's declare.
-/// None where there is none, or the schema's text is refused; a query that would be read amiss as it stands is never left, nor is one
-/// that is refused and can be respelled.
+/// The text of a file in which each statement that the profile refuses over a schema, or whose numbers count units, is respelled by the
+/// equations, if there is such a statement. What the columns count is known from the statements that PostgreSQL has for the schema.
+/// `None` where no statement is respelled, or the schema's text is refused. A query that would be misread is never left as it is, nor is
+/// one that is refused and can be respelled.
 pub fn respelled_text(
     alloc: Global,
     declared: &[Statement],
@@ -77,7 +77,7 @@ fn respelled_over(
     Ok(Some(RespelledText { text, notes }))
 }
 
-/// The statements that are respelled; what is told of them goes behind the notes.
+/// The respelled statements; notes on them are appended to `notes`.
 fn respelled_statements(
     alloc: Global,
     declared: &[Statement],
@@ -104,7 +104,7 @@ fn respelled_statements(
     Ok(fixes)
 }
 
-/// The statement that stands there, respelled, where the profile refuses it or its numbers count units.
+/// The respelling of the statement in these bytes, if the profile refuses it or its numbers count units.
 fn respelled_statement(
     alloc: Global,
     declared: &[Statement],
@@ -131,7 +131,7 @@ fn respelled_statement(
     }
 }
 
-/// A query that the profile reads, as it stands there with its numbers in the units that they count, where they count some.
+/// A query that the profile reads, with its numbers in the units that they count, if they count any.
 fn in_units(
     alloc: Global,
     declared: &[Statement],
@@ -157,8 +157,8 @@ fn in_units(
     }
 }
 
-/// A text that is refused as too long. It stands in the place of a query that would be read amiss as it is, and would have too many
-/// tokens or bytes with its numbers in units.
+/// A text that is refused as too long. It replaces a query that would be misread as it is, and would have too many tokens or bytes with
+/// its numbers in units.
 fn unread(alloc: Global) -> Result<Vec<u8>, OutOfMemory>
     ensures { IfOk result (λ text. IsTooLong text.items) }
 {
@@ -178,7 +178,7 @@ fn refusal(alloc: Global, schema: &[u8], query: &[u8]) -> Option<TextError>
     }
 }
 
-/// What the equations make of a query, to stand there.
+/// The respelling of a query by the equations, to replace it.
 fn respelling(
     alloc: Global,
     declared: &[Statement],
@@ -204,7 +204,7 @@ fn respelling(
     }
 }
 
-/// What is told of a member of WITH that is read more than once.
+/// The note on a member of WITH that is read more than once.
 fn note_of(alloc: Global, name: &Token) -> Result<String, OutOfMemory> {
     let mut line = String::from_str(alloc, "note: WITH ")?;
     match &name.kind {

@@ -1,4 +1,4 @@
-//! Files of queries as they are judged: a statement that the profile refuses stands there as the standard's equations respell it.
+//! Files of queries as they are checked: a statement that the profile refuses is respelled by the standard's equations.
 #![tactic(auto)]
 
 mod front;

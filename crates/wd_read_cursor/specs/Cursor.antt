@@ -1,4 +1,4 @@
--- Reading tokens from left to right: what stands first, what follows it, and why tokens are not read.
+-- Reading tokens from left to right: what they begin with, what follows it, and why tokens are not read.
 use Rattle.std.specs.Prelude.{ℕ, zero, suc, ◌==◌, ◌++◌, if◌then◌else◌, List, [], ◌∷◌, length, Bool, true, false, Option, Some, None, Result, Ok, Err}
 use Rattle.std.specs.Str.{bytes_eq}
 use Rattle.wd_lex.specs.Terminals.{terminal_code}
@@ -26,7 +26,7 @@ Reads A = Result (A × Kinds) Fault
 abbrev pub Parser : Type 0 → Type 0
 Parser A = Kinds → Reads A
 
--- what is read if it begins here
+-- what is read, if it begins here
 abbrev pub Chance : Type 0 → Type 0
 Chance A = Kinds → Option (Reads A)
 
@@ -40,12 +40,12 @@ abbrev pub is_terminal : Terminal → TokenKind → Bool
 is_terminal x (t.Terminal y) = terminal_code y == terminal_code x
 is_terminal x _ = false
 
--- the tokens after that terminal, where it stands first
+-- the tokens after that terminal, if they begin with it
 unfoldable pub eat : Terminal → Kinds → Option Kinds
 eat x [] = None
 eat x (y ∷ ts) = if is_terminal x y then Some ts else None
 
--- what was found, or the first of so many tokens is unexpected
+-- what was found; or the first token is unexpected, where the given number of tokens are left
 abbrev pub some_or_unexpected : {A : Type 0} → ℕ → Option A → Result A Fault
 some_or_unexpected left (Some x) = Ok x
 some_or_unexpected left None = Err (Unexpected left)
@@ -64,7 +64,7 @@ eat_word x (y ∷ ts) = if is_word x y then Some ts else None
 unfoldable pub expect_word : KeyWord → Kinds → Result Kinds Fault
 expect_word x ts = some_or_unexpected (length ts) (eat_word x ts)
 
--- the name that stands first
+-- the name that a token is
 abbrev pub name_of : TokenKind → Option Name
 name_of (t.Word text) = Some (record { text = text; quoted = false })
 name_of (t.Quoted text) = Some (record { text = text; quoted = true })
@@ -92,12 +92,12 @@ abbrev pub if_begun : {A : Type 0} → Option (Reads A) → Kinds → (A × Kind
 if_begun None ts next = Ok ([], ts)
 if_begun (Some r) ts next = r >>= next
 
--- as many as begin: the number bounds the turns, and the count of the tokens is always enough
+-- as many items as begin one after another; the number bounds the turns, and the count of the tokens is always enough
 unfoldable pub many : {A : Type 0} → Chance A → ℕ → Parser (List A)
 many item zero ts = Ok ([], ts)
 many item (suc n) ts = if_begun (item ts) ts (λ a. many item n a.1 >>= λ xs. Ok (a.0 ∷ xs.0, xs.1))
 
--- what is read after a terminal, where the terminal stands first
+-- what is read after a terminal, if the tokens begin with the terminal
 unfoldable pub after : {A : Type 0} → Terminal → Parser A → Chance A
 after x item ts = choose (eat x ts) (λ r. Some (item r)) None
 
@@ -105,7 +105,7 @@ after x item ts = choose (eat x ts) (λ r. Some (item r)) None
 unfoldable pub list_at : {A : Type 0} → Terminal → Parser A → Parser (List A)
 list_at x item ts = item ts >>= λ a. many (after x item) (length a.1) a.1 >>= λ xs. Ok (a.0 ∷ xs.0, xs.1)
 
--- what was read before, and what is still read
+-- what was read before, followed by what is still read
 abbrev pub with_front : {A : Type 0} → List A → Reads (List A) → Reads (List A)
 with_front front read = read >>= λ x. Ok (front ++ x.0, x.1)
 

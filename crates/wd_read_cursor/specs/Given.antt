@@ -1,4 +1,4 @@
--- What a function of the code returned, beside what reading gives.
+-- What a function of the code returned, compared with the definition of reading.
 use Rattle.std.specs.Prelude.{◌≡◌, ℕ, Option, Some, None, Result, Ok, Err}
 use Rattle.wd_read_cursor.specs.Cursor.{Fault, Unexpected, Limit}
 use Rattle.wd_read_cursor.specs.declared.refusal.Refusal.{Refusal}
@@ -16,7 +16,7 @@ Fails r.OutOfMemory read = Unit {0}
 Fails (r.Unexpected left) read = read ≡ Err (Unexpected left)
 Fails (r.PastLimit left) read = read ≡ Err (Limit left)
 
--- What a function returned, seen by view, is what reading gives, unless memory ran out.
+-- What a function returned, seen by view, is what the definition reads, unless memory ran out.
 abbrev pub Gives : {X Y : Type 0} → (X → Y) → Result X Refusal → Result Y Fault → Type 0
 Gives view (Ok x) read = read ≡ Ok (view x)
 Gives view (Err e) read = Fails e read
@@ -26,7 +26,7 @@ abbrev pub Finds : {X Y : Type 0} → (X → Y) → Option X → Option Y → Ty
 Finds view None found = found ≡ None
 Finds view (Some x) found = found ≡ Some (view x)
 
--- The same, unless memory ran out.
+-- What a function found, seen by view, unless memory ran out.
 abbrev pub MayFind : {X Y : Type 0} → (X → Y) → Result (Option X) Refusal → Option Y → Type 0
 MayFind view (Ok o) found = Finds view o found
 MayFind view (Err e) found = e ≡ r.OutOfMemory
@@ -43,7 +43,7 @@ MayGive view (Ok None) read = read ≡ None
 MayGive view (Ok (Some x)) read = read ≡ Some (Ok (view x))
 MayGive view (Err e) read = MayFail e read
 
--- The same, where something is always read.
+-- What a function returned, seen by view, where the definition always reads something, unless memory ran out.
 abbrev pub MayRead : {X Y : Type 0} → (X → Y) → Result X Refusal → Y → Type 0
 MayRead view (Ok x) read = read ≡ view x
 MayRead view (Err e) read = e ≡ r.OutOfMemory

@@ -38,12 +38,12 @@ letters k.Sets = codes "sets"
 letters k.Ties = codes "ties"
 letters k.Unbounded = codes "unbounded"
 
--- such a word, and the tokens after it
+-- a word that is a key word in its place, and the tokens after it
 infixr 20 ◌▹◌
 abbrev pub ◌▹◌ : KeyWord → Kinds → Kinds
 x ▹ ts = t.Word (letters x) ∷ ts
 
--- a name is a word, or it stands in quotes
+-- a name is a word, or it is in quotes
 abbrev pub written : Bool → List ℕ → TokenKind
 written true text = t.Quoted text
 written false text = t.Word text

@@ -1,6 +1,6 @@
-//! The tokens that are left: what stands first among them, names, and lists.
+//! The tokens that are left: what they begin with, names, and lists.
 //!
-//! Each function takes the tokens that are left, and hands back those that follow what it read.
+//! Each function takes the tokens that are left, and returns those after what it read.
 #![tactic(auto)]
 
 mod list;

@@ -14,7 +14,7 @@ use wd_lex::{Terminal, Token};
 pub trait Reader {
     type Item: Drop;
 
-    /// An item without where it lies in memory.
+    /// An item as pure data.
     ghost Tree: { Type 0 };
 
     ghost tree: { Self.Item → Tree };
@@ -22,7 +22,7 @@ pub trait Reader {
     /// How an item is read.
     ghost item: { Self → Parser Tree };
 
-    /// The item that stands first, and the tokens after it.
+    /// The first item, and the tokens after it.
     fn read<'t>(
         &self,
         alloc: Global,

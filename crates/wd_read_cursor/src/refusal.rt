@@ -6,12 +6,12 @@ ghost use Rattle.wd_read_cursor.specs.declared.refusal.Refusal.TheVariants.{OutO
 
 use std::alloc::{AllocError, AllocFailed};
 
-/// A refusal while reading: `left` counts the tokens from the refused one on, and is 0 where more tokens are wanted.
+/// A refusal while reading: `left` counts the tokens from the refused one on, and is 0 where more tokens are required.
 #[derive(Clone, Copy)]
 pub enum Refusal {
-    /// No query goes on with that token.
+    /// No query continues with that token.
     Unexpected { left: usize },
-    /// That token opens a level too many, or is an operator too many of one chain.
+    /// That token opens one level too many, or is one operator too many of its chain.
     PastLimit { left: usize },
     OutOfMemory,
 }

@@ -1,4 +1,4 @@
-//! The token that stands first.
+//! The first token.
 
 ghost use Rattle.std.specs.Prelude.{◌≡◌, ◌-◌, length};
 ghost use Rattle.wd_lex.specs.Lexed.{kinds_of};
@@ -20,7 +20,7 @@ fn is_terminal(kind: &TokenKind, terminal: Terminal) -> bool
     }
 }
 
-/// The tokens after a terminal, where it stands first.
+/// The tokens after a terminal, if they begin with it.
 #[tactic(auto, unfolding(crate::specs::Cursor::eat))]
 pub fn eat(tokens: &[Token], terminal: Terminal) -> Option<&[Token]>
     ensures { Finds (λ r. kinds_of r.now) result (eat terminal (kinds_of tokens.now)) }
@@ -37,7 +37,7 @@ pub fn eat(tokens: &[Token], terminal: Terminal) -> Option<&[Token]>
     }
 }
 
-/// The refusal of the token that stands first, or of the end of the tokens.
+/// The refusal of the first token, or of the end of the tokens.
 pub fn unexpected(tokens: &[Token]) -> Refusal
     ensures { result ≡ Refusal.Unexpected (length (kinds_of tokens.now)) }
 {
@@ -51,7 +51,7 @@ pub fn token_place(tokens: &[Token], left: usize) -> u64
     tokens.len().saturating_sub(left) as u64
 }
 
-/// The tokens after a terminal, which has to stand first: else its place is refused as unexpected.
+/// The tokens after a terminal; if they don't begin with it, the first one is refused as unexpected.
 #[tactic(auto, unfolding(crate::specs::Cursor::expect))]
 pub fn expect(tokens: &[Token], terminal: Terminal) -> Result<&[Token], Refusal>
     ensures { Gives (λ r. kinds_of r.now) result (expect terminal (kinds_of tokens.now)) }
@@ -62,7 +62,7 @@ pub fn expect(tokens: &[Token], terminal: Terminal) -> Result<&[Token], Refusal>
     }
 }
 
-/// The tokens after a key word that is not reserved, where it stands first.
+/// The tokens after a key word that is not reserved, if they begin with it.
 #[tactic(auto, unfolding(crate::specs::Cursor::eat_word))]
 pub fn eat_word(tokens: &[Token], word: KeyWord) -> Option<&[Token]>
     ensures { Finds (λ r. kinds_of r.now) result (eat_word word (kinds_of tokens.now)) }
@@ -85,7 +85,7 @@ pub fn eat_word(tokens: &[Token], word: KeyWord) -> Option<&[Token]>
     }
 }
 
-/// The tokens after a key word that is not reserved, which has to stand first.
+/// The tokens after a key word that is not reserved; if they don't begin with it, the first one is refused as unexpected.
 #[tactic(auto, unfolding(crate::specs::Cursor::expect_word))]
 pub fn expect_word(tokens: &[Token], word: KeyWord) -> Result<&[Token], Refusal>
     ensures { Gives (λ r. kinds_of r.now) result (expect_word word (kinds_of tokens.now)) }
@@ -96,7 +96,7 @@ pub fn expect_word(tokens: &[Token], word: KeyWord) -> Result<&[Token], Refusal>
     }
 }
 
-/// The name that stands first, quoted or not, and the tokens after it. A reserved word is no name.
+/// The first name, quoted or not, and the tokens after it. A reserved word is no name.
 #[tactic(auto, unfolding(crate::specs::Cursor::eat_name))]
 pub fn eat_name(alloc: Global, tokens: &[Token]) -> Result<Option<(Name, &[Token])>, Refusal>
     ensures { MayFind (λ x. (x.0, kinds_of x.1.now)) result (eat_name (kinds_of tokens.now)) }
@@ -132,7 +132,7 @@ pub fn eat_name(alloc: Global, tokens: &[Token]) -> Result<Option<(Name, &[Token
     }
 }
 
-/// The name that has to stand first, and the tokens after it: else its place is refused as unexpected.
+/// The first name and the tokens after it; if they don't begin with a name, the first one is refused as unexpected.
 #[tactic(auto, unfolding(crate::specs::Cursor::name_at))]
 pub fn name_at(alloc: Global, tokens: &[Token]) -> Result<(Name, &[Token]), Refusal>
     ensures { Gives (λ x. (x.0, kinds_of x.1.now)) result (name_at (kinds_of tokens.now)) }
@@ -143,7 +143,7 @@ pub fn name_at(alloc: Global, tokens: &[Token]) -> Result<(Name, &[Token]), Refu
     }
 }
 
-/// The number that has to stand first, and the tokens after it.
+/// The first number and the tokens after it; if they don't begin with a number, the first one is refused as unexpected.
 #[tactic(auto, unfolding(crate::specs::Cursor::number_at))]
 pub fn number_at(tokens: &[Token]) -> Result<(u64, &[Token]), Refusal>
     ensures { Gives (λ x. (x.0, kinds_of x.1.now)) result (number_at (kinds_of tokens.now)) }

@@ -78,7 +78,7 @@ mode_at [] = None
 mode_at (t.Terminal x ∷ ts) = with_rest ts (mode_if x)
 mode_at (_ ∷ ts) = None
 
--- PRECEDING or FOLLOWING: whether it is the first
+-- PRECEDING or FOLLOWING; the result is whether it is PRECEDING
 unfoldable pub side_at : Parser Bool
 side_at ts = choose (eat_word k.Preceding ts) (λ r. Ok (true, r)) (expect_word k.Following ts >>= λ r. Ok (false, r))
 
@@ -156,7 +156,7 @@ abbrev pub ended : Option (Operator × Kinds) → Tree → Parser Tree
 ended None a ts = Ok (a, ts)
 ended (Some x) a ts = Err (Limit (length ts))
 
--- A chain goes on from its left side, with at most so many operators.
+-- A chain continues after its left side, with at most the given number of operators.
 unfoldable pub links : Parser Tree → ℕ → ℕ → Tree → Parser Tree
 links operand h zero a ts = ended (operator_at h ts) a ts
 links operand h (suc n) a ts = link (operator_at h ts) operand a ts (λ b. links operand h n b)
@@ -169,7 +169,7 @@ compared operand a ts = link (operator_at (rank height.Comparison) ts) operand a
 unfoldable pub null_at : Parser Bool
 null_at ts = choose (eat m.Not ts) (λ r. expect m.Null r >>= λ r. Ok (true, r)) (expect m.Null ts >>= λ r. Ok (false, r))
 
--- tests for NULL, at most so many
+-- tests for NULL, at most the given number of them
 unfoldable pub tests : ℕ → Tree → Parser Tree
 tests zero a ts = choose (eat m.Is ts) (λ r. Err (Limit (length ts))) (Ok (a, ts))
 tests (suc n) a ts = choose (eat m.Is ts) (λ r. null_at r >>= λ x. tests n (IsNull a x.0) x.1) (Ok (a, ts))
@@ -185,12 +185,12 @@ abbrev pub call_of : Name → Option (List Tree) → OverTree → Tree
 call_of f None over = CallAll f over
 call_of f (Some bs) over = Call f (trees_of bs) over
 
--- What reads one level deeper, if a level is left.
+-- How an operand is read one level deeper, if a level is left.
 abbrev pub enter : {A B : Type 0} → ℕ → Option A → (A → Result B Fault) → Result B Fault
 enter left None f = Err (Limit left)
 enter left (Some p) f = f p
 
--- by height
+-- how an expression of each height is read one level deeper
 abbrev pub Deeper : Type 0
 Deeper = Option (ℕ → Parser Tree)
 
@@ -200,7 +200,7 @@ over_at deeper ts =
     (λ r. choose (eat m.LeftBracket r) (λ q. enter (length r) deeper (λ p. window_at (p whole_height) q >>= λ w. Ok (over_window w.0, w.1))) (name_at r >>= λ n. Ok (over_name n.0, n.1)))
     (Ok (no_over, ts))
 
--- after the opening bracket
+-- a call, after its opening bracket
 unfoldable pub call_at : Deeper → Name → Parser Tree
 call_at deeper f ts = enter (suc (length ts)) deeper (λ p. arguments_at (p whole_height) ts) >>= λ bs. over_at deeper bs.1 >>= λ over. Ok (call_of f bs.0 over.0, over.1)
 
@@ -209,18 +209,18 @@ named_at deeper a ts =
     choose (eat m.Dot ts) (λ r. name_at r >>= λ b. Ok (Qualified a b.0, b.1))
     (choose (eat m.LeftBracket ts) (λ r. call_at deeper a r) (Ok (Column a, ts)))
 
--- WHEN has been read
+-- a branch of a CASE, after WHEN
 unfoldable pub arm_at : Parser Tree → Parser (Tree × Tree)
 arm_at item ts = item ts >>= λ a. expect m.Then a.1 >>= λ r. item r >>= λ b. Ok ((a.0, b.0), b.1)
 
 unfoldable pub else_at : Parser Tree → Parser Otherwise
 else_at item ts = choose (eat m.Else ts) (λ r. item r >>= λ a. Ok (or_else a.0, a.1)) (Ok (no_else, ts))
 
--- after CASE
+-- the rest of a CASE, after CASE
 unfoldable pub case_at : Parser Tree → Parser Tree
 case_at item ts = expect m.When ts >>= λ r. list_at m.When (arm_at item) r >>= λ arms. else_at item arms.1 >>= λ other. expect m.End other.1 >>= λ r. Ok (Case (arms_of arms.0) other.0, r)
 
--- after the opening bracket
+-- an expression in brackets, after the opening bracket
 unfoldable pub bracket_at : Parser Tree → Parser Tree
 bracket_at item ts = item ts >>= λ a. expect m.RightBracket a.1 >>= λ r. Ok (Bracket a.0, r)
 
@@ -244,19 +244,19 @@ abbrev pub signed_by : Option (Sign × Kinds) → Deeper → Parser Tree → Par
 signed_by None deeper tighter ts = tighter ts
 signed_by (Some x) deeper tighter ts = enter (length ts) deeper (λ p. p (rank height.Sign) x.1 >>= λ a. Ok (Signed x.0 a.0, a.1))
 
--- what a height does after its first operand
+-- how an expression of a height continues after its first operand
 abbrev pub goes_on : ℕ → Parser Tree → ℕ → Tree → Parser Tree
 goes_on (suc (suc (suc zero))) operand n = compared operand
 goes_on (suc (suc (suc (suc zero)))) operand n = tests n
 goes_on h operand n = links operand (suc h) n
 
--- one height above what is read tighter
+-- one height above an expression that binds tighter
 abbrev pub step : ℕ → Deeper → ℕ → Parser Tree → Parser Tree
 step limit deeper zero tighter ts = signed_by (sign_at ts) deeper tighter ts
 step limit deeper (suc (suc (suc (suc (suc zero))))) tighter ts = choose (eat m.Not ts) (λ r. enter (length ts) deeper (λ p. p (rank height.Negation) r >>= λ a. Ok (Negated a.0, a.1))) (tighter ts)
 step limit deeper h tighter ts = tighter ts >>= λ a. goes_on h tighter limit a.0 a.1
 
--- an expression no looser than the height
+-- an expression that binds at least as tightly as the height
 unfoldable pub levels : ℕ → Deeper → ℕ → Parser Tree
 levels limit deeper zero = primary deeper
 levels limit deeper (suc h) = step limit deeper h (levels limit deeper h)
@@ -265,6 +265,6 @@ unfoldable pub deeper_of : ℕ → ℕ → Deeper
 deeper_of limit zero = None
 deeper_of limit (suc depth) = Some (levels limit (deeper_of limit depth))
 
--- with so many levels left
+-- an expression of a height, with the given number of levels left
 abbrev pub read : ℕ → ℕ → ℕ → Parser Tree
 read limit depth = levels limit (deeper_of limit depth)

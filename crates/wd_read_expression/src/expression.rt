@@ -1,8 +1,7 @@
 //! Expressions, windows and sort keys.
 //!
-//! `at` reads an expression of a height: a chain or a test of a lower one, or what opens a level, which reads an expression of
-//! any height with one level fewer. All that may hold an expression calls it, so they are one cycle. What was read is put
-//! together in `tree`.
+//! `at` reads an expression of a height: a chain or a test of a lower one, or what opens a level, which reads an expression of any height
+//! with one level fewer. All functions that may meet an expression call it, so they are one cycle. `tree` puts together what was read.
 
 ghost use Rattle.std.specs.Prelude.{◌-◌, map};
 ghost use Rattle.wd_lex.specs.Lexed.{kinds_of};
@@ -28,8 +27,7 @@ use wd_syntax::{Arm, Expr, Height, Link, Literal, Name, Over, SortKey, Window};
 /// The height of a whole expression.
 const WHOLE: Height = Height::Disjunction;
 
-/// One level fewer than `depth`, for what the first of the `left` last tokens opens; `PastLimit` at that token where no level is
-/// left.
+/// One level fewer than `depth`, for what the first of the last `left` tokens opens; `PastLimit` at that token where no level is left.
 #[tactic(auto, unfolding(crate::specs::Reading::deeper_of))]
 pub fn deeper(depth: u8, left: usize) -> Result<u8, Refusal>
     ensures { MakesDeeper result depth left }
@@ -42,9 +40,8 @@ pub fn deeper(depth: u8, left: usize) -> Result<u8, Refusal>
 
 /// The expression that the tokens begin with, and the tokens after it, where `depth` more levels may be opened.
 ///
-/// It refuses with `Unexpected` at the first token that no expression continues, and with `PastLimit` at a token that opens a
-/// level where none is left or is one operator too many of its chain; the earlier token decides. `OutOfMemory` says nothing of
-/// the tokens.
+/// It refuses with `Unexpected` at the first token that no expression continues, and with `PastLimit` at a token that opens a level where
+/// none is left or is one operator too many of its chain; the earlier token decides. `OutOfMemory` does not depend on the tokens.
 pub fn expression_at(
     alloc: Global,
     depth: u8,
@@ -55,7 +52,7 @@ pub fn expression_at(
     at(alloc, WHOLE, depth, tokens)
 }
 
-/// An expression no looser than the height.
+/// An expression that binds at least as tightly as the height.
 #[tactic(auto, unfolding(crate::specs::Reading::levels), using(crate::proofs::Loops::read_chain))]
 #[cycle(expr)]
 fn at(
@@ -127,7 +124,7 @@ fn links(
     }
 }
 
-/// One comparison at most.
+/// At most one comparison.
 #[tactic(auto, unfolding(crate::specs::Reading::levels, crate::specs::Reading::compared))]
 #[cycle(expr)]
 fn comparison(alloc: Global, depth: u8, tokens: &[Token]) -> Result<(Box<Expr>, &[Token]), Refusal>
@@ -297,7 +294,7 @@ fn call(
     Ok((Box::new(alloc, call_of(name, arguments, over))?, rest))
 }
 
-/// `* )`, where it gives `None`, or `[expr {, expr}] )`.
+/// `* )`, for which the result is `None`, or `[expr {, expr}] )`.
 #[tactic(auto, unfolding(crate::specs::Reading::arguments_at))]
 #[cycle(expr)]
 fn arguments(
@@ -474,8 +471,8 @@ fn keys(alloc: Global, depth: u8, tokens: &[Token]) -> Result<(Vec<SortKey>, &[T
     Ok((items, rest))
 }
 
-/// `[ORDER BY key {, key}]`: the keys, none where ORDER does not stand first, and the tokens after them, where `depth` more
-/// levels may be opened. It refuses as `expression_at` does.
+/// `[ORDER BY key {, key}]`: the keys, none where the first token is not ORDER, and the tokens after them, where `depth` more levels may
+/// be opened. It refuses as `expression_at` does.
 #[tactic(auto, unfolding(crate::specs::Reading::order_at))]
 #[cycle(expr)]
 pub fn order_at(

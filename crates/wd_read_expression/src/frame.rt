@@ -39,7 +39,7 @@ fn mode_at(tokens: &[Token]) -> Option<(FrameMode, &[Token])>
     }
 }
 
-/// `PRECEDING` or `FOLLOWING`: whether it is the first.
+/// `PRECEDING` or `FOLLOWING`; the result is whether it is `PRECEDING`.
 #[tactic(auto, unfolding(crate::specs::Reading::side_at))]
 fn side_at(tokens: &[Token]) -> Result<(bool, &[Token]), Refusal>
     ensures { Gives (λ x. (x.0, kinds_of x.1.now)) result (side_at (kinds_of tokens.now)) }
@@ -128,7 +128,7 @@ fn exclusion_at(tokens: &[Token]) -> Result<(Option<Exclusion>, &[Token]), Refus
 
 /// `[(ROWS|RANGE|GROUPS) extent [EXCLUDE ..]]`, where an extent is a bound or `BETWEEN bound AND bound`.
 ///
-/// What follows ROWS, RANGE or GROUPS has to be an extent: else the first token that does not fit is refused.
+/// An extent has to follow ROWS, RANGE or GROUPS; otherwise the first token that does not fit is refused.
 #[tactic(auto, unfolding(crate::specs::Reading::frame_at))]
 pub fn frame_at(tokens: &[Token]) -> Result<(Option<Frame>, &[Token]), Refusal>
     ensures { Gives (λ x. (x.0, kinds_of x.1.now)) result (frame_at (kinds_of tokens.now)) }
@@ -162,7 +162,7 @@ pub fn direction_at(tokens: &[Token]) -> (Option<SortDirection>, &[Token])
     }
 }
 
-/// `[NULLS (FIRST|LAST)]`, and the tokens after it. What follows NULLS has to be one of the two.
+/// `[NULLS (FIRST|LAST)]`, and the tokens after it. FIRST or LAST has to follow NULLS.
 #[tactic(auto, unfolding(crate::specs::Reading::nulls_at))]
 pub fn nulls_at(tokens: &[Token]) -> Result<(Option<NullsPlace>, &[Token]), Refusal>
     ensures { Gives (λ x. (x.0, kinds_of x.1.now)) result (nulls_at (kinds_of tokens.now)) }

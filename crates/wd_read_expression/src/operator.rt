@@ -51,7 +51,7 @@ fn binding(operator: Operator) -> Height
     }
 }
 
-/// The height as a number: the lower, the tighter.
+/// The height as a number; tighter is lower.
 fn rank(height: Height) -> u8
     ensures { result ≡ spec.rank height }
 {
@@ -68,7 +68,7 @@ fn rank(height: Height) -> u8
     }
 }
 
-/// The next height that binds tighter; a primary expression's own.
+/// The next tighter height; a primary expression's own.
 pub fn tighter(height: Height) -> Height
     ensures { spec.rank result ≡ spec.rank height - 1 }
 {
@@ -84,7 +84,7 @@ pub fn tighter(height: Height) -> Height
     }
 }
 
-/// An operator of that height, where one stands first.
+/// An operator of that height, if the tokens begin with one.
 #[tactic(auto, unfolding(crate::specs::Reading::operator_at))]
 pub fn operator_at(tokens: &[Token], height: Height) -> Option<(Operator, &[Token])>
     ensures { Finds (λ x. (x.0, kinds_of x.1.now)) result (operator_at (spec.rank height) (kinds_of tokens.now)) }
@@ -110,7 +110,7 @@ pub fn operator_at(tokens: &[Token], height: Height) -> Option<(Operator, &[Toke
     }
 }
 
-/// A sign, where one stands first, and the tokens after it.
+/// A sign, if the tokens begin with one, and the tokens after it.
 #[tactic(auto, unfolding(crate::specs::Reading::sign_at))]
 pub fn sign_at(tokens: &[Token]) -> Option<(Sign, &[Token])>
     ensures { Finds (λ x. (x.0, kinds_of x.1.now)) result (sign_at (kinds_of tokens.now)) }

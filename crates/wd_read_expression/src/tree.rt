@@ -11,7 +11,7 @@ use std::alloc::Global;
 use wd_read_cursor::Refusal;
 use wd_syntax::{Arm, Expr, Frame, Link, Name, Over, SortKey, Window};
 
-// A Vec inside the tree is a row there: `linked`, `call_of`, `case_of` and `window_of` say once what it holds.
+// A Vec inside the tree is a list of its elements there: `linked`, `call_of`, `case_of` and `window_of` say once what it holds.
 fn linked(first: Box<Expr>, before: Vec<Link>, last: Box<Link>) -> Expr
     ensures { view result ≡ Tree.Binary last.value.operator (chained (view first.value) (map view_link before.items)) (view last.value.operand) }
 {

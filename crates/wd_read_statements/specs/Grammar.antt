@@ -15,7 +15,7 @@ use Rattle.wd_read_statements.specs.declared.syntax.Rule.TheVariants as rule
 use Rattle.wd_read_statements.specs.declared.syntax.ColumnRule.{ColumnRule}
 use Rattle.wd_read_statements.specs.Written.{ColumnTree, KeyTree, ElementTree, Column, Key, TableTree, SchemaTree}
 
--- each printer takes what follows
+-- each printer takes the tokens that follow
 abbrev pub spell_name : Name → Kinds → Kinds
 spell_name name rest = name_kind name ∷ rest
 
@@ -91,7 +91,7 @@ pub record IsTable (table : TableTree) : Type 0 where
   pub some : table.elements ≢ []
   pub each : All HasColumns table.elements
 
--- no such list is empty in a schema, and a semicolon stands after a table
+-- each table of a schema is one, and a semicolon comes only after a table
 pub record IsSchema (schema : SchemaTree) : Type 0 where
   pub tables : All IsTable schema.tables
   pub ended : schema.tables ≡ [] → schema.ended ≡ false
@@ -114,8 +114,8 @@ pub record AreStatements (kinds : Kinds) (tables : List TableTree) : Type 0 wher
   pub begins : Begins kinds tables
   pub all : (others : List TableTree) → Begins kinds others → (more : List TableTree) × (tables ≡ others ++ more)
 
--- The first place where no schema goes on: some schema has the tokens before it, and none has the token there after them,
--- or ends there, where it is the number of tokens.
+-- The first place where no schema continues: some schema has the tokens before it, and no schema has these and the token at the place;
+-- where the place is the number of tokens, no schema ends there.
 pub record IsUnexpected (kinds : Kinds) (place : ℕ) : Type 0 where
   pub within : place ≤ length kinds
   pub before : (tree : SchemaTree) × IsSchema tree × (take place (spell_schema tree) ≡ take place kinds)

@@ -8,6 +8,6 @@ use Rattle.wd_read_statements.specs.Written.{SchemaTree}
 abbrev pub HasOneTree : Type 0
 HasOneTree = (first second : SchemaTree) → IsSchema first → IsSchema second → spell_schema first ≡ spell_schema second → first ≡ second
 
--- Among the places of a token list there is at most one where the first token stands that no schema goes on with.
+-- A token list has at most one place where no schema continues.
 abbrev pub HasOnePlace : Type 0
 HasOnePlace = (kinds : Kinds) (first second : ℕ) → IsUnexpected kinds first → IsUnexpected kinds second → first ≡ second

@@ -44,7 +44,7 @@ column_rule_at kinds = constraint_at kinds >>= λ name. rule_at name.1 >>= λ r.
 unfoldable pub ends_column : Kinds → Bool
 ends_column kinds = is_some (eat m.Comma kinds) || is_some (eat m.RightBracket kinds)
 
--- a rule for a column, where the column goes on
+-- a rule for a column, if the column's declaration does not end
 unfoldable pub rule_if : Chance ColumnRule
 rule_if kinds = if ends_column kinds then None else Some (column_rule_at kinds)
 
@@ -62,7 +62,7 @@ key_at kinds =
     constraint_at kinds >>= λ name. words_at name.1 >>= λ words. expect m.LeftBracket words.1 >>= λ bracket. list_at m.Comma name_at bracket >>= λ columns. expect m.RightBracket columns.1
     >>= λ rest. Ok (record { constraint = name.0; words = words.0; columns = columns.0 }, rest)
 
--- a key that stands by itself begins so
+-- the tokens begin a key that is an element of its own
 unfoldable pub begins_key : Kinds → Bool
 begins_key kinds = is_some (eat m.Constraint kinds) || is_some (eat m.Primary kinds) || is_some (eat m.Unique kinds)
 

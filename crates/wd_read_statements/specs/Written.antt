@@ -1,4 +1,4 @@
--- Schemas as they are written, without where they lie in memory.
+-- Schemas as they are written, as pure data.
 use Rattle.std.specs.Prelude.{ℕ, List, Option, Bool, map}
 use Rattle.wd_read_cursor.specs.declared.name.Name.{Name}
 use Rattle.wd_read_statements.specs.declared.syntax.KeyWords.{KeyWords}
@@ -15,13 +15,13 @@ pub record ColumnTree : Type 0 where
   pub kind : Name
   pub rules : List ColumnRule
 
--- a key that stands by itself: the constraint's name, its words, and the names of its columns
+-- a key that is an element of its own: the constraint's name, its words, and the names of its columns
 pub record KeyTree : Type 0 where
   pub constraint : Option Name
   pub words : KeyWords
   pub columns : List Name
 
--- what stands between the brackets of a table
+-- an element between the brackets of a table
 pub data ElementTree : Type 0 where
   Column : ColumnTree → ElementTree
   Key : KeyTree → ElementTree
@@ -31,7 +31,7 @@ pub record TableTree : Type 0 where
   pub name : Name
   pub elements : List ElementTree
 
--- a schema: its tables, and whether a semicolon stands after the last
+-- a schema: its tables, and whether a semicolon comes after the last
 pub record SchemaTree : Type 0 where
   pub tables : List TableTree
   pub ended : Bool

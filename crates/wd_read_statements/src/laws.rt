@@ -7,7 +7,7 @@ pub fn one_tree()
     ensures { HasOneTree }
 {}
 
-/// A list of tokens has at most one place where no schema goes on.
+/// A list of tokens has at most one place where no schema continues.
 pub fn one_place()
     ensures { HasOnePlace }
 {}

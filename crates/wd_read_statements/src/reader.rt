@@ -33,7 +33,7 @@ fn read_nulls(tokens: &[Token]) -> Result<(Nulls, &[Token]), Refusal>
     }
 }
 
-/// The words of a key: PRIMARY KEY, or UNIQUE and what it says of NULLs.
+/// The words of a key: PRIMARY KEY, or UNIQUE with its words about NULLs.
 #[tactic(auto, unfolding(crate::specs::Reading::words_at))]
 fn read_words(tokens: &[Token]) -> Result<(KeyWords, &[Token]), Refusal>
     ensures { Gives (λ x. (x.0, kinds_of x.1.now)) result (words_at (kinds_of tokens.now)) }
@@ -86,7 +86,7 @@ fn read_column_rule(alloc: Global, tokens: &[Token]) -> Result<(ColumnRule, &[To
     Ok((ColumnRule { constraint, rule }, rest))
 }
 
-/// Whether a column goes on: no comma or closing bracket stands first.
+/// Whether a column's declaration ends: the tokens begin with a comma or a closing bracket.
 #[tactic(auto, unfolding(crate::specs::Reading::ends_column))]
 fn ends_column(tokens: &[Token]) -> bool
     ensures { result ≡ ends_column (kinds_of tokens.now) }
@@ -159,7 +159,7 @@ fn read_key(alloc: Global, tokens: &[Token]) -> Result<(WrittenKey, &[Token]), R
     Ok((key, rest))
 }
 
-/// Whether the first token is one of those that begin a key that stands by itself.
+/// Whether the tokens begin a key that is an element of its own.
 #[tactic(auto, unfolding(crate::specs::Reading::begins_key))]
 fn begins_key(tokens: &[Token]) -> bool
     ensures { result ≡ begins_key (kinds_of tokens.now) }
@@ -213,14 +213,14 @@ fn read_table(alloc: Global, tokens: &[Token]) -> Result<(WrittenTable, &[Token]
     Ok((WrittenTable { name, elements }, rest))
 }
 
-/// A table's declaration, and whether a semicolon stands after it.
+/// A table's declaration, and whether a semicolon comes after it.
 #[derive(Drop)]
 struct Statement {
     table: WrittenTable,
     semicolon: bool,
 }
 
-/// A statement goes up to its semicolon or the end of the tokens.
+/// A statement up to and including its semicolon, or up to the end of the tokens.
 #[tactic(auto, unfolding(crate::specs::Reading::statement_at))]
 fn read_statement(alloc: Global, tokens: &[Token]) -> Result<(Statement, &[Token]), Refusal>
     ensures { Gives (λ x. ((table_tree x.0.table, x.0.semicolon), kinds_of x.1.now)) result (statement_at (kinds_of tokens.now)) }
@@ -246,13 +246,13 @@ fn read_stop(tokens: &[Token]) -> Result<(bool, &[Token]), Refusal>
 #[derive(Drop)]
 pub struct Statements {
     pub tables: Vec<WrittenTable>,
-    /// Whether a semicolon stands after the last.
+    /// Whether a semicolon comes after the last.
     pub ended: bool,
-    /// The number of the token after them where no schema goes on.
+    /// The number of the token after the tables where no schema continues, if there is one.
     pub unexpected: Option<u64>,
 }
 
-/// All statements of a schema that the tokens begin with, up to the first that can't be read.
+/// All statements of a schema that the tokens begin with, up to the first that cannot be read.
 pub fn read_statements(alloc: Global, tokens: &[Token]) -> Result<Statements, OutOfMemory>
     ensures statements { IfOk result (λ s. AreStatements (kinds_of tokens.now) (map table_tree s.tables.items)) }
     ensures schema { IfOk result (λ s. s.unexpected ≡ None → IsSchema (schema_tree s.tables.items s.ended)) }

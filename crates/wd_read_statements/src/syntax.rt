@@ -2,10 +2,10 @@
 
 use wd_read_cursor::Name;
 
-/// What stands after UNIQUE.
+/// What follows UNIQUE.
 #[derive(Clone, Copy, PartialEq, Eq)]
 pub enum Nulls {
-    /// Nothing, which takes NULLs as distinct.
+    /// Nothing, so that NULLs are distinct.
     Unsaid,
     /// NULLS DISTINCT
     Distinct,
@@ -43,7 +43,7 @@ pub struct WrittenColumn {
     pub rules: Vec<ColumnRule>,
 }
 
-/// A key that stands by itself among the columns.
+/// A key that is an element of its own, beside the columns.
 #[derive(Drop)]
 pub struct WrittenKey {
     pub constraint: Option<Name>,
@@ -51,7 +51,7 @@ pub struct WrittenKey {
     pub columns: Vec<Name>,
 }
 
-/// What stands between the brackets of a table.
+/// An element between the brackets of a table.
 #[derive(Drop)]
 pub enum Element {
     Column(WrittenColumn),

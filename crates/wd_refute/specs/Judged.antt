@@ -1,4 +1,4 @@
--- What is found of a witness's choices, one after the other.
+-- What the check of a witness's choices finds, one after the other.
 use Rattle.std.specs.Prelude.{◌≡◌, ℕ, List, true, ⊤}
 use Rattle.wd_value.specs.Rows.{Instance}
 use Rattle.wd_plan.specs.Choices.{IsValidChoice}
@@ -19,7 +19,7 @@ pub record IsOutcomeUnder (plan : PlanTree) (instance : Instance) (choice : List
   pub valid : IsValidChoice plan instance choice
   pub is : o ≡ outcome plan instance choice
 
--- why there is none under a choice
+-- why there is no outcome under a choice
 abbrev pub RefusesChoice : Refusal → PlanTree → Instance → List (List ℕ) → Type 0
 RefusesChoice (refusal.Text e) plan instance choice = ⊥
 RefusesChoice refusal.NotMet plan instance choice = ⊥

@@ -8,7 +8,7 @@ use Rattle.wd_refute.specs.Numbers.{AreSortedNumbers}
 use Rattle.wd_refute.specs.declared.kept.Kept.{Kept}
 use Rattle.wd_refute.specs.declared.kept.Kept.TheVariants.{Numbered, Sorted}
 
--- the sorted numbers of its rows, or the outcome
+-- the sorted numbers of the outcome's rows, or the outcome itself
 abbrev pub IsKept : RowsOrFault → Kept → Type 0
 IsKept (Ok rows) (Numbered n) = AreSortedNumbers n.places.items rows n.numbers.items
 IsKept (Err fault) (Numbered n) = ⊥

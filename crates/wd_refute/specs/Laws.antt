@@ -10,11 +10,11 @@ use Rattle.wd_refute.specs.Refutation.{HasCause, HaveNoCertificate, IsRefuted, I
 use Rattle.wd_refute.specs.declared.error.Refusal.{Refusal}
 use Rattle.wd_refute.specs.declared.error.WitnessError.{WitnessError}
 
--- where a witness is accepted for the texts of a schema and a query, no certificate is
+-- where a witness is accepted for the texts of a schema and a query, no certificate is accepted for them
 abbrev pub RefutedHasNoCertificate : Type 0
 RefutedHasNoCertificate = (schema query witness : List ℕ) → IsRefuted schema query witness → HaveNoCertificate schema query
 
--- Texts that have a meaning, and a witness that is accepted for them, have the cause of no refusal but that memory runs out, or 802.
+-- Texts that have a meaning, with a witness that is accepted for them, have no cause of a refusal except that memory runs out, or 802.
 abbrev pub RefutedIsTaken : Type 0
 RefutedIsTaken = (schema query witness : List ℕ) (e : WitnessError) → HaveMeaning schema query → IsRefuted schema query witness → HasCause schema query witness e → IsTaken e
 
@@ -26,7 +26,7 @@ pub record IsShown (tables : List TableRule) (plan : PlanTree) (w : WitnessRecor
   pub first_small : has_large_step plan (instance_under tables w) w.first ≡ false
   pub second_small : has_large_step plan (instance_under tables w) w.second ≡ false
 
--- a text that spells such a witness has the cause of no refusal with a number: not of 601 to 604, nor of 802
+-- a text that spells such a witness has no cause of a refusal with a number: neither of 601 to 604 nor of 802
 abbrev pub ShownIsNotRefused : Type 0
 ShownIsNotRefused = (tables : List TableRule) (plan : PlanTree) (w : WitnessRecord) (witness : List ℕ) (r : Refusal)
     → IsShown tables plan w → Spells w witness → IsSome (refusal_number r) → RefusesText r witness tables plan → ⊥

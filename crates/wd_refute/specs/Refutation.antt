@@ -36,7 +36,7 @@ pub record SpellsTrue (witness : List ℕ) (tables : List TableRule) (plan : Pla
   pub fits : AllFit64 said
   pub is_true : IsTrue tables plan said
 
--- it is true of the plan that reads the texts of a schema and a query
+-- the witness is true of the plan of the texts of a schema and a query
 abbrev pub IsRefuted : List ℕ → List ℕ → List ℕ → Type 0
 IsRefuted schema query witness = ForReading schema query (SpellsTrue witness)
 
@@ -52,7 +52,8 @@ pub record IsOneAnswer (plan : PlanTree) (instance : Instance) (first second : L
   pub second_valid : IsValidChoice plan instance second
   pub agree : Agree (outcome plan instance first) (outcome plan instance second)
 
--- the two choices of a witness over an instance: one is not valid; both are, and the outcomes agree; a step is too large under one
+-- why the two choices of a witness over an instance are refused: one is not valid, or a step is too large under one, or both are valid
+-- and their outcomes agree
 abbrev pub RefusesChoices : Refusal → PlanTree → Instance → List (List ℕ) → List (List ℕ) → Type 0
 RefusesChoices (refusal.Text e) plan instance first second = ⊥
 RefusesChoices refusal.NotMet plan instance first second = ⊥
@@ -79,7 +80,7 @@ RefusesWitness refusal.OutOfMemory tables plan w = ⊤
 abbrev pub SpellsRefused : Refusal → List ℕ → List TableRule → PlanTree → Type 0
 SpellsRefused r witness tables plan = (w : WitnessRecord) × Spells w witness × RefusesWitness r tables plan w
 
--- why a text is refused for a plan: it spells no witness over tables of the schema, or one that is refused
+-- why a text is refused for a plan: it does not spell a witness over tables of the schema, or it spells one that is refused
 abbrev pub RefusesText : Refusal → List ℕ → List TableRule → PlanTree → Type 0
 RefusesText (refusal.Text e) witness tables plan = witnesses.HasCause tables e witness
 RefusesText refusal.NotMet witness tables plan = SpellsRefused refusal.NotMet witness tables plan
@@ -107,7 +108,7 @@ abbrev pub number_of : WitnessError → Option ℕ
 number_of (error.Texts e) = text_number e
 number_of (error.Witness r) = refusal_number r
 
--- a refusal that says nothing against the witness: memory ran out, or a step has too many rows to be evaluated
+-- a refusal that does not speak against the witness: memory ran out, or a step has too many rows to be evaluated
 abbrev pub IsTaken : WitnessError → Type 0
 IsTaken e = (number_of e ≡ None) ⊎ (number_of e ≡ Some 802)
 

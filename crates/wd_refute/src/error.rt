@@ -12,7 +12,7 @@ use wd_witness_text::WitnessTextError;
 /// Why a witness's text is refused for a plan.
 #[derive(Clone, Copy, Debug, Error)]
 pub enum Refusal {
-    /// 601: the text spells no witness over tables of the schema.
+    /// 601: the text does not spell a witness over tables of the schema.
     #[error(transparent)]
     Text(WitnessTextError),
     /// 602: the tables do not meet the schema.
@@ -27,7 +27,7 @@ pub enum Refusal {
     /// 802: a step of the plan has more than 10,000,000 rows.
     #[error("a step has more than 10,000,000 rows")]
     TooManyRows,
-    /// The allocator refused a growth.
+    /// The allocator refused to allocate.
     #[error("out of memory")]
     OutOfMemory,
 }
@@ -43,7 +43,7 @@ pub enum WitnessError {
     Witness(Refusal),
 }
 
-/// Which of its inputs a refusal is about, or the evaluation.
+/// Which of the inputs a refusal is about, or that it is about the evaluation.
 #[derive(Clone, Copy)]
 pub enum WitnessOrigin {
     Schema,
@@ -53,7 +53,7 @@ pub enum WitnessOrigin {
 }
 
 impl Refusal {
-    /// The refusal's number, and None where memory runs out.
+    /// The refusal's number, or `None` where memory ran out.
     pub fn number(&self) -> Option<u32>
         ensures { result ≡ refusal_number self.now }
     {
@@ -69,7 +69,7 @@ impl Refusal {
 }
 
 impl WitnessError {
-    /// The refusal's number, and None where memory runs out.
+    /// The refusal's number, or `None` where memory ran out.
     pub fn number(&self) -> Option<u32>
         ensures { result ≡ number_of self.now }
     {
@@ -79,7 +79,7 @@ impl WitnessError {
         }
     }
 
-    /// The byte or the token that the refusal is about; a witness's names none.
+    /// The byte or the token that the refusal is about; a refusal of the witness has none.
     pub fn place(&self) -> Option<u64>
         ensures { result ≡ place_of self.now }
     {

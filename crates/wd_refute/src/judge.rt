@@ -37,7 +37,7 @@ pub(crate) fn refute_plan(
     check(alloc, schema, plan, &witness, seeded)
 }
 
-/// A seed for the hashes of the values that the plan makes of a witness's, made of its text.
+/// A seed for the hashes of the values that the plan makes of a witness's values, computed from the witness's text.
 fn seeded_by(witness: &[u8]) -> Seeded {
     let mut all = DefaultHasher::new();
     all.write(witness);
@@ -63,8 +63,8 @@ fn check(
     differ(alloc, schema, plan, &instance, witness, seeded)
 }
 
-/// Whether a plan's outcomes over an instance differ under the two choices of a witness. The rows of the
-/// first are let go before the second is evaluated, where they have numbers.
+/// Whether a plan's outcomes over an instance differ under the two choices of a witness. Where the rows of the first outcome have
+/// numbers, they are dropped before the second outcome is evaluated.
 fn differ(
     alloc: Global,
     schema: &Schema,

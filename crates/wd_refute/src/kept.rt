@@ -16,15 +16,15 @@ use wd_eval::Answer;
 use wd_sort::Seeded;
 use wd_value::OutOfMemory;
 
-/// Rows as their sorted numbers, and the places of the values that these are made of.
+/// Rows as their sorted numbers, and the places of the values that the numbers are made of.
 #[derive(Drop)]
 pub(crate) struct NumberedRows {
     pub places: Vec<Places>,
     pub numbers: Vec<u128>,
 }
 
-/// An outcome with which another one is to be compared: the numbers of its rows, or the outcome itself where it is a fault or has
-/// rows without a number.
+/// An outcome to compare another one with: the numbers of its rows, or the outcome itself where it is a fault or has rows without a
+/// number.
 #[derive(Drop)]
 pub(crate) enum Kept {
     Numbered(NumberedRows),
@@ -54,7 +54,7 @@ impl Kept {
 }
 
 impl NumberedRows {
-    /// Whether an answer is rows that stand equally often.
+    /// Whether an answer has the same rows, each equally often.
     fn agree(&self, alloc: Global, answer: &Answer) -> Result<bool, OutOfMemory>
         ensures { IfOk result (λ b. (rows : List Row) → AreSortedNumbers self.now.places.items rows self.now.numbers.items → (IsTrue b ↔ Agree (Ok rows) answer.now)) }
     {
@@ -64,7 +64,7 @@ impl NumberedRows {
         }
     }
 
-    /// Whether they are the numbers of these rows.
+    /// Whether the kept numbers are those of these rows.
     fn are_of(&self, alloc: Global, rows: &RowSource) -> Result<bool, OutOfMemory>
         ensures { IfOk result (λ b. (others : List Row) → AreSortedNumbers self.now.places.items others self.now.numbers.items → (IsTrue b ↔ SameBag same_row others rows.now)) }
     {
@@ -75,7 +75,7 @@ impl NumberedRows {
     }
 }
 
-/// An answer's rows as numbers. None where it is a fault, or some row has no number.
+/// An answer's rows as numbers; `None` where the answer is a fault, or some row has no number.
 fn numbered_answer(
     alloc: Global,
     answer: &Answer,
@@ -111,7 +111,7 @@ fn sorted_answer(alloc: Global, answer: Answer) -> Result<Kept, OutOfMemory>
     Ok(Kept::Sorted(sorted))
 }
 
-/// Whether an outcome agrees with an answer, by the order of both ones' rows.
+/// Whether an outcome agrees with an answer, by sorting the rows of both.
 fn sorted_agrees(alloc: Global, first: &SortedOutcome, answer: Answer) -> Result<bool, OutOfMemory>
     ensures { IfOk result (λ b. IsTrue b ↔ Agree first.now answer) }
 {

@@ -8,7 +8,7 @@ use wd_rules::laws::never_both;
 use wd_schema::laws::one_meaning;
 use wd_witness_text::laws::{is_read_back, spells_one};
 
-/// Texts for which a witness is accepted have no certificate that is.
+/// For texts with an accepted witness no certificate is accepted.
 pub fn refuted_has_no_certificate()
     ensures { RefutedHasNoCertificate }
 {
@@ -18,7 +18,7 @@ pub fn refuted_has_no_certificate()
     never_both();
 }
 
-/// The text of a true witness is refused for nothing that stands in it.
+/// The text of a true witness contains no cause of a refusal.
 pub fn shown_is_not_refused()
     ensures { ShownIsNotRefused }
 {
@@ -26,8 +26,7 @@ pub fn shown_is_not_refused()
     is_read_back();
 }
 
-/// A witness that is accepted is refused for nothing that stands in the texts, where these have a meaning: only where memory runs
-/// out, or a step is too large to be evaluated.
+/// For texts that have a meaning an accepted witness is refused only where memory runs out, or where a step is too large to be evaluated.
 pub fn refuted_is_taken()
     ensures { RefutedIsTaken }
 {

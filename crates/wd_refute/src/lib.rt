@@ -1,5 +1,10 @@
 //! Whether two outcomes of a plan agree, and whether a witness's text shows two answers of the query of a schema's text and a query's
 //! text.
+//!
+//! `texts` is the way in, and `judge` evaluates the plan under both choices of a witness. Two outcomes agree where each row appears
+//! equally often in both: `numbers` makes a number of each row from the `places` of its values, and `kept` keeps only these sorted
+//! numbers of the first outcome; where a row has no number, `outcome` and `rows` sort the rows themselves. `laws` states that no
+//! certificate is accepted for texts with an accepted witness.
 #![tactic(auto)]
 
 mod error;

@@ -1,4 +1,4 @@
-//! Rows as numbers that tell them apart.
+//! Rows as numbers: different rows have different numbers.
 
 ghost use Rattle.std.specs.Ordering.{nat_cmp};
 ghost use Rattle.std.specs.Prelude.{◌≡◌, IfNone, IfOk, IfSome, IsPermutation, IsSorted};
@@ -11,7 +11,7 @@ use std::alloc::Global;
 use wd_columns::RowSource;
 use wd_value::{OutOfMemory, Value};
 
-/// The numbers of the rows, sorted. None exactly where some row has no number.
+/// The numbers of the rows, sorted; `None` exactly where some row has no number.
 pub(crate) fn sorted_numbers(
     alloc: Global,
     places: &[Places],
@@ -35,7 +35,7 @@ fn sorted(numbers: Vec<u128>) -> Vec<u128>
     order
 }
 
-/// The number of each row. None exactly where some row has none.
+/// The number of each row; `None` exactly where some row has no number.
 fn numbers_of(
     alloc: Global,
     places: &[Places],
@@ -54,8 +54,8 @@ fn numbers_of(
     Ok(Some(numbers))
 }
 
-/// The places of the values of the row at a position in one number, each as a digit, the first value's the highest. None where a
-/// value has no place, where there are more or fewer values than columns, and where 128 bits don't hold the number.
+/// The places of the values of the row at a position as the digits of one number, the first value's digit the highest. `None` where a
+/// value has no place, where there are more or fewer values than columns, or where 128 bits don't hold the number.
 fn number_of(places: &[Places], rows: &RowSource, position: u64) -> Option<u128>
     ensures { result ≡ spec.number_of places.now (row_at rows.now position) }
 {
@@ -78,7 +78,7 @@ fn place_at(places: &Places, rows: &RowSource, position: u64, column: usize) -> 
     places.place_of(rows.value_at(position, column, &null))
 }
 
-/// A number with a further digit below a count. None where 128 bits don't hold it.
+/// A number with a further digit below a count; `None` where 128 bits don't hold it.
 fn with_digit(number: u128, count: usize, digit: u64) -> Option<u128>
     ensures { result ≡ spec.with_digit number count digit }
 {

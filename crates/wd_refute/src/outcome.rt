@@ -1,4 +1,4 @@
-//! Outcomes made ready to be compared.
+//! Outcomes prepared for comparison.
 
 ghost use Rattle.std.specs.Prelude.{◌≡◌, ◌↔◌, IfOk, IsTrue};
 ghost use Rattle.wd_refute.specs.Ready.{IsReady};
@@ -10,8 +10,7 @@ use std::marker::Model;
 use wd_plan::Outcome;
 use wd_value::OutOfMemory;
 
-/// An outcome made ready to be compared: the positions of its rows are sorted by the rows. Contracts
-/// see the outcome.
+/// An outcome prepared for comparison: the positions of its rows are sorted by the rows. Contracts see the outcome.
 #[derive(Drop)]
 pub struct SortedOutcome {
     outcome: Outcome,
@@ -31,7 +30,7 @@ impl Model for SortedOutcome {
 }
 
 impl SortedOutcome {
-    /// Makes an outcome ready. Takes n log n comparisons of rows.
+    /// Prepares an outcome. Takes n log n comparisons of rows.
     ///
     /// # Errors
     /// Where memory runs out; the outcome is then dropped.
@@ -43,7 +42,7 @@ impl SortedOutcome {
     }
 
     /// Whether two outcomes agree: the same fault, or rows with each row equally often. Takes no
-    /// memory; the time goes with the number of rows.
+    /// memory; the time is linear in the number of rows.
     pub fn agrees(&self, other: &SortedOutcome) -> bool
         ensures { IsTrue result ↔ Agree self.now other.now }
     {
@@ -57,7 +56,7 @@ impl SortedOutcome {
     }
 }
 
-/// The positions of its rows, sorted by the rows; of a fault no position.
+/// The positions of an outcome's rows, sorted by the rows; empty for a fault.
 fn order_of(alloc: Global, outcome: &Outcome) -> Result<Vec<u64>, OutOfMemory>
     ensures { IfOk result (λ v. IsReady (outcome_of outcome.now) v.items) }
 {

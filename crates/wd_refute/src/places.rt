@@ -1,4 +1,4 @@
-//! The places of the values of a column among those that were met in it.
+//! The places of the values of a column among the distinct ones seen in it.
 
 ghost use Rattle.std.specs.Prelude.{◌≡◌, length};
 ghost use Rattle.wd_refute.specs.Numbers as spec;
@@ -9,8 +9,8 @@ use wd_columns::RowSource;
 use wd_sort::Seeded;
 use wd_value::{OutOfMemory, Text, Value, same};
 
-/// The values that were met in a column, each at its place: NULL and the truth values, then the texts and whole numbers in the order
-/// in which they were met first.
+/// The distinct values seen in a column, each at its place: NULL and the truth values, then the texts and whole numbers in order of first
+/// appearance.
 #[derive(Drop)]
 pub(crate) struct Places {
     values: Vec<Value>,
@@ -19,7 +19,7 @@ pub(crate) struct Places {
 }
 
 impl Places {
-    /// No text and no whole number so far.
+    /// Places without any text or whole number.
     pub fn new(alloc: Global, seeded: Seeded) -> Result<Places, OutOfMemory> {
         let mut values = Vec::with_capacity(alloc, 3)?;
         values.push(Value::Null)?;
@@ -32,14 +32,14 @@ impl Places {
         })
     }
 
-    /// How many values there are. Each place is below this.
+    /// How many values there are; each place is below this number.
     pub fn count(&self) -> usize
         ensures { result ≡ length self.now.values.items }
     {
         self.values.len()
     }
 
-    /// The place at which a value stands, and none where it was not met.
+    /// The place of a value; `None` where it was not seen.
     pub fn place_of(&self, value: &Value) -> Option<u64>
         ensures { result ≡ spec.place_in self.now value.now }
     {
@@ -51,7 +51,7 @@ impl Places {
         }
     }
 
-    /// The place that is kept of a value.
+    /// The place that is stored for a value.
     fn kept_place(&self, value: &Value) -> Option<u64>
         ensures { result ≡ spec.kept_place self.now value.now }
     {
@@ -64,7 +64,7 @@ impl Places {
         }
     }
 
-    /// Whether a value stands at a place.
+    /// Whether a value is at a place.
     fn stands_at(&self, place: u64, value: &Value) -> bool
         ensures { result ≡ spec.stands_at self.now.values.items place value.now }
     {
@@ -74,7 +74,7 @@ impl Places {
         }
     }
 
-    /// A value is met: where it has no place, it is put after those that were met before.
+    /// Stores a value; one that has no place comes after those stored before.
     fn meet(&mut self, alloc: Global, value: &Value) -> Result<(), OutOfMemory> {
         if self.kept_place(value).is_some() {
             return Ok(());
@@ -100,7 +100,7 @@ impl Places {
     }
 }
 
-/// For each column of the first row the values that the rows have there.
+/// For each column of the first row, the values of all rows in it.
 pub(crate) fn places_of(
     alloc: Global,
     rows: &RowSource,
@@ -113,7 +113,7 @@ pub(crate) fn places_of(
     Ok(places)
 }
 
-/// So many columns, in which nothing was met.
+/// Places without values for `width` columns.
 fn no_places(alloc: Global, width: usize, seeded: Seeded) -> Result<Vec<Places>, OutOfMemory> {
     let mut places = Vec::with_capacity(alloc, width)?;
     for _ in 0..width {
@@ -122,7 +122,7 @@ fn no_places(alloc: Global, width: usize, seeded: Seeded) -> Result<Vec<Places>,
     Ok(places)
 }
 
-/// The values of the row at a position are met.
+/// Stores the values of the row at a position.
 fn meet_row(
     alloc: Global,
     places: &mut Vec<Places>,

@@ -1,4 +1,4 @@
-//! Rows in a total order, in which rows that tie are equal.
+//! Rows in a total order in which rows that tie are equal.
 
 ghost use Rattle.std.specs.Prelude.{◌≡◌, ◌↔◌, IfOk, IsTrue};
 ghost use Rattle.wd_refute.specs.Ready as spec;
@@ -10,7 +10,7 @@ use std::cmp::Ordering;
 use wd_sort::{all_positions, row_in};
 use wd_value::{OutOfMemory, Row, SortKey, Value, compare};
 
-/// Any total order of values serves.
+/// The order of the values; any total order would do.
 const ASCENDING: SortKey = SortKey {
     desc: false,
     nulls_first: false,
@@ -25,7 +25,7 @@ pub(crate) fn row_order(alloc: Global, rows: &[Row]) -> Result<Vec<u64>, OutOfMe
     Ok(order)
 }
 
-/// Whether the first positions show the same rows, place by place, as the second ones.
+/// Whether the rows at the first positions equal those at the second ones, place by place.
 pub(crate) fn show_the_same(
     first: &[Row],
     first_order: &[u64],
@@ -59,7 +59,7 @@ fn compare_rows_at(rows: &[Row], p: u64, q: u64) -> Ordering
     compare_rows(row_in(rows, p), row_in(rows, q))
 }
 
-/// The first values that differ decide, and where there are none the lengths.
+/// The order of two rows: the first values that differ decide, or else the lengths.
 fn compare_rows(a: &[Value], b: &[Value]) -> Ordering
     ensures { result ≡ spec.compare_rows a.now b.now }
 {

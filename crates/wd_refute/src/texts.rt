@@ -10,17 +10,17 @@ use crate::laws::{refuted_has_no_certificate, refuted_is_taken};
 use std::alloc::Global;
 use wd_query::read_texts;
 
-/// What `refute` answers for a witness that is true.
+/// The result of `refute` for a true witness.
 #[derive(Clone, Copy)]
 pub struct Refuted;
 
-/// Whether a witness's text spells a true witness of the plan of a schema's text and a query's text: its tables meet the schema,
-/// its two choices are valid, and the plan's outcomes under them do not agree, being rows of which some row has another number in
-/// the other, or rows and a fault, or two faults. Nothing of the witness is trusted: both outcomes are evaluated. Where it does,
-/// `verify` accepts no certificate for the two texts.
+/// Whether a witness's text spells a true witness of the plan of a schema's text and a query's text: its tables meet the schema, its two
+/// choices are valid, and the plan's outcomes under them do not agree. They are rows of which some row appears more often in one outcome
+/// than in the other, or rows and a fault, or two different faults. Nothing of the witness is trusted: both outcomes are evaluated. For a
+/// true witness `verify` accepts no certificate for the two texts.
 ///
-/// Each refusal comes only where its cause stands, in this order: 101 to 107 and 301 to 309 of the schema; 101 to 107, 201, 202 and
-/// 401 to 415 of the query; 601 of the witness's text; 602 of its tables; then of the first choice and of the second 603, and 802
+/// A refusal is returned only where its cause is in the inputs, in this order: 101 to 107 and 301 to 309 of the schema; 101 to 107, 201,
+/// 202 and 401 to 419 of the query; 601 of the witness's text; 602 of its tables; then of the first choice and of the second 603, and 802
 /// where a step has more than 10,000,000 rows; 604.
 pub fn refute(
     alloc: Global,

@@ -1,4 +1,4 @@
--- What is printed of a plan: its nodes in postorder, and which rules its calls and limits have.
+-- What is printed of a plan: its nodes in postorder, and the rules of its calls and limits.
 use Rattle.std.specs.Prelude.{◌≡◌, ℕ, Bool, ◌+◌, ◌&&◌, List, [], ◌∷◌, ◌++◌, codes, nat_eq, slice_get, Option, Some, None, is_some, option_map, if◌then◌else◌}
 use Rattle.std.specs.Fmt.{decimal}
 use Rattle.std.specs.List.{find}
@@ -25,7 +25,7 @@ use Rattle.wd_report.specs.Words.{line, rule_word, verdict_word}
 
 -- ---- rules
 
--- the mark is that of a call of a node, or of its limit
+-- the mark is that of a node's call, or of its limit
 abbrev pub is_mark_of : ℕ → Option ℕ → Mark → Bool
 is_mark_of node call mark = nat_eq mark.node node && option_eq nat_eq mark.call call
 
@@ -55,7 +55,7 @@ abbrev pub call_line : Analysis → ℕ → ℕ → Call → List ℕ
 call_line analysis node number call =
     line (codes "  call " ++ decimal number ++ codes " " ++ functions.word (functions.name_of call.function) ++ codes " class " ++ decimal call.class ++ codes " " ++ rule_word (call_rule analysis node number))
 
--- of the calls from a number on
+-- the lines of the calls from a number on
 abbrev pub call_lines : Analysis → ℕ → ℕ → List Call → List ℕ
 call_lines analysis node number [] = []
 call_lines analysis node number (call ∷ calls) = call_line analysis node number call ++ call_lines analysis node (number + 1) calls
@@ -68,7 +68,8 @@ abbrev pub table_name : Option TableRule → List ℕ
 table_name None = []
 table_name (Some table) = table.name
 
--- the lines of a plan's top node, which has this number: of a Scan with the table, of a Window with a line for each call, of a Limit with its rule
+-- the lines of a plan's top node, which has this number: a Scan's with its table, a Window's with a line for each call, a Limit's with
+-- its rule
 abbrev pub top_lines : List TableRule → Analysis → ℕ → PlanTree → List ℕ
 top_lines tables analysis node (Scan table columns) = line (node_words node (codes "Scan " ++ table_name (slice_get tables table)) columns)
 top_lines tables analysis node (Join condition left right) = line (node_words node (codes "Join") (width (Join condition left right)))
@@ -95,7 +96,7 @@ plan_lines tables analysis first (Limit limit input) = plan_lines tables analysi
 abbrev pub explanation : List TableRule → PlanTree → Analysis → Verdict → List ℕ
 explanation tables plan analysis verdict = plan_lines tables analysis 0 plan ++ line (verdict_word verdict)
 
--- what is printed of a plan and what was found of it, with the status of the verdict
+-- what is printed of a plan and the findings on it, with the status of the verdict
 pub record Explains (examined : Examined) (text : List ℕ) (status : ℕ) : Type 0 where
   pub verdict : Verdict
   pub given : IsVerdictOf (schema_of examined.planned.schema) (plan_of examined.planned.resolved.plan) examined.analysis verdict

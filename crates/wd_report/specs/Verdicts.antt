@@ -20,7 +20,7 @@ evidence_lines (Deterministic certificate) = line (certificate_text (certificate
 evidence_lines (Depends witness) = line (witness_text (witness_of witness))
 evidence_lines (Unknown reasons) = flat_map reason_line reasons.items
 
--- the verdict's word on a line, and what stands for it
+-- the verdict's word on a line, followed by its evidence
 abbrev pub verdict_text : Verdict → List ℕ
 verdict_text verdict = line (verdict_word verdict) ++ evidence_lines verdict
 
@@ -30,7 +30,7 @@ verdict_status (Deterministic certificate) = 0
 verdict_status (Depends witness) = 1
 verdict_status (Unknown reasons) = 2
 
--- of a verdict on a list: the certificate on a line, why the order is open, or as of a verdict
+-- for a verdict on a list: the certificate on a line, why the order is open, or the same as for a verdict
 abbrev pub list_lines : ListVerdict → List ℕ
 list_lines (list.Listed certificate) = line (certificate_text (certificate_of certificate))
 list_lines (list.Unlisted reason) = line (order_words reason)

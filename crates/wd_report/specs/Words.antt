@@ -1,4 +1,4 @@
--- The words that verdicts, rules, functions and reasons have in print.
+-- The printed words of verdicts, rules, functions and reasons.
 use Rattle.std.specs.Prelude.{ℕ, List, ◌∷◌, [], ◌++◌, codes, Option, Some, None}
 use Rattle.std.specs.Fmt.{decimal}
 use Rattle.wd_analyse.specs.declared.analysis.RuleName.{RuleName}
@@ -32,7 +32,7 @@ abbrev pub order_words : ListReason → List ℕ
 order_words reason.NoOrder = codes "list: no final order"
 order_words (reason.Column node column) = codes "node " ++ decimal node ++ codes " list: keys do not give column " ++ decimal column
 
--- a rule's name; what has no rule is open
+-- a rule's name; `open` for no rule
 abbrev pub rule_word : Option RuleName → List ℕ
 rule_word None = codes "open"
 rule_word (Some Peers) = codes "peers"

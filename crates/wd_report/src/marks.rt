@@ -15,7 +15,7 @@ pub(crate) struct MarkedRules {
 }
 
 impl MarkedRules {
-    /// The rules of these marks. Of marks that have the same node and call, the first counts.
+    /// The rules of these marks. Of several marks of one node and call, the first counts.
     pub(crate) fn new(alloc: Global, marks: &[Mark]) -> Result<MarkedRules, OutOfMemory>
         ensures { IfOk result (HasRules marks.now) }
     {

@@ -17,9 +17,9 @@ use wd_plan::{Call, Plan};
 use wd_schema::Schema;
 use wd_value::OutOfMemory;
 
-/// The nodes of the plan in postorder, each with its number, its kind and how many columns it has, a Scan with its table, a Limit
-/// with its rule, a Window with a line for each call, which says its rule; last the verdict's word. What has no rule is open. The
-/// status is that of the verdict.
+/// The nodes of the plan in postorder, each with its number, its kind and its number of columns, a Scan with its table, a Limit with its
+/// rule, a Window with a line for each call and its rule; then the verdict's word. A call or limit without a rule is open. The status is
+/// that of the verdict.
 pub fn explain(alloc: Global, examined: Examined) -> Result<Output, OutOfMemory>
     requires { fits (schema_of examined.planned.schema) (plan_of examined.planned.resolved.plan) ≡ true }
     ensures { IfOk result (λ r. spec.Explains examined r.text.items r.status) }
@@ -51,8 +51,8 @@ fn plan_text(alloc: Global, examined: &Examined) -> Result<String, OutOfMemory>
     Ok(text)
 }
 
-/// Adds the lines of a plan's nodes, which are numbered from one on; the number behind them. There is a line for each number, so
-/// that no number exceeds the length of the text.
+/// Adds the lines of a plan's nodes, which are numbered from `first` on; the result is the number after them. There is a line for each
+/// number, so no number exceeds the length of the text.
 fn add_plan(
     text: &mut String,
     schema: &Schema,
@@ -85,7 +85,7 @@ fn add_plan(
     }
 }
 
-/// Adds the lines of a plan's top node, which has this number; the next number.
+/// Adds the lines of a plan's top node, which has this number; the result is the next number.
 fn add_node(
     text: &mut String,
     schema: &Schema,

@@ -15,7 +15,7 @@ use wd_certificate::Certificate;
 use wd_plan::Limit;
 use wd_value::OutOfMemory;
 
-/// What is found of a plan, with the rules of its marks.
+/// The findings on a plan, with the rules of its marks.
 #[derive(Drop)]
 pub(crate) struct Rules<'a> {
     pub(crate) analysis: &'a Analysis,
@@ -66,7 +66,7 @@ fn marked_rules(alloc: Global, analysis: &Analysis) -> Result<MarkedRules, OutOf
     }
 }
 
-/// The rule that a certificate has of a node's call.
+/// The rule of a node's call in a certificate.
 fn certified_call(certificate: &Certificate, node: u64, call: u32) -> Option<RuleName>
     ensures { result ≡ option_map name_of (slice_get (entry_at (nodes_of certificate.now) node).calls call) }
 {
@@ -75,7 +75,7 @@ fn certified_call(certificate: &Certificate, node: u64, call: u32) -> Option<Rul
     Some(RuleName::of(*rule))
 }
 
-/// The trace that a certificate has of a node's limit.
+/// The trace of a node's limit in a certificate.
 fn certified_limit(certificate: &Certificate, node: u64) -> Option<u64>
     ensures { result ≡ (entry_at (nodes_of certificate.now) node).limit }
 {

@@ -114,7 +114,7 @@ fn unlisted(alloc: Global, reason: ListReason) -> Result<Vec<u8>, OutOfMemory>
     Ok(text.into_bytes())
 }
 
-/// Adds why the order is open.
+/// Adds the reason why the order is open.
 fn add_order(text: &mut String, reason: ListReason) -> Result<(), OutOfMemory>
     ensures { IfOk result (λ _. string_bytes text.new ≡ string_bytes text.old ++ order_words reason) }
 {

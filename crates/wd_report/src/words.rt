@@ -1,4 +1,4 @@
-//! The words that functions and rules have in print.
+//! The printed words of functions and rules.
 
 ghost use Rattle.std.specs.Prelude.{◌≡◌};
 ghost use Rattle.wd_plan.specs.Functions.{word};
@@ -28,7 +28,7 @@ pub(crate) fn function_word(name: FunctionName) -> &'static str
     }
 }
 
-/// A rule's name; what has no rule is open.
+/// A rule's name; `open` for no rule.
 pub(crate) fn rule_word(rule: Option<RuleName>) -> &'static str
     ensures { result.now ≡ spec.rule_word rule }
 {

@@ -8,7 +8,7 @@ use Rattle.wd_resolve.specs.declared.query.Resolved.{Resolved}
 use Rattle.wd_resolve_list.specs.declared.output.OutputColumn.{OutputColumn}
 use Rattle.wd_resolve.specs.Lowering.{is_sorted, lowering}
 
--- a plan, the names of its outputs, and whether the order of its rows is asked for
+-- a plan, the names of its outputs, and whether the query orders its rows
 pub record Answer : Type 0 where
   pub plan : PlanTree
   pub names : List (List ℕ)
@@ -28,6 +28,6 @@ has_order (select parts first joins) = is_sorted parts.tail.order
 abbrev pub is_ordered : QueryTree → Bool
 is_ordered (query s semicolon) = has_order s
 
--- the plan of a query under a schema, the names of its outputs, and whether it is ordered; or the first cause for which it has none
+-- the plan of a query under a schema, the names of its outputs, and whether it is ordered; or the first cause for which it has no plan
 abbrev pub answer : List TableRule → QueryTree → Meant Answer
 answer tables tree = lowering tables tree >>= λ l. Ok (record { plan = l.plan; names = map name_in l.columns; ordered = is_ordered tree })

@@ -12,8 +12,8 @@ use Rattle.wd_plan.specs.Fits.{fits}
 use Rattle.wd_plan.specs.Plans.{LimitRule, PlanTree, Limit, Map}
 use Rattle.wd_resolve.specs.Answers.{Answer, answer}
 
--- The plan and the names read a schema's text and a query's text: they are those of the well-levelled tree that spells the
--- query's tokens, over the tables that the other text declares.
+-- The plan and the names are those of a schema's text and a query's text: of the well-levelled tree that spells the query's tokens, over
+-- the tables that the schema's text declares.
 pub record Reads (schema query : List ℕ) (a : Answer) : Type 0 where
   pub tables : List TableRule
   pub tokens : List Token
@@ -28,10 +28,10 @@ pub record Reads (schema query : List ℕ) (a : Answer) : Type 0 where
 abbrev pub PlansFit : Type 0
 PlansFit = (tables : List TableRule) (tree : QueryTree) (a : Answer) → answer tables tree ≡ Ok a → fits tables a.plan ≡ true
 
--- a Limit is a plan's top node, or stands right below a Map at its top
+-- a plan's top node is a Limit, or a Map whose input is a Limit
 abbrev pub EndsInLimit : PlanTree → Type 0
 EndsInLimit plan = (limit : LimitRule) × (input : PlanTree) × ((plan ≡ Limit limit input) ⊎ ((outputs : List Expression) × (plan ≡ Map outputs (Limit limit input))))
 
--- So does the plan of each query whose outermost select has ORDER BY: the Map drops hidden sort keys.
+-- The plan of each query whose outermost select has ORDER BY ends so: the Map drops hidden sort keys.
 abbrev pub OrderedEndInLimit : Type 0
 OrderedEndInLimit = (tables : List TableRule) (tree : QueryTree) (a : Answer) → answer tables tree ≡ Ok a → a.ordered ≡ true → EndsInLimit a.plan

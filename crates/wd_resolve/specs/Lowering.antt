@@ -1,5 +1,5 @@
--- The plan of a query: its tables, its condition, its windows, its outputs, its order and its limits, one step over the other
--- (SQL, query specification, query expression; PG, SELECT).
+-- The plan of a query: its tables, its condition, its windows, its outputs, its order and its limits, each step over the one before (SQL,
+-- query specification, query expression; PG, SELECT).
 use Rattle.std.specs.Prelude.{Bool, true, false, List, [], Option, Some, None, option_map, Ok}
 use Rattle.wd_syntax.specs.declared.query.Quantifier.{Quantifier}
 use Rattle.wd_syntax.specs.declared.query.Quantifier.TheVariants.{All, Distinct as DistinctRows}
@@ -42,7 +42,7 @@ shown_sorted s order limits plan = do
   cut ← cut_meant (is_sorted order) limits
   Ok (lowered_shown s sorted cut plan)
 
--- what is left of a select after its FROM and its WINDOW: the select list, ORDER BY and the limits, from left to right
+-- a select after its FROM and its WINDOW: the select list, ORDER BY and the limits, from left to right
 abbrev pub selected : ScopeRule → Below → PlanTree → List KnownMeaning → Parts → Meant Lowered
 selected scope below plan windows parts = do
   outputs ← list_meant below (record { scope = scope; groups = option_map grouped_rule below.grouped; windows = windows; place = place.SelectList }) parts.items
@@ -57,13 +57,13 @@ behind_from from parts = do
   known ← all_defined from.scope (option_map grouped_rule grouped) [] parts.tail.windows
   selected from.scope below plan known parts
 
--- a table after a comma begins a new row of joins
+-- a table after a comma begins a new sequence of joins
 abbrev pub behind_comma : FromSoFar → JoinedTables → Meant FromSoFar
 behind_comma from part = do
   p ← next_admitted from part
   Ok (record { before = Some (together from.before from.current); current = p })
 
--- a table joined to those before it, back to the last comma, on all pairs or on a condition
+-- a table joined to those since the last comma, with all pairs or on a condition
 abbrev pub joined_to : FromSoFar → Option Expression → JoinedTables → FromSoFar
 joined_to from condition part = record { before = from.before; current = joined condition from.current part }
 
@@ -72,7 +72,7 @@ crossed from part = do
   p ← next_admitted from part
   Ok (joined_to from None p)
 
--- ON sees the tables back to the last comma
+-- ON sees the tables since the last comma
 abbrev pub joined_on : FromSoFar → Tree → JoinedTables → Meant FromSoFar
 joined_on from on part = do
   p ← next_admitted from part
@@ -106,6 +106,6 @@ abbrev mutual
   join_meant tables (cross table) from = table_meant tables table >>= λ part. crossed from part
   join_meant tables (inner with_inner table on) from = table_meant tables table >>= λ part. joined_on from on part
 
--- the plan of a query under a schema, and the names and kinds of its columns; or the first cause for which it has none
+-- the plan of a query under a schema, and the names and kinds of its columns; or the first cause for which it has no plan
 abbrev pub lowering : List TableRule → QueryTree → Meant Lowered
 lowering tables (query s semicolon) = lowered tables s

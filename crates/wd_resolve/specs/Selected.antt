@@ -1,4 +1,4 @@
--- The tables of FROM, and what a select gives to the query around it.
+-- The tables of FROM, and what the query around a select sees of it.
 use Rattle.std.specs.Prelude.{ℕ, ◌||◌, List, [], ◌∷◌, map, length, nat_lt, position, Bool, false, Option, Some, None, option_map, Ok, Err, slice_get, if◌then◌else◌}
 use Rattle.std.specs.List.{list_any}
 use Rattle.std.specs.Option.{option_map_or}
@@ -20,7 +20,7 @@ use Rattle.wd_resolve.specs.declared.part.JoinedTables.{JoinedTables as CodeJoin
 use Rattle.wd_resolve.specs.declared.part.FromSoFar.{FromSoFar as CodeFrom}
 use Rattle.wd_resolve.specs.declared.part.LoweredSelect.{LoweredSelect}
 
--- tables joined to one another: their columns, and the plan that gives them
+-- tables joined to one another: their columns, and the plan that has these columns
 pub record JoinedTables : Type 0 where
   pub scope : ScopeRule
   pub plan : PlanTree
@@ -42,7 +42,7 @@ table_column table column = record { table = table; name = column.name; kind = k
 abbrev pub derived_column : List ℕ → OutputColumn → ScopeColumn
 derived_column table column = record { table = table; name = column.name; kind = column.kind }
 
--- a table is called by its alias, or else by its own name
+-- a table's name in FROM: its alias, or else its own name
 abbrev pub called : Name → Option Alias → List ℕ
 called name None = name.text
 called name (Some alias) = alias.name.text
@@ -68,11 +68,11 @@ is_named tables name number = option_map_or (has_name name) (slice_get tables nu
 abbrev pub table_number : List TableRule → List ℕ → Option ℕ
 table_number tables name = position (has_name name) tables
 
--- the schema's table of a name, called by another name in FROM
+-- the schema's table of a name, under another name in FROM
 abbrev pub named_table : List TableRule → List ℕ → List ℕ → Meant JoinedTables
 named_table tables table name = scan_at tables name (table_number tables table)
 
--- a derived table is its own plan
+-- the plan of a derived table is that of its select
 abbrev pub derived_table : List ℕ → Lowered → JoinedTables
 derived_table name lowered = record { scope = record { tables = name ∷ []; columns = map (derived_column name) lowered.columns }; plan = lowered.plan }
 
@@ -86,11 +86,11 @@ pub record FromSoFar : Type 0 where
 abbrev pub from_of : CodeFrom → FromSoFar
 from_of from = record { before = option_map joined_of from.before; current = joined_of from.current }
 
--- two parts, one beside the other, with the condition that joins them
+-- two parts, the left one first, with the condition that joins them
 abbrev pub joined : Option Expression → JoinedTables → JoinedTables → JoinedTables
 joined condition left right = record { scope = beside left.scope right.scope; plan = Join condition left.plan right.plan }
 
--- what the commas part is joined to the left without condition
+-- the parts between commas, joined from the left without a condition
 abbrev pub together : Option JoinedTables → JoinedTables → JoinedTables
 together None current = current
 together (Some before) current = joined None before current
@@ -99,14 +99,14 @@ together (Some before) current = joined None before current
 abbrev pub scope_so_far : FromSoFar → ScopeRule
 scope_so_far from = (together from.before from.current).scope
 
--- a FROM has at most 8 tables and 1,024 columns (own)
+-- a FROM has at most 8 tables and 1,024 columns (this project's choice)
 abbrev pub are_too_many : ℕ → ℕ → Bool
 are_too_many tables columns = nat_lt 8 tables || nat_lt 1024 columns
 
 abbrev pub is_too_large : ScopeRule → Bool
 is_too_large scope = are_too_many (length scope.tables) (length scope.columns)
 
--- a further table, of a name that no other of this FROM has
+-- a further table, whose name no other table of this FROM has
 abbrev pub admitted : ScopeRule → JoinedTables → Meant JoinedTables
 admitted scope part = if list_any (has_table scope) part.scope.tables then Err Ambiguous else (if is_too_large (beside scope part.scope) then Err TooMany else Ok part)
 
@@ -114,6 +114,6 @@ admitted scope part = if list_any (has_table scope) part.scope.tables then Err A
 abbrev pub first_admitted : JoinedTables → Meant FromSoFar
 first_admitted part = admitted (record { tables = []; columns = [] }) part >>= λ p. Ok (record { before = None; current = p })
 
--- a further table beside all that stand before it
+-- a further table after those before it
 abbrev pub next_admitted : FromSoFar → JoinedTables → Meant JoinedTables
 next_admitted from part = admitted (scope_so_far from) part

@@ -7,8 +7,7 @@ pub fn plans_fit()
     ensures { PlansFit }
 {}
 
-/// The plan of a query whose outermost select has ORDER BY ends in a Limit, or in the Map that drops
-/// hidden sort keys from one.
+/// The plan of a query whose outermost select has ORDER BY ends in a Limit, or in a Map over a Limit that drops hidden sort keys.
 pub fn ordered_end_in_limit()
     ensures { OrderedEndInLimit }
 {}

@@ -1,4 +1,4 @@
-//! What a select list has listed.
+//! The part of a select list that is read.
 
 ghost use Rattle.std.specs.Prelude.{◌≡◌, ◌≤◌, [], false, map, vec_len};
 ghost use Rattle.wd_resolve_list.specs.Grouping.{below_of};
@@ -7,8 +7,8 @@ ghost use Rattle.wd_resolve_list.specs.Outputs.{expressions_of, output_of};
 
 use wd_resolve_select::{Below, Needs, Output};
 
-/// The outputs of a select list over what stands below its windows, at most 1,024, and what they need of the rows below them; no node
-/// is too wide for them.
+/// The outputs of a select list over what is below its windows, at most 1,024, and what they need of the rows below them; no node is too
+/// wide for them.
 #[derive(Drop)]
 pub struct Listed {
     pub below: Below,

@@ -1,4 +1,4 @@
-//! What FROM and selects are made of on the way to a plan.
+//! The parts of a plan while FROM and selects are read.
 
 ghost use Rattle.std.specs.Prelude.{◌≤◌, ◌+◌, vec_len};
 ghost use Rattle.wd_resolve.specs.Widths.{tables_before, columns_before};
@@ -15,7 +15,7 @@ pub struct LoweredSelect {
     pub ghost narrow: { vec_len columns ≤ 1024 },
 }
 
-/// Tables joined to one another: their columns, and the plan that gives them.
+/// Tables joined to one another: their columns, and the plan that has these columns.
 #[derive(Drop)]
 pub struct JoinedTables {
     pub scope: Scope,

@@ -26,8 +26,8 @@ pub struct Resolved {
     pub ordered: bool,
 }
 
-/// The plan of a query under a schema, the names of its outputs, and whether it is ordered. Each name stands for the one column in scope that carries
-/// it. Refused by 401 to 415 just where one of these causes stands in the query. The plan fits the schema.
+/// The plan of a query under a schema, the names of its outputs, and whether it is ordered. A name stands for the only column in scope
+/// that carries it. An error of 401 to 419 is the first cause for which the query has no plan. The plan fits the schema.
 pub fn resolve(alloc: Global, schema: &Schema, query: &Query) -> Result<Resolved, ResolveError>
     ensures fitting { IfOk result (λ r. fits (schema_of schema.now) (plan_of r.plan) ≡ true) }
     ensures meant { Gives resolved_of result (answer (schema_of schema.now) (view_query query.now)) }

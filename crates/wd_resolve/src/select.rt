@@ -56,7 +56,7 @@ pub fn lowered(
     behind_from(alloc, part, select)
 }
 
-/// The tables of FROM after the first, from left to right.
+/// The tables of FROM after the first, joined from left to right.
 #[cycle(select)]
 fn joins_meant(
     alloc: Global,
@@ -138,7 +138,7 @@ fn behind_from(
     selected(alloc, &scope, below, plan, &windows, select)
 }
 
-/// What is left of a select after its FROM, its WHERE and its WINDOW.
+/// A select after its FROM, WHERE, GROUP BY, HAVING and WINDOW: the select list, ORDER BY and the limits.
 fn selected(
     alloc: Global,
     scope: &Scope,
@@ -171,7 +171,7 @@ fn is_distinct(quantifier: Option<Quantifier>) -> bool
     }
 }
 
-/// No member of a select list yet.
+/// An empty select list.
 fn nothing_listed(alloc: Global, below: Below) -> Listed
     ensures below { below_of result.below ≡ below_of below }
     ensures nothing { map output_of result.outputs.items ≡ [] }
@@ -203,7 +203,7 @@ fn list_meant(
     Ok(listed)
 }
 
-/// A further member of a select list: 415 after its other refusals.
+/// Adds a member of the select list; 415 comes after the member's other refusals.
 fn item_listed(
     alloc: Global,
     scope: &Scope,
@@ -240,7 +240,7 @@ fn item_shown<'a>(
     item_meant(alloc, &context, item)
 }
 
-/// Further outputs, and what all need.
+/// The outputs with further ones, and what all of them need.
 #[tactic(auto, using(crate::proofs::More::needs_listed))]
 fn with_outputs(
     alloc: Global,
@@ -263,7 +263,7 @@ fn with_outputs(
     Ok((below, outputs, needs))
 }
 
-/// Outputs for which no node is too wide; else 415.
+/// The outputs, if no node is too wide for them; else 415.
 #[tactic(auto, using(crate::proofs::More::few_listed))]
 fn narrow(
     alloc: Global,
@@ -341,7 +341,7 @@ fn shown_sorted(
     Ok(plan_shown(alloc, scope, &below, distinct, outputs, sorted, cut, plan)?)
 }
 
-/// The plan of what a select shows, sorts by and cuts.
+/// The plan of what a select shows, sorts by and cuts off.
 fn plan_shown(
     alloc: Global,
     scope: &Scope,
@@ -371,7 +371,7 @@ fn plan_shown(
     Ok(LoweredSelect { plan, columns })
 }
 
-/// A Map of outputs and hidden sort keys, over what stands below them.
+/// A Map of outputs and hidden sort keys, over what is below them.
 fn all_mapped(
     alloc: Global,
     needs: Needs,

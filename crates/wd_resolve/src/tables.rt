@@ -48,7 +48,7 @@ fn is_named(schema: &Schema, number: usize, name: &Text) -> bool
     }
 }
 
-/// A column of a table of the schema, as a column in scope.
+/// The columns of a table of the schema, as columns in scope.
 fn scope_columns(alloc: Global, table: &Table, name: &Text) -> Result<Vec<ScopeColumn>, OutOfMemory>
     ensures columns { IfOk result (λ v. v.items ≡ map (spec.table_column name.now) (table_of table.now).columns) }
     ensures as_many { IfOk result (λ v. vec_len v ≡ vec_len table.now.columns) }
@@ -64,7 +64,7 @@ fn scope_columns(alloc: Global, table: &Table, name: &Text) -> Result<Vec<ScopeC
     Ok(columns)
 }
 
-/// A table of the schema, which is called by a name in FROM, as a Scan.
+/// A table of the schema as a Scan, under its name in FROM.
 fn scan(alloc: Global, number: u16, table: &Table, name: Text) -> Result<JoinedTables, ResolveError>
     requires { vec_len table.now.columns ≤ 256 }
     ensures { Gives joined_of result (spec.scan name number (Some (table_of table.now))) }
@@ -81,7 +81,7 @@ fn scan(alloc: Global, number: u16, table: &Table, name: Text) -> Result<JoinedT
     })
 }
 
-/// The schema's table of a name, which is called by another name in FROM: 401 where there is none.
+/// The schema's table of a name, under another name in FROM; 401 where there is none.
 pub fn named_table(
     alloc: Global,
     schema: &Schema,
@@ -119,7 +119,7 @@ fn derived_columns(
     Ok(columns)
 }
 
-/// A derived table, which is its own plan.
+/// A derived table: the plan of its select.
 pub fn derived_table(
     alloc: Global,
     name: &Text,
@@ -137,7 +137,7 @@ pub fn derived_table(
     })
 }
 
-/// Two scopes, one beside the other.
+/// Two scopes, the columns of the left one first.
 fn beside(left: Scope, right: Scope) -> Result<Scope, OutOfMemory>
     requires { vec_len left.columns + vec_len right.columns ≤ 1024 }
     ensures beside { IfOk result (λ s. scope_of s ≡ scopes.beside (scope_of left) (scope_of right)) }
@@ -154,7 +154,7 @@ fn beside(left: Scope, right: Scope) -> Result<Scope, OutOfMemory>
     Ok(Scope { tables, columns })
 }
 
-/// Two parts, one beside the other, with the condition that joins them.
+/// Two parts, the left one first, with the condition that joins them.
 fn joined(
     alloc: Global,
     condition: Option<Expr>,
@@ -177,7 +177,7 @@ fn joined(
     })
 }
 
-/// What commas part, joined to the left without condition.
+/// The parts between commas, joined from the left without a condition.
 fn together_of(
     alloc: Global,
     before: Option<JoinedTables>,
@@ -248,14 +248,14 @@ fn column_count(from: &FromSoFar) -> usize
     }
 }
 
-/// Whether so many tables or columns are too many for one FROM.
+/// Whether one FROM may not have these numbers of tables and columns.
 fn is_too_large(tables: usize, columns: usize) -> bool
     ensures { result ≡ spec.are_too_many tables columns }
 {
     tables > MOST_TABLES || columns > MOST_COLUMNS
 }
 
-/// The first table: 415 past 8 tables or 1,024 columns.
+/// The first table; 415 past 8 tables or 1,024 columns.
 #[tactic(auto, using(crate::proofs::Beside::none_shared))]
 pub fn first_admitted(part: JoinedTables) -> Result<FromSoFar, ResolveError>
     ensures { Gives from_of result (spec.first_admitted (joined_of part)) }
@@ -269,7 +269,7 @@ pub fn first_admitted(part: JoinedTables) -> Result<FromSoFar, ResolveError>
     })
 }
 
-/// Whether a further part may stand in FROM: 403 where a name stands there, 415 past 8 tables or 1,024 columns.
+/// Checks a further part of FROM: 403 where FROM has its name, 415 past 8 tables or 1,024 columns.
 fn admit(from: &FromSoFar, part: &JoinedTables) -> Result<(), ResolveError>
     ensures meant { Gives (λ u. joined_of part.now) result (spec.next_admitted (from_of from.now) (joined_of part.now)) }
     ensures few { IfOk result (λ u. tables_before from.now.before + vec_len from.now.current.scope.tables + vec_len part.now.scope.tables ≤ 8) }
@@ -286,7 +286,7 @@ fn admit(from: &FromSoFar, part: &JoinedTables) -> Result<(), ResolveError>
     Ok(())
 }
 
-/// A table after a comma begins a new row of joins.
+/// A table after a comma, which begins a new sequence of joins.
 pub fn behind_comma(
     alloc: Global,
     from: FromSoFar,
@@ -302,7 +302,7 @@ pub fn behind_comma(
     })
 }
 
-/// A table joined to those before it, back to the last comma, on all pairs.
+/// A table joined to those since the last comma, with all pairs of rows.
 pub fn crossed(
     alloc: Global,
     from: FromSoFar,
@@ -316,7 +316,7 @@ pub fn crossed(
     Ok(FromSoFar { before, current })
 }
 
-/// A table joined to those before it, back to the last comma, on a condition over all of these.
+/// A table joined to those since the last comma, on a condition over all of these.
 pub fn joined_on(
     alloc: Global,
     from: FromSoFar,

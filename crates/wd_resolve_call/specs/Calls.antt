@@ -28,7 +28,7 @@ use Rattle.wd_resolve_call.specs.Windows.{KeyMeaning, WindowMeaning, window_of}
 pub data FunctionMeaning : Type 0 where
   -- a number by the row's place; NTILE with its number of buckets
   ranking : Ranking → FunctionMeaning
-  -- LAG and LEAD: the value of the argument so many rows away, or a default
+  -- LAG and LEAD: the value of the argument the given number of rows away, or a default
   away : Direction → ArgumentMeaning RowFormula → ℕ → Value → FunctionMeaning
   -- the value of the argument at one row of the frame
   value_at : FrameRow → ArgumentMeaning RowFormula → FunctionMeaning
@@ -91,7 +91,7 @@ same_bound a b = false
 abbrev pub same_frame : Frame → Frame → Bool
 same_frame f g = (sameb mode f.mode g.mode && sameb exclusion f.exclusion g.exclusion) && (same_bound f.start g.start && same_bound f.end g.end)
 
--- one order, one partition, one frame; whether the frame is written does not count
+-- equal order, partition and frame; whether the frame is written does not count
 abbrev pub same_window : WindowMeaning → WindowMeaning → Bool
 same_window v w = same_frame v.frame w.frame && (pointwise same_key v.order w.order && pointwise same_row_formula v.partition w.partition)
 

@@ -1,4 +1,4 @@
--- How contracts see what a call without OVER may be.
+-- How contracts see the functions that are called without OVER.
 use Rattle.wd_resolve_call.specs.declared.function.GroupFunction.{GroupFunction as Code}
 use Rattle.wd_resolve_call.specs.declared.function.GroupFunction.TheVariants as code
 use Rattle.wd_resolve_call.specs.Functions.{GroupFunction, aggregates, grouped}

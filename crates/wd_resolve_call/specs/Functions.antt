@@ -25,7 +25,7 @@ use Rattle.wd_resolve_call.specs.Leaves.{SelectLeaf, of_row, over_columns, over_
 abbrev pub function_names : List FunctionName
 function_names = RowNumber ∷ Rank ∷ DenseRank ∷ Ntile ∷ Lag ∷ Lead ∷ FirstValue ∷ LastValue ∷ NthValue ∷ Count ∷ Sum ∷ Min ∷ Max ∷ []
 
--- the function among these whose word a name is
+-- the function among these that has the name
 abbrev pub function_in : List FunctionName → List ℕ → Option FunctionName
 function_in [] name = None
 function_in (function ∷ functions) name = if bytes_eq (word function) name then Some function else function_in functions name
@@ -35,17 +35,17 @@ function_named = function_in function_names
 
 -- ---- arguments
 
--- a whole number of at least so much
+-- a whole number that is not below a bound
 abbrev pub at_least : ℕ → ℤ → Meant ℕ
 at_least least (pos n) = if nat_le least n then Ok n else Err WrongCall
 at_least least (negsuc n) = Err WrongCall
 
--- a literal whole number of at least so much
+-- a literal whole number that is not below a bound
 abbrev pub whole : ℕ → Operand SelectLeaf → Meant ℕ
 whole least (typed (Literal (Int n) kind) other) = at_least least n
 whole least a = Err WrongCall
 
--- a literal of a kind; a bare NULL takes it
+-- a literal of a kind; a bare NULL takes the kind
 abbrev pub default_of : ValueKind → Operand SelectLeaf → Meant Value
 default_of kind bare_null = Ok Null
 default_of kind (typed (Literal v other) k) = if same_kind kind other then Ok v else Err WrongCall
@@ -53,29 +53,29 @@ default_of kind (typed a other) = Err WrongCall
 
 -- ---- functions over their arguments
 
--- an operand as a value argument, over what may stand in one
+-- an operand as a value argument, over the leaves that are allowed in one
 abbrev pub argument : {E : Type 0} → (Formula SelectLeaf → Meant E) → Operand SelectLeaf → Meant (ArgumentMeaning E)
 argument over x = over (settled x) >>= λ e. Ok (record { expression = e; kind = kind_of x })
 
--- a function over a value argument, in which no window call stands
+-- a function over a value argument without window calls
 abbrev pub over_argument : (ArgumentMeaning RowFormula → FunctionMeaning) → Operand SelectLeaf → Meant FunctionMeaning
 over_argument function x = argument over_rows x >>= λ a. Ok (function a)
 
--- a value argument of whole numbers; a bare NULL is one here
+-- a value argument of whole numbers; a bare NULL counts as one
 abbrev pub numbers : {E : Type 0} → (Formula SelectLeaf → Meant E) → Operand SelectLeaf → Meant (ArgumentMeaning E)
 numbers over bare_null = over (Literal Null Number) >>= λ e. Ok (record { expression = e; kind = Number })
 numbers over (typed a Number) = argument over (typed a Number)
 numbers over (typed a kind) = Err WrongCall
 
--- a value argument that MIN and MAX take
+-- a value argument that MIN and MAX accept
 abbrev pub ordered : {E : Type 0} → (Formula SelectLeaf → Meant E) → Operand SelectLeaf → Meant (ArgumentMeaning E)
 ordered over x = if has_extremes (Some (kind_of x)) then argument over x else Err WrongCall
 
--- NTH_VALUE, with the number of the row from 1
+-- NTH_VALUE, with the number of the row, from 1
 abbrev pub nth : Operand SelectLeaf → Operand SelectLeaf → Meant FunctionMeaning
 nth x n = whole 1 n >>= λ m. over_argument (value_at (Nth m)) x
 
--- LAG and LEAD, with how far and the default
+-- LAG and LEAD, with the distance and the default
 abbrev pub shifted : Direction → Operand SelectLeaf → Operand SelectLeaf → Operand SelectLeaf → Meant FunctionMeaning
 shifted direction x k d = whole 0 k >>= λ n. default_of (kind_of x) d >>= λ default. over_argument (λ a. away direction a n default) x
 
@@ -123,7 +123,7 @@ over_arguments name (x ∷ y ∷ []) = over_two name x y
 over_arguments name (x ∷ y ∷ z ∷ []) = over_three name x y z
 over_arguments name (x ∷ y ∷ z ∷ u ∷ others) = Err WrongCall
 
--- a star in the place of arguments, which COUNT alone takes
+-- a star instead of arguments, which only COUNT takes
 abbrev pub over_star : FunctionName → Meant FunctionMeaning
 over_star Count = Ok (aggregate count_rows)
 over_star name = Err WrongCall
@@ -136,7 +136,7 @@ applied (Some name) (Some arguments) = over_arguments name arguments
 
 -- ---- functions without OVER
 
--- what a call without OVER may be: an aggregate, or GROUPING
+-- the functions that are called without OVER: an aggregate, or GROUPING
 pub data GroupFunction : Type 0 where
   aggregates : FunctionName → GroupFunction
   grouped : GroupFunction
@@ -151,7 +151,7 @@ if_aggregate name = None
 abbrev pub group_function_named : List ℕ → Option GroupFunction
 group_function_named name = if bytes_eq (codes "grouping") name then Some grouped else if_aggregate (function_named name)
 
--- the columns of FROM that operands are
+-- the column of FROM that an operand is
 abbrev pub column_only : Operand SelectLeaf → Meant ℕ
 column_only (typed (Leaf (of_row (column n))) kind) = Ok n
 column_only x = Err WrongCall
@@ -160,16 +160,16 @@ abbrev pub columns_only : List (Operand SelectLeaf) → Meant (List ℕ)
 columns_only [] = Ok []
 columns_only (x ∷ xs) = column_only x >>= λ n. columns_only xs >>= λ ns. Ok (n ∷ ns)
 
--- GROUPING takes 1 to 31 columns (own)
+-- GROUPING takes 1 to 31 columns (this project's choice)
 abbrev pub grouping_over : List ℕ → Meant GroupCall
 grouping_over columns = if nat_le 1 (length columns) && nat_le (length columns) 31 then Ok (grouping columns) else Err WrongCall
 
--- an aggregate over one argument, in which only columns of FROM stand
+-- an aggregate over one argument, which reads only columns of FROM
 abbrev pub aggregate_of_one : FunctionName → List (Operand SelectLeaf) → Meant GroupCall
 aggregate_of_one name (x ∷ []) = aggregate_over over_columns name x >>= λ a. Ok (of_rows a)
 aggregate_of_one name xs = Err WrongCall
 
--- such a function over its arguments or a star
+-- a function without OVER over its arguments or a star
 abbrev pub grouped_over : GroupFunction → Option (List (Operand SelectLeaf)) → Meant GroupCall
 grouped_over (aggregates Count) None = Ok (of_rows count_rows)
 grouped_over (aggregates name) None = Err WrongCall

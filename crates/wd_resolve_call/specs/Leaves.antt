@@ -1,4 +1,4 @@
--- What an expression of a query reads: of the rows below windows, or a window call (SQL, value expression primary).
+-- What an expression of a query reads: a leaf of the rows below windows, or a window call (SQL, value expression primary).
 use Rattle.std.specs.Prelude.{Bool, false, List, map, Ok, Err}
 use Rattle.std.specs.declared.alloc.Global.{Global}
 use Rattle.std.specs.declared.vec.Vec.{Vec}
@@ -39,20 +39,19 @@ operands_of xs = map operand_of xs.items
 abbrev pub arm_of : CaseArm Code → Operand SelectLeaf × Operand SelectLeaf
 arm_of arm = operands.arm_of leaf_of arm
 
--- ----
 
--- leaves that read the same
+-- equal leaves
 abbrev pub same_leaf : SelectLeaf → SelectLeaf → Bool
 same_leaf (of_row l) (of_row m) = same_row_leaf l m
 same_leaf (call c) (call d) = same_call c d
 same_leaf a b = false
 
--- what may stand below windows: no window call
+-- the leaves that are allowed below windows: any but window calls
 abbrev pub below_windows : SelectLeaf → Meant RowLeaf
 below_windows (of_row l) = Ok l
 below_windows (call c) = Err CallNotAllowed
 
--- the expression over the rows below windows, where no window call stands in it
+-- the expression over the rows below windows, if no window call is in it
 abbrev pub over_rows : Formula SelectLeaf → Meant RowFormula
 over_rows f = over_leaves below_windows f
 

@@ -1,6 +1,6 @@
--- What an expression reads of the rows that windows are over: a column of FROM, or, where the rows are groups, an aggregate of a
--- group's rows or which columns its set lacks (SQL, value expression primary, set function specification; PG, Aggregate
--- Expressions, Grouping Operations).
+-- What an expression reads of the rows that windows are over: a column of FROM, or, where the rows are groups, an aggregate of a group's
+-- rows or a mask of the columns that its set lacks (SQL, value expression primary, set function specification; PG, Aggregate Expressions,
+-- Grouping Operations).
 use Rattle.std.specs.Prelude.{ℕ, Bool, true, false, List, [], ◌∷◌, nat_eq, Option, Some, None, Ok, Err}
 use lib.Pointwise.{pointwise}
 use Rattle.wd_plan.specs.declared.expression.ValueKind.{ValueKind}
@@ -22,12 +22,12 @@ use Rattle.wd_resolve_call.specs.declared.row.ValueArgument.{ValueArgument}
 
 -- ---- aggregates, whose arguments are expressions E
 
--- an expression that a function reads, and the kind of its values
+-- an expression as the argument of a function, and the kind of its values
 pub record ArgumentMeaning (E : Type 0) : Type 0 where
   pub expression : E
   pub kind : ValueKind
 
--- what goes by the rows alone, in whatever order they stand
+-- an aggregate over its argument; the order of the rows does not matter
 pub data AggregateMeaning (E : Type 0) : Type 0 where
   -- COUNT of a star
   count_rows : AggregateMeaning E
@@ -68,7 +68,7 @@ same_aggregate same a b = false
 
 -- a call over the rows of a group
 pub data GroupCall : Type 0 where
-  -- over the columns of FROM
+  -- an aggregate over the columns of FROM
   of_rows : AggregateMeaning Expression → GroupCall
   -- GROUPING of columns of FROM
   grouping : List ℕ → GroupCall
@@ -78,7 +78,7 @@ pub data RowLeaf : Type 0 where
   column : ℕ → RowLeaf
   of_group : GroupCall → RowLeaf
 
--- what an expression of a window or of its calls reads
+-- an expression of a window or of its calls
 abbrev pub RowFormula : Type 0
 RowFormula = Formula RowLeaf
 
@@ -86,13 +86,13 @@ abbrev pub kind_of_group_call : GroupCall → ValueKind
 kind_of_group_call (of_rows a) = kind_of_aggregate a
 kind_of_group_call (grouping columns) = Number
 
--- equal calls are one and the same function over equal arguments
+-- equal calls are one function over equal arguments
 abbrev pub same_group_call : GroupCall → GroupCall → Bool
 same_group_call (of_rows a) (of_rows b) = same_aggregate same_expression a b
 same_group_call (grouping cs) (grouping ds) = pointwise nat_eq cs ds
 same_group_call c d = false
 
--- leaves that read the same
+-- equal leaves
 abbrev pub same_row_leaf : RowLeaf → RowLeaf → Bool
 same_row_leaf (column m) (column n) = nat_eq m n
 same_row_leaf (of_group c) (of_group d) = same_group_call c d

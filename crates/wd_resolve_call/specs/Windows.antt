@@ -60,7 +60,7 @@ is_descending None = false
 is_descending (Some Ascending) = false
 is_descending (Some Descending) = true
 
--- where NULLs are not placed, they stand last ascending and first descending
+-- where NULLs are not placed, they come last ascending and first descending
 abbrev pub are_nulls_first : Option NullsPlace → Bool → Bool
 are_nulls_first None descending = descending
 are_nulls_first (Some nulls.First) descending = true
@@ -119,24 +119,24 @@ framed_by_mode mode.Rows order frame = Ok frame
 framed_by_mode mode.Range order frame = if (has_offset frame.start || has_offset frame.end) && not (is_one_number order) then Err RangeOffset else Ok frame
 framed_by_mode mode.Groups order frame = if is_empty order then Err GroupsWithoutOrder else Ok frame
 
--- the frame over these sort keys; its bounds have to stand in their order
+-- the frame over these sort keys; its bounds have to be in order
 abbrev pub frame_over : List KeyMeaning → Frame → Meant Frame
 frame_over order frame = if are_bounds frame.start frame.end then framed_by_mode frame.mode order frame else Err FrameBounds
 
 -- ---- windows that copy others
 
--- the order of a window that copies another: it gives one only where the other has none
+-- the order of a window that copies another: only one of the two may have an order
 abbrev pub order_copied : List KeyMeaning → List KeyMeaning → Meant (List KeyMeaning)
 order_copied base [] = Ok base
 order_copied [] (key ∷ keys) = Ok (key ∷ keys)
 order_copied (other ∷ others) (key ∷ keys) = Err WindowCopy
 
--- a window that copies another takes its partition and order, gives no PARTITION BY, and the other has no frame clause
+-- a window that copies another takes its partition and order and has no PARTITION BY, and the other has no frame clause
 abbrev pub copied : Option WindowMeaning → List RowFormula → List KeyMeaning → Meant (List RowFormula × List KeyMeaning)
 copied None partition order = Ok (partition, order)
 copied (Some base) partition order = if base.framed || not (is_empty partition) then Err WindowCopy else order_copied base.order order >>= λ keys. Ok (base.partition, keys)
 
--- the window with what it copies, its own partition and order, and its frame
+-- the window from the one that it copies, its own partition and order, and its frame
 abbrev pub window_meant : Option WindowMeaning → List RowFormula → List KeyMeaning → Option WrittenFrame → Meant WindowMeaning
 window_meant base partition order written = do
   frame ← frame_meant written
@@ -158,7 +158,7 @@ abbrev pub window_named : List KnownMeaning → List ℕ → Meant WindowMeaning
 window_named [] name = Err UnknownWindow
 window_named (known ∷ windows) name = if bytes_eq known.name name then Ok known.window else window_named windows name
 
--- the window that a name before a window's own clauses says
+-- the window that the name before a window's own clauses stands for
 abbrev pub base_named : List KnownMeaning → Option (List ℕ) → Meant (Option WindowMeaning)
 base_named windows None = Ok None
 base_named windows (Some name) = window_named windows name >>= λ w. Ok (Some w)

@@ -10,7 +10,7 @@ use wd_value::Value;
 #[derive(Drop)]
 pub enum AppliedFunction {
     Ranking(Ranking),
-    /// The value of the argument so many rows away, and a default where there is no such row.
+    /// The value of the argument the given number of rows away, and a default where there is no such row.
     Shift {
         direction: Direction,
         argument: ValueArgument<Formula<RowLeaf>>,

@@ -9,7 +9,7 @@ use wd_resolve_operand::{Formula, LeafMap, ResolveError, over_leaves};
 use wd_value::OutOfMemory;
 
 impl RowLeaf {
-    /// An equal leaf; calls over groups are shared.
+    /// An equal leaf, which shares calls over groups.
     pub fn copy(&self) -> Result<RowLeaf, OutOfMemory>
         ensures { IfOk result (λ l. row_leaf_of l ≡ row_leaf_of self.now) }
     {
@@ -20,7 +20,7 @@ impl RowLeaf {
     }
 }
 
-/// An equal expression of its own.
+/// An equal expression with boxes of its own.
 pub fn copy_of(alloc: Global, formula: &Formula<RowLeaf>) -> Result<Formula<RowLeaf>, OutOfMemory>
     ensures { IfOk result (λ f. row_formula_of f ≡ row_formula_of formula.now) }
 {
@@ -30,7 +30,7 @@ pub fn copy_of(alloc: Global, formula: &Formula<RowLeaf>) -> Result<Formula<RowL
     }
 }
 
-/// Each leaf becomes an equal one.
+/// Maps each leaf to an equal one.
 #[derive(Drop)]
 struct Itself;
 

@@ -17,11 +17,11 @@ use wd_plan::{Direction, FrameRow, FunctionName, Ranking, ValueKind, has_extreme
 use wd_resolve_operand::{Cause, Formula, Meaning, ResolveError};
 use wd_value::Value;
 
-/// How far LAG and LEAD go where they do not say.
+/// The distance of LAG and LEAD where it is not written.
 const ONE_ROW: u64 = 1;
 
 impl AppliedFunction {
-    /// The kind of its values.
+    /// The kind of the function's values.
     pub fn kind(&self) -> ValueKind
         ensures { result ≡ calls.kind_of_function (function_of self.now) }
     {
@@ -36,7 +36,7 @@ impl AppliedFunction {
     }
 }
 
-/// A function of a name that is folded, as unquoted names are.
+/// The function of this name, which is folded as unquoted names are.
 fn function_named(name: &str) -> Option<FunctionName>
     ensures { result ≡ spec.function_named name.now }
 {
@@ -58,7 +58,7 @@ fn function_named(name: &str) -> Option<FunctionName>
     }
 }
 
-/// A literal whole number of at least so much; else 405.
+/// A literal whole number that is not below `least`; else 405.
 fn whole(least: u64, operand: &Meaning<SelectLeaf>) -> Result<u64, ResolveError>
     ensures { Gives (λ n. n) result (spec.whole least (operand_of operand.now)) }
 {
@@ -81,7 +81,7 @@ fn at_least(least: u64, n: i64) -> Result<u64, ResolveError>
     }
 }
 
-/// The value of a default: a literal of the kind, which a bare NULL takes.
+/// The value of a default: a literal of the kind; a bare NULL takes the kind.
 fn default_of(
     alloc: Global,
     kind: ValueKind,
@@ -102,7 +102,7 @@ fn default_of(
     }
 }
 
-/// An operand as a value argument; 406 where a window call stands in it.
+/// The value argument that an operand is; 406 where a window call is in it.
 fn argument<E: Argument>(
     alloc: Global,
     operand: &Meaning<SelectLeaf>,
@@ -115,7 +115,7 @@ fn argument<E: Argument>(
     })
 }
 
-/// A value argument of whole numbers, as a bare NULL is one; else 405.
+/// A value argument of whole numbers; a bare NULL counts as one; else 405.
 fn numbers<E: Argument>(
     alloc: Global,
     operand: &Meaning<SelectLeaf>,
@@ -132,7 +132,7 @@ fn numbers<E: Argument>(
     }
 }
 
-/// A value argument that MIN and MAX take; else 405.
+/// A value argument that MIN and MAX accept; else 405.
 fn ordered<E: Argument>(
     alloc: Global,
     operand: &Meaning<SelectLeaf>,
@@ -157,7 +157,7 @@ fn value_at(
     Ok(AppliedFunction::ValueAt(row, argument(alloc, x)?))
 }
 
-/// NTH_VALUE, with the number of the row from 1.
+/// NTH_VALUE, with the number of the row, from 1.
 fn nth(
     alloc: Global,
     x: &Meaning<SelectLeaf>,
@@ -169,7 +169,7 @@ fn nth(
     value_at(alloc, FrameRow::Nth(number), x)
 }
 
-/// LAG and LEAD, by how far and with the default.
+/// LAG and LEAD, with the distance and the default.
 fn away(
     alloc: Global,
     direction: Direction,
@@ -187,7 +187,7 @@ fn away(
     })
 }
 
-/// LAG and LEAD with literals that say how far and the default.
+/// LAG and LEAD, with operands for the distance and the default.
 fn shifted(
     alloc: Global,
     direction: Direction,
@@ -301,7 +301,7 @@ fn over_arguments(
     }
 }
 
-/// COUNT(*) alone takes a star.
+/// A star instead of arguments, which only COUNT takes.
 fn over_star(name: FunctionName) -> Result<AppliedFunction, ResolveError>
     ensures { Gives function_of result (spec.over_star name) }
 {
@@ -328,7 +328,7 @@ pub fn applied(
     }
 }
 
-/// What a call without OVER may be.
+/// The functions that are called without OVER.
 #[derive(Clone, Copy)]
 pub enum GroupFunction {
     /// COUNT, SUM, MIN or MAX.
@@ -336,7 +336,7 @@ pub enum GroupFunction {
     Grouping,
 }
 
-/// What a call without OVER of that name may be.
+/// The function without OVER of that name.
 pub fn group_function_named(name: &str) -> Option<GroupFunction>
     ensures { option_map group_function_of result ≡ spec.group_function_named name.now }
 {
@@ -350,7 +350,7 @@ pub fn group_function_named(name: &str) -> Option<GroupFunction>
     }
 }
 
-/// The columns of FROM that operands are; else 405.
+/// The columns of FROM that the operands are; 405 where one is no column.
 fn columns_only(alloc: Global, operands: &[Meaning<SelectLeaf>]) -> Result<Vec<u16>, ResolveError>
     ensures { Gives (λ v. v.items) result (spec.columns_only (map operand_of operands.now)) }
 {
@@ -398,7 +398,7 @@ fn grouping_over(columns: Vec<u16>) -> Result<GroupCall, ResolveError>
     }
 }
 
-/// Such a function over its arguments, or over a star where there are none; 405 where it does not take them.
+/// A function without OVER over its arguments, or over a star where there are none; 405 where it does not take them.
 pub fn grouped_over(
     alloc: Global,
     function: GroupFunction,

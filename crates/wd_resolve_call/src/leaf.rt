@@ -18,7 +18,7 @@ use wd_resolve_operand::{
 };
 use wd_value::Value;
 
-/// What is read of the rows below windows, or a window call.
+/// A leaf of the rows below windows, or a window call.
 #[derive(Drop)]
 pub enum SelectLeaf {
     Row(RowLeaf),
@@ -41,7 +41,7 @@ impl Leaf for SelectLeaf {
     }
 }
 
-/// What a value argument is: an expression over what may stand in one.
+/// A kind of value argument: expressions over certain leaves.
 pub trait Argument: Drop {
     ghost use Rattle.wd_resolve_operand.specs.Causes.{Gives, Meant};
     ghost use Rattle.wd_resolve_operand.specs.Formulas.{Formula};
@@ -53,7 +53,7 @@ pub trait Argument: Drop {
 
     ghost over: { Formula LeafTree → Meant Shown };
 
-    /// The expression, where nothing else stands in it.
+    /// The expression over these leaves; an error where another leaf is in it.
     fn over(alloc: Global, formula: &Formula<SelectLeaf>) -> Result<Self, ResolveError>
         ensures { Gives shown result (over (formula_of formula.now)) };
 }
@@ -91,7 +91,7 @@ impl Argument for Expr {
     }
 }
 
-/// The expression of an operand in a place that asks for no kind, over what may stand in a value argument.
+/// The expression of an operand in a place that requires no kind, over the leaves of a value argument.
 pub fn settled_over<E: Argument>(
     alloc: Global,
     operand: &Meaning<SelectLeaf>,
@@ -104,7 +104,7 @@ pub fn settled_over<E: Argument>(
     }
 }
 
-/// The expression over the columns of FROM alone: 406 where a window call stands in it, and 416 where a call over groups does.
+/// The expression over the columns of FROM alone; 406 where a window call is in it, and 416 where a call over groups is in it.
 pub fn over_columns(alloc: Global, formula: &Formula<SelectLeaf>) -> Result<Expr, ResolveError>
     ensures { Gives expression_of result (spec.over_columns (formula_of formula.now)) }
 {
@@ -112,7 +112,7 @@ pub fn over_columns(alloc: Global, formula: &Formula<SelectLeaf>) -> Result<Expr
     over_from(alloc, &rows)
 }
 
-/// The expression over the rows below windows; 406 where a window call stands in it.
+/// The expression over the rows below windows; 406 where a window call is in it.
 pub fn over_rows(
     alloc: Global,
     formula: &Formula<SelectLeaf>,
@@ -122,14 +122,14 @@ pub fn over_rows(
     over_leaves(alloc, &BelowWindows, formula)
 }
 
-/// The expression over the columns of FROM alone; 416 where a call over groups stands in it.
+/// The expression over the columns of FROM alone; 416 where a call over groups is in it.
 fn over_from(alloc: Global, formula: &Formula<RowLeaf>) -> Result<Expr, ResolveError>
     ensures { Gives expression_of result (rows.over_from (row_formula_of formula.now)) }
 {
     wd_resolve_operand::over_columns(alloc, &InFrom, formula)
 }
 
-/// What may stand below windows: no window call.
+/// The leaves below windows: any but window calls.
 #[derive(Drop)]
 struct BelowWindows;
 
@@ -159,7 +159,7 @@ impl LeafMap for BelowWindows {
     }
 }
 
-/// The columns of FROM: no call over groups stands there.
+/// The leaves of FROM: columns, but no calls over groups.
 #[derive(Drop)]
 struct InFrom;
 

@@ -1,5 +1,9 @@
-//! What the leaves of a query's expressions are (columns, calls over groups, window calls), and what windows and functions over
-//! their arguments mean.
+//! What the leaves of a query's expressions are (columns, calls over groups, window calls), and what windows and functions over their
+//! arguments mean.
+//!
+//! `row` has the leaves of the rows below windows, `call` the window calls and `leaf` both; `function` checks a function's arguments, and
+//! `window` a window's frame and what it copies. `same` compares calls, so that equal ones are computed once, and `copies` copies
+//! expressions. Calls over groups and the lists of windows are shared by reference counts rather than copied.
 #![tactic(auto)]
 
 mod call;

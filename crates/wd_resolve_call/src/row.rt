@@ -1,4 +1,4 @@
-//! What expressions read of the rows that windows are over, and aggregates.
+//! What expressions read of the rows that windows and aggregates are over.
 
 ghost use Rattle.std.specs.Prelude.{◌≡◌, option_map};
 ghost use Rattle.wd_plan.specs.Expressions.{expression_of};
@@ -10,27 +10,27 @@ use std::rc::Rc;
 use wd_plan::{Expr, ValueKind};
 use wd_resolve_operand::Leaf;
 
-/// An expression that a function reads, and the kind of its values.
+/// An expression as the argument of a function, and the kind of its values.
 #[derive(Drop)]
 pub struct ValueArgument<E> {
     pub expression: E,
     pub kind: ValueKind,
 }
 
-/// What goes by the rows alone, in whatever order they stand.
+/// An aggregate over its argument; the order of the rows does not matter.
 #[derive(Drop)]
 pub enum AppliedAggregate<E> {
     /// COUNT(*).
     CountRows,
     Count(ValueArgument<E>),
-    /// Of whole numbers.
+    /// SUM of whole numbers.
     Sum(ValueArgument<E>),
     Min(ValueArgument<E>),
     Max(ValueArgument<E>),
 }
 
 impl<E> AppliedAggregate<E> {
-    /// The value argument, where there is one.
+    /// The value argument, if there is one.
     pub fn argument(&self) -> Option<&ValueArgument<E>>
         ensures { option_map (λ a. a.now) result ≡ spec.value_argument self.now }
     {
@@ -47,14 +47,14 @@ impl<E> AppliedAggregate<E> {
 /// A call over the rows of a group.
 #[derive(Drop)]
 pub enum GroupCall {
-    /// Over the columns of FROM.
+    /// An aggregate over the columns of FROM.
     OfRows(AppliedAggregate<Expr>),
     /// GROUPING of columns of FROM.
     Grouping(Vec<u16>),
 }
 
 impl GroupCall {
-    /// The kind of its values.
+    /// The kind of the call's values.
     pub fn kind(&self) -> ValueKind
         ensures { result ≡ spec.kind_of_group_call (group_call_of self.now) }
     {
@@ -67,7 +67,7 @@ impl GroupCall {
     }
 }
 
-/// A column of FROM, by its number, or, where the rows are groups, a call over the rows of one.
+/// A column of FROM, by its number, or, where rows are grouped, a call over a group.
 #[derive(Drop)]
 pub enum RowLeaf {
     Column(u16),

@@ -49,7 +49,7 @@ const DEFAULT_FRAME: Frame = Frame {
 };
 
 impl Window {
-    /// This window, whose lists are shared.
+    /// An equal window that shares the lists.
     pub fn share(&self) -> Result<Window, OutOfMemory>
         ensures { IfOk result (λ w. window_of w ≡ window_of self.now) }
     {
@@ -62,7 +62,7 @@ impl Window {
     }
 }
 
-/// How the values of a sort key are sorted: NULLs stand last ascending and first descending where they are not placed.
+/// How the values of a sort key are sorted: NULLs come last ascending and first descending where they are not placed.
 pub fn sort_key(direction: Option<SortDirection>, nulls: Option<NullsPlace>) -> SortKey
     ensures { result ≡ spec.sort_key direction nulls }
 {
@@ -146,7 +146,7 @@ fn is_one_number(order: &[OrderKey]) -> bool
     order.len() == 1 && same_kind(ValueKind::Number, order[0].kind)
 }
 
-/// The frame over these sort keys: 409, 410 and 411 where it may not stand over them.
+/// The frame over these sort keys; 409, 410 or 411 where they don't allow it.
 fn frame_over(order: &[OrderKey], frame: Frame) -> Result<Frame, ResolveError>
     ensures { Gives (λ f. f) result (spec.frame_over (map key_of order.now) frame) }
 {
@@ -171,7 +171,7 @@ fn frame_over(order: &[OrderKey], frame: Frame) -> Result<Frame, ResolveError>
     }
 }
 
-/// The order of a window that copies another: it gives one only where the other has none.
+/// The order of a window that copies another: only one of the two may have an order.
 fn order_copied(
     alloc: Global,
     base: &Rc<Vec<OrderKey>>,
@@ -189,7 +189,7 @@ fn order_copied(
     }
 }
 
-/// The lists of a window, with what it copies.
+/// The lists of a window together with those of the window that it copies.
 fn copied(
     alloc: Global,
     base: Option<&Window>,
@@ -208,7 +208,7 @@ fn copied(
     Ok((base.partition.clone()?, order))
 }
 
-/// The window with what it copies, its own partition and order, and its frame.
+/// The window from the one that it copies, its own partition and order, and its frame.
 pub fn window_meant(
     alloc: Global,
     base: Option<&Window>,
@@ -242,7 +242,7 @@ pub fn window_named<'a>(windows: &'a [KnownWindow], name: &Text) -> Result<&'a W
     Err(ResolveError::Refused(Cause::UnknownWindow))
 }
 
-/// The window that a name before a window's own clauses says.
+/// The window that the name before a window's own clauses stands for.
 pub fn base_named<'a>(
     windows: &'a [KnownWindow],
     base: &Option<Name>,

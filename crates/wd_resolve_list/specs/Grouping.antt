@@ -1,4 +1,4 @@
--- By what a select is grouped: the columns and sets of GROUP BY (SQL, group by clause; PG, GROUPING SETS, CUBE, and ROLLUP).
+-- How a select is grouped: the columns and sets of GROUP BY (SQL, group by clause; PG, GROUPING SETS, CUBE, and ROLLUP).
 use Rattle.std.specs.Prelude.{◌≡◌, ℕ, suc, ◌+◌, ◌*◌, ◌^◌, false, List, [], ◌∷◌, ◌++◌, map, flat_map, length, max, nat_eq, nat_lt, Option, Some, None, option_map, Ok, Err, if◌then◌else◌}
 use Rattle.wd_read_cursor.specs.declared.name.Name.{Name}
 use Rattle.wd_syntax.specs.declared.query.GroupColumn.{GroupColumn}
@@ -45,7 +45,7 @@ abbrev pub cubed : List (List ℕ) → List (List ℕ)
 cubed [] = [] ∷ []
 cubed (s ∷ sets) = map (λ t. s ++ t) (cubed sets) ++ cubed sets
 
--- none at all, which no text has, is the empty one, as without GROUP BY
+-- an empty list of sets, which no text has, becomes the empty set, as without GROUP BY
 abbrev pub some_of : List (List ℕ) → List (List ℕ)
 some_of [] = [] ∷ []
 some_of (s ∷ sets) = s ∷ sets
@@ -55,13 +55,13 @@ made_of Rollup sets = rolled_up sets
 made_of Cube sets = cubed sets
 made_of Sets sets = some_of sets
 
--- how many sets are made of so many
+-- how many sets the word makes of the given number of sets
 abbrev pub count_made : GroupingWord → ℕ → ℕ
 count_made Rollup n = suc n
 count_made Cube n = 2 ^ n
 count_made Sets n = max 1 n
 
--- every set of the one list with every set of the other, those of the first outermost
+-- every set of one list with every set of another, those of the first list outermost
 abbrev pub crossed_sets : List (List ℕ) → List (List ℕ) → List (List ℕ)
 crossed_sets sets others = flat_map (λ s. map (λ t. s ++ t) others) sets
 
@@ -71,11 +71,11 @@ crossed_sets sets others = flat_map (λ s. map (λ t. s ++ t) others) sets
 abbrev pub no_groups : GroupedBy
 no_groups = record { columns = []; sets = [] ∷ [] }
 
--- a further member, of these sets of columns
+-- GROUP BY with a further member that has these sets of columns
 abbrev pub joined_sets : GroupedBy → GroupingWord → List (List ℕ) → GroupedBy
 joined_sets so_far word sets = record { columns = with_new nat_eq so_far.columns (flat_map (λ s. s) sets); sets = crossed_sets so_far.sets (made_of word sets) }
 
--- at most 64 sets are made (own)
+-- at most 64 sets (this project's choice)
 abbrev pub with_sets : GroupedBy → GroupingWord → List (List ℕ) → Meant GroupedBy
 with_sets so_far word sets = if nat_lt 64 (length so_far.sets * count_made word (length sets)) then Err TooManySets else Ok (joined_sets so_far word sets)
 
@@ -87,11 +87,11 @@ abbrev pub all_grouped : ScopeRule → GroupedBy → List GroupTree → Meant Gr
 all_grouped scope so_far [] = Ok so_far
 all_grouped scope so_far (a ∷ items) = item_grouped scope so_far a >>= λ next. all_grouped scope next items
 
--- by what a select is grouped, if it is
+-- how a select is grouped, if it is
 abbrev pub grouped_meant : ScopeRule → Parts → Meant (Option GroupedBy)
 grouped_meant scope parts = if is_grouped parts then (all_grouped scope no_groups parts.tail.grouping.items >>= λ g. Ok (Some g)) else Ok None
 
--- the columns that may then stand in it
+-- the columns that may appear in a select that is grouped so
 abbrev pub grouped_rule : GroupedBy → GroupedRule
 grouped_rule g = record { columns = g.columns; other = NotGrouped }
 
@@ -108,18 +108,18 @@ IsNarrow below = is_group_wide below.grouped (having_groups [] below.having) ≡
 abbrev pub narrow_below : Below → Meant Below
 narrow_below below = if is_group_wide below.grouped (having_groups [] below.having) then Err TooMany else Ok below
 
--- what stands below the windows of a select
+-- what is below the windows of a select
 abbrev pub below_meant : ScopeRule → Option GroupedBy → Option Tree → Meant Below
 below_meant scope grouped having = having_meant scope grouped having >>= λ f. narrow_below (record { grouped = grouped; having = f })
 
 -- ---- in a plan
 
--- the numbers of those columns that a set has, counted from a number on
+-- the numbers of the columns that a set has, counted from the given number on
 abbrev pub numbers_from : ℕ → List ℕ → List ℕ → List ℕ
 numbers_from n [] set = []
 numbers_from n (c ∷ cs) set = if has set c then n ∷ numbers_from (n + 1) cs set else numbers_from (n + 1) cs set
 
--- a set, by the numbers of its columns among those that are grouped by, in their order
+-- a set as the numbers of its columns among those that are grouped by, in order
 abbrev pub set_seated : List ℕ → List ℕ → List ℕ
 set_seated all set = numbers_from 0 all set
 

@@ -1,4 +1,4 @@
--- What the expressions of a select list read of the rows below them, and where it stands above a Window (SQL, query
+-- What the expressions of a select list read of the rows below them, and the columns of their leaves above a Window (SQL, query
 -- specification; PG, SELECT List).
 use Rattle.std.specs.Prelude.{ℕ, ◌+◌, Bool, true, false, ◌&&◌, ◌||◌, List, [], ◌∷◌, ◌++◌, map, flat_map, length, nat_eq, nat_lt, Option, Some, None, if◌then◌else◌}
 use Rattle.std.specs.List.{list_any, position_or_len}
@@ -39,7 +39,7 @@ argument_of (aggregate a) = aggregated a
 abbrev pub sorted_by : KeyMeaning → RowFormula
 sorted_by key = key.expression
 
--- what a leaf reads below a Window: a leaf of rows itself, and a call its value argument, then its partition, then its order
+-- what a leaf reads below a Window: a leaf of rows reads itself; a call reads its value argument, then its partition, then its order
 abbrev pub read_by : SelectLeaf → List RowFormula
 read_by (of_row l) = Leaf l ∷ []
 read_by (call c) = argument_of c.function ++ c.window.partition ++ map sorted_by c.window.order
@@ -48,9 +48,9 @@ abbrev pub read_by_all : List SelectLeaf → List RowFormula
 read_by_all [] = []
 read_by_all (leaf ∷ more) = read_by leaf ++ read_by_all more
 
--- ---- what is met
+-- ---- distinct elements
 
--- each element that is new, after those that are there: first occurrences
+-- a list, followed by the elements that it does not have, each once
 abbrev pub with_new : {A : Type 0} → (A → A → Bool) → List A → List A → List A
 with_new same seen [] = seen
 with_new same seen (x ∷ xs) = with_new same (if list_any (same x) seen then seen else seen ++ x ∷ []) xs
@@ -70,14 +70,14 @@ all_row_leaves (f ∷ formulas) = leaves f ++ all_row_leaves formulas
 abbrev pub group_calls_read : List SelectLeaf → List GroupCall
 group_calls_read more = group_calls_among (all_row_leaves (read_by_all more))
 
--- what expressions need of the rows below them: the distinct window calls, the distinct expressions that the Map below a Window
--- shows, and the distinct calls over groups, in the order in which they are met
+-- what expressions need of the rows below them: the distinct window calls, the distinct expressions that the Map below a Window shows,
+-- and the distinct calls over groups, in order of first use
 pub record Needs : Type 0 where
   pub calls : List CallMeaning
   pub inputs : List RowFormula
   pub groups : List GroupCall
 
--- what is needed so far, and what further leaves need
+-- the needs with those of further leaves
 abbrev pub needs_with : Needs → List SelectLeaf → Needs
 needs_with needs more = record { calls = with_new same_call needs.calls (calls_among more); inputs = with_new same_row_formula needs.inputs (read_by_all more); groups = with_new same_group_call needs.groups (group_calls_read more) }
 
@@ -88,7 +88,7 @@ shared_call c = group_call_of c.value
 abbrev pub needs_shown : CodeNeeds → Needs
 needs_shown needs = record { calls = map call_of needs.calls.items; inputs = map row_formula_of needs.inputs.items; groups = map shared_call needs.groups.items }
 
--- nothing is needed yet
+-- empty needs
 abbrev pub no_needs : Needs
 no_needs = record { calls = []; inputs = []; groups = [] }
 
@@ -106,7 +106,7 @@ pub record GroupedBy : Type 0 where
 abbrev pub grouped_by_of : CodeGroupedBy → GroupedBy
 grouped_by_of g = record { columns = g.columns.items; sets = sets_of g.sets.items }
 
--- what stands below the windows of a select: by what it is grouped, if it is, and the condition of HAVING, where there is one
+-- what is below the windows of a select: how it is grouped, if it is, and the condition of HAVING, if there is one
 pub record Below : Type 0 where
   pub grouped : Option GroupedBy
   pub having : Option RowFormula
@@ -116,13 +116,13 @@ abbrev pub group_argument_of : GroupCall → List Expression
 group_argument_of (of_rows a) = aggregated a
 group_argument_of (grouping columns) = []
 
--- what the Map below a Group shows: the columns that are grouped by, and then the arguments that are not there yet
+-- what the Map below a Group shows: the columns that are grouped by, followed by the arguments that are not among these
 abbrev pub group_inputs : List ℕ → List GroupCall → List Expression
 group_inputs columns calls = with_new same_expression (map Column columns) (flat_map group_argument_of calls)
 
--- ---- where leaves stand
+-- ---- the columns of leaves
 
--- the number of an element in a list, and the list's length where it is none
+-- the number of an element in a list, and the list's length where it is not in it
 abbrev pub number_in : {A : Type 0} → (A → A → Bool) → List A → A → ℕ
 number_in same xs x = position_or_len (same x) xs
 
@@ -135,7 +135,7 @@ abbrev pub column_of : RowLeaf → ℕ
 column_of (column n) = n
 column_of (of_group c) = 0
 
--- where a leaf of rows stands: in FROM, or in the Group: among the columns that are grouped by, or, of a call, behind them
+-- the column of a leaf of rows in FROM or in the Group; in the Group first the columns that are grouped by, then the calls
 abbrev pub group_place : List ℕ → List GroupCall → RowLeaf → ℕ
 group_place columns calls (column n) = number_in nat_eq columns n
 group_place columns calls (of_group c) = length columns + number_in same_group_call calls c
@@ -144,12 +144,12 @@ abbrev pub row_place : Option GroupedBy → List GroupCall → RowLeaf → ℕ
 row_place None calls leaf = column_of leaf
 row_place (Some g) calls leaf = group_place g.columns calls leaf
 
--- the column of a Window where a leaf stands: among the inputs, or, of a call, behind them
+-- the column of a leaf above a Window: first the inputs, then the calls
 abbrev pub place_above : List RowFormula → List CallMeaning → SelectLeaf → ℕ
 place_above inputs calls (of_row l) = input_number inputs (Leaf l)
 place_above inputs calls (call c) = length inputs + number_in same_call calls c
 
--- where a leaf stands below what a select shows: in the Window, or, where there are no calls, where its rows stand
+-- the column of a leaf in the rows below what a select shows: above the Window, or, without calls, the column of a leaf of rows
 abbrev pub place_in : (RowLeaf → ℕ) → List RowFormula → List CallMeaning → SelectLeaf → ℕ
 place_in place inputs [] (of_row l) = place l
 place_in place inputs [] (call c) = 0
@@ -165,25 +165,27 @@ abbrev pub has_calls : List CallMeaning → Bool
 has_calls [] = false
 has_calls (c ∷ calls) = true
 
--- the Window has more than 1,024 columns, where there are calls (own)
+-- the Window has more than 1,024 columns, where there are calls (this project's choice)
 abbrev pub is_window_wide : Needs → Bool
 is_window_wide needs = has_calls needs.calls && nat_lt 1024 (length needs.inputs + length needs.calls)
 
--- the Group has more than 1,024 columns (own); the Map below it has no more than the Group, since a call has one argument at most
+-- the Group has more than 1,024 columns (this project's choice); the Map below it has at most as many, since a call has at most one
+-- argument
 abbrev pub is_group_wide : Option GroupedBy → List GroupCall → Bool
 is_group_wide None calls = false
 is_group_wide (Some g) calls = nat_lt 1024 (length g.columns + length calls)
 
--- some node above FROM has more than 1,024 columns: the Map of so many expressions, or what stands below it (own)
+-- some node above FROM has more than 1,024 columns: the Map of the given number of expressions, or what is below it (this project's
+-- choice)
 abbrev pub is_wide : ℕ → Option GroupedBy → Needs → Bool
 is_wide shown grouped needs = nat_lt 1024 shown || (is_window_wide needs || is_group_wide grouped needs.groups)
 
--- the calls over groups so far, and those of HAVING
+-- the calls over groups so far, followed by those of HAVING
 abbrev pub having_groups : List GroupCall → Option RowFormula → List GroupCall
 having_groups calls None = calls
 having_groups calls (Some f) = with_new same_group_call calls (group_calls_among (leaves f))
 
--- what HAVING needs, after what is needed: it stands below the windows, so its calls over groups alone
+-- the needs with those of HAVING, which is below the windows, so only with its calls over groups
 abbrev pub with_having : Needs → Option RowFormula → Needs
 with_having needs having = record { calls = needs.calls; inputs = needs.inputs; groups = having_groups needs.groups having }
 

@@ -34,8 +34,8 @@ expressions_of outputs = map (λ (output : OutputMeaning). output.expression) ou
 
 -- ---- names
 
--- An output without an alias is called by its column's name, or by its function's name, else `?column?` (own); brackets and plus
--- signs don't count.
+-- The name of an output without an alias: that of its column or of its function, else `?column?` (this project's choice); brackets and
+-- plus signs don't count.
 abbrev pub name_of : Tree → List ℕ
 name_of (tree.Column name) = name.text
 name_of (tree.Qualified table name) = name.text
@@ -55,12 +55,12 @@ name_shown a (Some alias) = alias.name.text
 abbrev pub column_output : ℕ × ScopeColumn → OutputMeaning
 column_output x = record { name = x.1.name; expression = Leaf (of_row (column x.0)); kind = x.1.kind }
 
--- a column of the table of that name, where one is said
+-- a column of the table of that name; any column where no table is named
 abbrev pub is_of : Option (List ℕ) → ScopeColumn → Bool
 is_of None c = true
 is_of (Some table) c = bytes_eq c.table table
 
--- columns of FROM as outputs: in a grouped select each is one that is grouped by
+-- columns of FROM as outputs; a grouped select has to be grouped by each
 abbrev pub columns_shown : Option GroupedRule → List (ℕ × ScopeColumn) → Meant (List OutputMeaning)
 columns_shown groups [] = Ok []
 columns_shown groups (x ∷ xs) = column_allowed groups x.0 >>= λ u. columns_shown groups xs >>= λ outputs. Ok (column_output x ∷ outputs)
@@ -92,7 +92,7 @@ narrow below outputs = if are_wide below (expressions_of outputs) [] then Err To
 abbrev pub item_listed : Below → ContextRule → ItemTree → List OutputMeaning → Meant (List OutputMeaning)
 item_listed below c item outputs = item_meant c item >>= λ more. narrow below (outputs ++ more)
 
--- the outputs of a select list, after those before them
+-- the outputs of a select list, after the outputs before them
 abbrev pub listed : Below → ContextRule → List ItemTree → List OutputMeaning → Meant (List OutputMeaning)
 listed below c [] outputs = Ok outputs
 listed below c (item ∷ items) outputs = item_listed below c item outputs >>= λ next. listed below c items next

@@ -1,4 +1,4 @@
-//! What stands below the windows of a select.
+//! What is below the windows of a select.
 
 ghost use Rattle.std.specs.Prelude.{◌≡◌, [], false, option_map};
 ghost use Rattle.wd_resolve_call.specs.Rows.{row_formula_of};
@@ -8,8 +8,8 @@ use crate::grouping::GroupedBy;
 use wd_resolve_operand::Formula;
 use wd_resolve_scope::RowLeaf;
 
-/// What stands below the windows of a select: by what it is grouped, if it is, and the condition of HAVING, where there is one, for
-/// which no node is too wide.
+/// What is below the windows of a select: how it is grouped, if it is, and the condition of HAVING, if there is one, for which no node is
+/// too wide.
 #[derive(Drop)]
 pub struct Below {
     pub grouped: Option<GroupedBy>,

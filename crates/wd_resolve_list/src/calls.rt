@@ -1,4 +1,4 @@
-//! Window calls among others, and copies of them.
+//! Lists of distinct window calls.
 
 ghost use Rattle.std.specs.Prelude.{◌≡◌, ◌≤◌, [], ◌∷◌, map, length, vec_len, IfOk};
 ghost use Rattle.std.specs.List.{list_any, position_or_len};
@@ -79,7 +79,7 @@ fn copy_call(alloc: Global, call: &WindowCall) -> Result<WindowCall, OutOfMemory
     })
 }
 
-/// The number of a call among others, and their number where it is none.
+/// The number of a call in the list, and the length of the list where it is not in it.
 pub(crate) fn call_number(calls: &[WindowCall], call: &WindowCall) -> usize
     ensures number { result ≡ position_or_len (spec.same_call (call_of call.now)) (map call_of calls.now) }
     ensures within { result ≤ length calls.now }
@@ -92,7 +92,7 @@ pub(crate) fn call_number(calls: &[WindowCall], call: &WindowCall) -> usize
     calls.len()
 }
 
-/// Whether a call is among others.
+/// Whether a call is in the list.
 #[tactic(auto, using(crate::proofs::FirstMet::any_by_number))]
 fn is_met(calls: &[WindowCall], call: &WindowCall) -> bool
     ensures { result ≡ list_any (spec.same_call (call_of call.now)) (map call_of calls.now) }
@@ -100,7 +100,7 @@ fn is_met(calls: &[WindowCall], call: &WindowCall) -> bool
     call_number(calls, call) < calls.len()
 }
 
-/// Adds a call, where it is new.
+/// Adds a call, if it is new.
 pub(crate) fn add_call(
     alloc: Global,
     calls: &mut Vec<WindowCall>,

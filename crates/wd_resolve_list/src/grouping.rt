@@ -1,4 +1,4 @@
-//! By what a select is grouped, and what stands below its windows.
+//! How a select is grouped, and what is below its windows.
 
 ghost use Rattle.std.specs.Prelude.{◌≡◌, ◌*◌, ◌++◌, ◌∷◌, [], map, flat_map, min, nat_eq, nat_lt, option_map, IfOk};
 ghost use Rattle.wd_plan.specs.Plans.{sets_of};
@@ -26,7 +26,7 @@ use wd_value::OutOfMemory;
 /// The most grouping sets of a select.
 const MOST_SETS: usize = 64;
 
-/// The columns that a select is grouped by, by their numbers in FROM in order of mention, and its sets of them.
+/// The columns that a select is grouped by, as numbers in FROM in order of first mention, and its sets of these.
 #[derive(Drop)]
 pub struct GroupedBy {
     pub columns: Vec<u16>,
@@ -34,7 +34,7 @@ pub struct GroupedBy {
 }
 
 impl Below {
-    /// The columns that may stand in a grouped select.
+    /// The columns that may appear in a grouped select.
     pub fn groups(&self) -> Option<Grouped<'_>>
         ensures { option_map grouped_of result ≡ option_map spec.grouped_rule (below_of self.now).grouped }
     {
@@ -42,7 +42,7 @@ impl Below {
     }
 }
 
-/// The columns that may stand in a grouped select.
+/// The columns that may appear in a grouped select.
 fn rule_of(grouped: &Option<GroupedBy>) -> Option<Grouped<'_>>
     ensures { option_map grouped_of result ≡ option_map spec.grouped_rule (option_map grouped_by_of grouped.now) }
 {
@@ -107,7 +107,7 @@ fn sets_meant(
     Ok(meant)
 }
 
-/// How many sets are made of so many, as far as 65.
+/// How many sets the word makes of `count` sets, at most 65.
 fn count_made(word: GroupingWord, count: usize) -> usize
     ensures { result ≡ min 65 (spec.count_made word count) }
 {
@@ -119,14 +119,14 @@ fn count_made(word: GroupingWord, count: usize) -> usize
     }
 }
 
-/// Whether so many sets, each with so many others, are more than 64.
+/// Whether `sets` sets, each with `others` others, are more than 64.
 fn are_too_many(sets: usize, others: usize) -> bool
     ensures { result ≡ nat_lt 64 (sets * others) }
 {
     others > 0 && sets > MOST_SETS / others
 }
 
-/// Adds numbers that are not there yet.
+/// Adds the numbers that the list does not have.
 fn add_columns(columns: &mut Vec<u16>, more: &[u16]) -> Result<(), OutOfMemory>
     ensures { IfOk result (λ u. columns.new.items ≡ with_new nat_eq columns.old.items more.now) }
 {
@@ -138,7 +138,7 @@ fn add_columns(columns: &mut Vec<u16>, more: &[u16]) -> Result<(), OutOfMemory>
     Ok(())
 }
 
-/// Adds the numbers of each set that are not there yet.
+/// Adds the numbers of each set that the list does not have.
 fn add_sets(columns: &mut Vec<u16>, sets: &[Vec<u16>]) -> Result<(), OutOfMemory>
     ensures { IfOk result (λ u. columns.new.items ≡ with_new nat_eq columns.old.items (flat_map (λ s. s) (sets_of sets.now))) }
 {
@@ -148,7 +148,7 @@ fn add_sets(columns: &mut Vec<u16>, sets: &[Vec<u16>]) -> Result<(), OutOfMemory
     Ok(())
 }
 
-/// The members of one set, and then those of another.
+/// The members of one set, followed by those of another.
 fn united(alloc: Global, set: &[u16], other: &[u16]) -> Result<Vec<u16>, OutOfMemory>
     ensures { IfOk result (λ v. v.items ≡ set.now ++ other.now) }
 {
@@ -158,7 +158,7 @@ fn united(alloc: Global, set: &[u16], other: &[u16]) -> Result<Vec<u16>, OutOfMe
     Ok(all)
 }
 
-/// A set with each of others.
+/// A set with each of the others.
 fn with_each(alloc: Global, set: &[u16], others: &[Vec<u16>]) -> Result<Vec<Vec<u16>>, OutOfMemory>
     ensures { IfOk result (λ v. sets_of v.items ≡ map (λ t. set.now ++ t) (sets_of others.now)) }
 {
@@ -169,7 +169,7 @@ fn with_each(alloc: Global, set: &[u16], others: &[Vec<u16>]) -> Result<Vec<Vec<
     Ok(all)
 }
 
-/// The one set that has no member.
+/// The list of the empty set alone.
 fn empty_set(alloc: Global) -> Result<Vec<Vec<u16>>, OutOfMemory>
     ensures { IfOk result (λ v. sets_of v.items ≡ [] ∷ []) }
 {
@@ -205,7 +205,7 @@ fn cubed(alloc: Global, sets: &[Vec<u16>]) -> Result<Vec<Vec<u16>>, OutOfMemory>
     Ok(made)
 }
 
-/// These sets, or else the one that has no member.
+/// These sets; the empty set where there are none.
 fn some_of(alloc: Global, sets: Vec<Vec<u16>>) -> Result<Vec<Vec<u16>>, OutOfMemory>
     ensures { IfOk result (λ v. sets_of v.items ≡ spec.some_of (sets_of sets.items)) }
 {
@@ -216,7 +216,7 @@ fn some_of(alloc: Global, sets: Vec<Vec<u16>>) -> Result<Vec<Vec<u16>>, OutOfMem
     }
 }
 
-/// The sets that a word makes of others: all prefixes, all subsets, or these.
+/// The sets that a word makes of others: all prefixes, all subsets, or the sets themselves.
 fn made_of(
     alloc: Global,
     word: GroupingWord,
@@ -231,7 +231,7 @@ fn made_of(
     }
 }
 
-/// Every set of the one list with every set of the other, those of the first outermost.
+/// Every set of one list with every set of another, those of the first list outermost.
 fn crossed_sets(
     alloc: Global,
     sets: &[Vec<u16>],
@@ -247,7 +247,7 @@ fn crossed_sets(
     Ok(all)
 }
 
-/// A further member of GROUP BY, of these sets: 419 where there are more than 64 sets then.
+/// GROUP BY with a further member that has these sets; 419 where there are then more than 64 sets.
 fn with_sets(
     alloc: Global,
     so_far: GroupedBy,
@@ -262,7 +262,7 @@ fn with_sets(
     Ok(joined_sets(alloc, so_far, word, sets)?)
 }
 
-/// A further member of GROUP BY, of these sets.
+/// GROUP BY with a further member that has these sets.
 fn joined_sets(
     alloc: Global,
     so_far: GroupedBy,
@@ -302,7 +302,7 @@ fn item_grouped(
     }
 }
 
-/// By what a select is grouped, if it is; without GROUP BY its one set is empty.
+/// How a select is grouped, if it is; without GROUP BY it has one set, which is empty.
 pub fn grouped_meant(
     alloc: Global,
     scope: &Scope,
@@ -316,7 +316,7 @@ pub fn grouped_meant(
     Ok(Some(all_grouped(alloc, scope, &select.grouping.items)?))
 }
 
-/// The columns and sets of the members of GROUP BY; of none, the one set that is empty.
+/// The columns and sets of the members of GROUP BY; without members the empty set alone.
 fn all_grouped(alloc: Global, scope: &Scope, items: &[GroupItem]) -> Result<GroupedBy, ResolveError>
     ensures { Gives grouped_by_of result (spec.all_grouped (scope_of scope.now) spec.no_groups (map view_group_item items.now)) }
 {
@@ -330,7 +330,7 @@ fn all_grouped(alloc: Global, scope: &Scope, items: &[GroupItem]) -> Result<Grou
     Ok(grouped)
 }
 
-/// What stands below the windows of a select: 415 where HAVING makes a node too wide.
+/// What is below the windows of a select; 415 where HAVING makes a node too wide.
 pub fn below_meant(
     alloc: Global,
     scope: &Scope,
@@ -343,7 +343,7 @@ pub fn below_meant(
     narrow_below(alloc, grouped, having)
 }
 
-/// The condition of HAVING, where there is one.
+/// The condition of HAVING, if there is one.
 fn having_meant(
     alloc: Global,
     scope: &Scope,

@@ -22,7 +22,7 @@ use wd_resolve_scope::{
 };
 use wd_value::OutOfMemory;
 
-/// Whether a call over groups is among others.
+/// Whether a call over groups is in the list.
 #[tactic(auto, using(crate::proofs::FirstMet::any_by_number))]
 fn is_met(calls: &[Rc<GroupCall>], call: &GroupCall) -> bool
     ensures { result ≡ list_any (same_group_call (group_call_of call.now)) (map shared_call calls.now) }
@@ -30,7 +30,7 @@ fn is_met(calls: &[Rc<GroupCall>], call: &GroupCall) -> bool
     group_number(calls, call) < calls.len()
 }
 
-/// Adds the call over groups that a leaf is, where it is new.
+/// Adds the call over groups that a leaf is, if it is new.
 pub(crate) fn add_group_call(
     calls: &mut Vec<Rc<GroupCall>>,
     leaf: &RowLeaf,
@@ -104,7 +104,7 @@ fn add_argument_calls(
     }
 }
 
-/// Adds the calls over groups of a partition.
+/// Adds the calls over groups of a partition's expressions.
 #[tactic(auto, using(crate::proofs::FirstMet::groups_added))]
 fn add_partition_calls(
     calls: &mut Vec<Rc<GroupCall>>,
@@ -118,7 +118,7 @@ fn add_partition_calls(
     Ok(())
 }
 
-/// Adds the calls over groups of the expressions that are sorted by.
+/// Adds the calls over groups of the sort keys' expressions.
 #[tactic(auto, using(crate::proofs::FirstMet::groups_added))]
 fn add_order_calls(calls: &mut Vec<Rc<GroupCall>>, keys: &[OrderKey]) -> Result<(), OutOfMemory>
     ensures { IfOk result (λ u. map shared_call calls.new.items ≡ with_new same_group_call (map shared_call calls.old.items) (group_calls_among (all_row_leaves (map sorted_by (map key_of keys.now))))) }
@@ -155,7 +155,7 @@ pub(crate) fn add_having(
     }
 }
 
-/// These calls, which are shared.
+/// Further references to these calls.
 pub(crate) fn shared(
     alloc: Global,
     calls: &[Rc<GroupCall>],
@@ -169,7 +169,7 @@ pub(crate) fn shared(
     Ok(all)
 }
 
-/// The number of an expression over FROM among others, and their number where it is none.
+/// The number of an expression over FROM in the list, and the length of the list where it is not in it.
 pub fn expression_number(expressions: &[Expr], expression: &Expr) -> usize
     ensures number { result ≡ number_in same_expression (map expression_of expressions.now) (expression_of expression.now) }
     ensures within { result ≤ length expressions.now }
@@ -182,7 +182,7 @@ pub fn expression_number(expressions: &[Expr], expression: &Expr) -> usize
     expressions.len()
 }
 
-/// Whether an expression over FROM is among others.
+/// Whether an expression over FROM is in the list.
 #[tactic(auto, using(crate::proofs::FirstMet::any_by_number))]
 fn is_shown(expressions: &[Expr], expression: &Expr) -> bool
     ensures { result ≡ list_any (same_expression (expression_of expression.now)) (map expression_of expressions.now) }
@@ -190,7 +190,7 @@ fn is_shown(expressions: &[Expr], expression: &Expr) -> bool
     expression_number(expressions, expression) < expressions.len()
 }
 
-/// Adds an expression over FROM, where it is new.
+/// Adds an expression over FROM, if it is new.
 fn add_expression(
     alloc: Global,
     expressions: &mut Vec<Expr>,
@@ -205,7 +205,7 @@ fn add_expression(
     Ok(())
 }
 
-/// Adds the value argument of an aggregate over FROM, where it has one.
+/// Adds the value argument of an aggregate over FROM, if it has one.
 fn add_aggregated(
     alloc: Global,
     expressions: &mut Vec<Expr>,
@@ -219,7 +219,7 @@ fn add_aggregated(
     }
 }
 
-/// Adds the value argument of a call over groups, where it has one.
+/// Adds the value argument of a call over groups, if it has one.
 fn add_group_argument(
     alloc: Global,
     expressions: &mut Vec<Expr>,
@@ -244,7 +244,7 @@ fn columns_shown(alloc: Global, columns: &[u16]) -> Result<Vec<Expr>, OutOfMemor
     Ok(expressions)
 }
 
-/// What the Map below a Group shows: the columns that are grouped by, and then the arguments that are not there yet.
+/// What the Map below a Group shows: the columns that are grouped by, followed by the arguments that are not among these.
 #[tactic(auto, using(crate::proofs::FirstMet::with_new_append))]
 pub fn group_inputs(
     alloc: Global,

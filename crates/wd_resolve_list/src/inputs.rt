@@ -15,14 +15,14 @@ use wd_resolve_operand::{Formula, Leaf as _};
 use wd_resolve_scope::{AppliedAggregate, AppliedFunction, OrderKey, RowLeaf, WindowCall, copy_of};
 use wd_value::OutOfMemory;
 
-/// Whether expressions over rows are one and the same.
+/// Whether two expressions over rows are equal.
 fn read_same(a: &Formula<RowLeaf>, b: &Formula<RowLeaf>) -> bool
     ensures { result ≡ same_row_formula (row_formula_of a.now) (row_formula_of b.now) }
 {
     a.same(b)
 }
 
-/// The number of an expression among the inputs, and their number where it is none.
+/// The number of an expression among the inputs, and the number of inputs where it is not among them.
 pub fn input_number(inputs: &[Formula<RowLeaf>], expression: &Formula<RowLeaf>) -> usize
     ensures number { result ≡ spec.input_number (map row_formula_of inputs.now) (row_formula_of expression.now) }
     ensures within { result ≤ length inputs.now }
@@ -43,7 +43,7 @@ fn is_among(inputs: &[Formula<RowLeaf>], expression: &Formula<RowLeaf>) -> bool
     input_number(inputs, expression) < inputs.len()
 }
 
-/// Adds an expression, where it is new.
+/// Adds an expression, if it is new.
 pub(crate) fn add_input(
     alloc: Global,
     inputs: &mut Vec<Formula<RowLeaf>>,
@@ -58,7 +58,7 @@ pub(crate) fn add_input(
     Ok(())
 }
 
-/// Adds the value argument of an aggregate, where it has one.
+/// Adds the value argument of an aggregate, if it has one.
 fn add_aggregated(
     alloc: Global,
     inputs: &mut Vec<Formula<RowLeaf>>,
@@ -72,7 +72,7 @@ fn add_aggregated(
     }
 }
 
-/// Adds the value argument of a function, where it has one.
+/// Adds the value argument of a function, if it has one.
 fn add_argument(
     alloc: Global,
     inputs: &mut Vec<Formula<RowLeaf>>,
@@ -102,7 +102,7 @@ fn add_partition(
     Ok(())
 }
 
-/// Adds the expressions that are sorted by.
+/// Adds the expressions of sort keys.
 fn add_order(
     alloc: Global,
     inputs: &mut Vec<Formula<RowLeaf>>,
@@ -130,7 +130,7 @@ pub(crate) fn add_read(
     add_order(alloc, inputs, &window_call.window.order)
 }
 
-/// Whether an input is what a leaf of rows reads.
+/// Whether an input is this leaf.
 fn is_leaf(leaf: &RowLeaf, input: &Formula<RowLeaf>) -> bool
     ensures { result ≡ same_row_formula (Leaf (row_leaf_of leaf.now)) (row_formula_of input.now) }
 {
@@ -140,7 +140,7 @@ fn is_leaf(leaf: &RowLeaf, input: &Formula<RowLeaf>) -> bool
     }
 }
 
-/// The number of what a leaf of rows reads among the inputs, and their number where it is none.
+/// The number of a leaf among the inputs, and the number of inputs where it is not among them.
 pub(crate) fn leaf_number(inputs: &[Formula<RowLeaf>], leaf: &RowLeaf) -> usize
     ensures number { result ≡ spec.input_number (map row_formula_of inputs.now) (Leaf (row_leaf_of leaf.now)) }
     ensures within { result ≤ length inputs.now }

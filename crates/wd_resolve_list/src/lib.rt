@@ -1,5 +1,9 @@
-//! What a select groups by and shows: its grouping sets and HAVING, the outputs of its list, and the window calls, the calls over
-//! groups and the expressions that these need of the rows below them.
+//! What a select groups by and shows: its grouping sets and HAVING, the outputs of its list, and the window calls, the calls over groups
+//! and the expressions that these need of the rows below them.
+//!
+//! `grouping` reads GROUP BY and HAVING into `below`, and `outputs` the members of the list into `output`. `needs` gathers what they
+//! read: `calls`, `inputs` and `groups` keep each distinct element once, in order of first use, and `places` finds the column of a leaf
+//! in FROM or in a Group. Lists are searched from the front; a node has at most 1,024 columns.
 #![tactic(auto)]
 
 mod below;

@@ -1,6 +1,6 @@
-//! What the expressions of a select list need of the rows below them, and where their leaves stand there.
+//! What the expressions of a select list need of the rows below them, and the columns of their leaves there.
 //!
-//! `Needs` is passed by value and given back, so that a refusal drops it.
+//! `Needs` is passed by value and returned, so that an error drops it.
 
 ghost use Rattle.std.specs.Prelude.{◌≡◌, ◌+◌, ◌≤◌, false, [], ◌∷◌, map, length, nat_lt, option_map, IfOk};
 ghost use Rattle.wd_resolve_operand.specs.Formulas.{leaves};
@@ -24,8 +24,8 @@ use wd_resolve_operand::{Formula, leaves_of};
 use wd_resolve_scope::{GroupCall, MOST_COLUMNS, RowLeaf, SelectLeaf, WindowCall};
 use wd_value::OutOfMemory;
 
-/// The distinct window calls, the distinct expressions that the Map below a Window shows, and the distinct calls over groups, in the
-/// order in which they are met. A call that adds to them takes them by value: where memory runs out they are dropped.
+/// The distinct window calls, the distinct expressions that the Map below a Window shows, and the distinct calls over groups, in order of
+/// first use. A function that adds to them takes them by value: where memory runs out they are dropped.
 #[derive(Drop)]
 pub struct Needs {
     pub calls: Vec<WindowCall>,
@@ -34,7 +34,7 @@ pub struct Needs {
 }
 
 impl Needs {
-    /// Nothing is needed yet.
+    /// Empty needs.
     pub fn new(alloc: Global) -> Needs
         ensures { needs_shown result ≡ no_needs }
     {
@@ -89,7 +89,7 @@ impl Needs {
         Ok(())
     }
 
-    /// What is needed with the leaves of an expression, from left to right.
+    /// The needs with the leaves of an expression, from left to right.
     pub fn add(mut self, alloc: Global, formula: &Formula<SelectLeaf>) -> Result<Needs, OutOfMemory>
         ensures { IfOk result (λ needs. needs_shown needs ≡ needs_with (needs_shown self) (leaves (formula_of formula.now))) }
     {
@@ -97,7 +97,7 @@ impl Needs {
         Ok(self)
     }
 
-    /// What is needed with the leaves of outputs.
+    /// The needs with the leaves of outputs.
     pub fn add_all(mut self, alloc: Global, outputs: &[Output]) -> Result<Needs, OutOfMemory>
         ensures { IfOk result (λ needs. needs_shown needs ≡ needs_with (needs_shown self) (all_leaves (expressions_of (map output_of outputs.now)))) }
     {
@@ -112,14 +112,14 @@ impl Needs {
         !self.calls.is_empty() && are_too_many(self.inputs.len(), self.calls.len())
     }
 
-    /// Whether some node has more than 1,024 columns: the Map of so many expressions, or what stands below it.
+    /// Whether some node has more than 1,024 columns: the Map of the given number of expressions, or what is below it.
     pub fn is_wide(&self, shown: usize, below: &Below) -> bool
         ensures { result ≡ spec.is_wide shown (below_of below.now).grouped (needs_shown self.now) }
     {
         shown > MOST_COLUMNS || self.is_window_wide() || is_group_wide(&below.grouped, &self.groups)
     }
 
-    /// Whether some node has more than 1,024 columns, also with what HAVING needs.
+    /// Whether some node has more than 1,024 columns, also with the calls of HAVING.
     pub fn is_wide_with_having(
         &self,
         alloc: Global,
@@ -136,7 +136,7 @@ impl Needs {
         Ok(is_group_wide(&below.grouped, &groups))
     }
 
-    /// What is needed with the calls over groups of HAVING, which stands below the windows.
+    /// The needs with the calls over groups of HAVING, which is below the windows.
     pub fn add_having(mut self, having: &Option<Formula<RowLeaf>>) -> Result<Needs, OutOfMemory>
         ensures { IfOk result (λ needs. needs_shown needs ≡ spec.with_having (needs_shown self) (option_map row_formula_of having.now)) }
     {
@@ -144,7 +144,7 @@ impl Needs {
         Ok(self)
     }
 
-    /// The column of a Window where a leaf stands.
+    /// The column of a leaf above a Window.
     fn place_above(&self, leaf: &SelectLeaf) -> u16
         requires { length self.now.inputs.items + length self.now.calls.items ≤ 1024 }
         ensures { result ≡ spec.place_above (needs_shown self.now).inputs (needs_shown self.now).calls (leaf_of leaf.now) }
@@ -157,7 +157,7 @@ impl Needs {
         }
     }
 
-    /// The column where a leaf stands below what is shown.
+    /// The column of a leaf in the rows below what is shown.
     pub fn place(&self, below: &Below, leaf: &SelectLeaf) -> u16
         requires few_inputs { is_window_wide (needs_shown self.now) ≡ false }
         requires few_groups { spec.is_group_wide (below_of below.now).grouped (needs_shown self.now).groups ≡ false }
@@ -173,7 +173,7 @@ impl Needs {
         }
     }
 
-    /// The column where a leaf of rows stands.
+    /// The column of a leaf of rows.
     pub fn row_place(&self, below: &Below, leaf: &RowLeaf) -> u16
         requires { spec.is_group_wide (below_of below.now).grouped (needs_shown self.now).groups ≡ false }
         ensures { result ≡ spec.row_place (below_of below.now).grouped (needs_shown self.now).groups (row_leaf_of leaf.now) }
@@ -195,7 +195,7 @@ pub(crate) fn is_group_wide(grouped: &Option<GroupedBy>, calls: &[Rc<GroupCall>]
     }
 }
 
-/// Whether so many columns and calls are too many for a node.
+/// Whether a node may not have these numbers of columns and calls.
 fn are_too_many(inputs: usize, calls: usize) -> bool
     ensures { result ≡ nat_lt 1024 (inputs + calls) }
 {

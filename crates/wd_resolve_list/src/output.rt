@@ -1,4 +1,4 @@
-//! What a select shows, on the way to a plan.
+//! The outputs of a select, before there is a plan.
 
 use wd_plan::ValueKind;
 use wd_resolve_operand::Formula;

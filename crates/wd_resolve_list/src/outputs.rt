@@ -1,4 +1,4 @@
-//! The select list: its outputs, and what they are called.
+//! The select list: its outputs and their names.
 
 ghost use Rattle.std.specs.Prelude.{◌≡◌, [], ◌∷◌, ◌++◌, IfOk, Ok, filter, map, option_map};
 ghost use Rattle.std.specs.List.{cons_option};
@@ -17,10 +17,10 @@ use wd_syntax as written;
 use wd_syntax::{Alias, Item, Sign};
 use wd_value::{OutOfMemory, Text};
 
-/// What an output is called that has no alias and shows no column and no call.
+/// The name of an output that has no alias and shows neither a column nor a call.
 const UNNAMED: &str = "?column?";
 
-/// What an output without an alias is called: by its column's name, or by its function's; brackets and plus signs don't count.
+/// The name of an output without an alias: that of its column or of its function; brackets and plus signs don't count.
 fn name_of(tree: &written::Expr) -> &str
     ensures { result.now ≡ spec.name_of (view tree.now) }
 {
@@ -44,7 +44,7 @@ fn name_shown<'a>(tree: &'a written::Expr, alias: &'a Option<Alias>) -> &'a str
     }
 }
 
-/// Whether a column is of the table of that name, where one is said.
+/// Whether a column is of the table of that name; any column where no table is named.
 fn is_of(table: Option<&Text>, column: &ScopeColumn) -> bool
     ensures { result ≡ spec.is_of (option_map (λ t. t.now) table.entry) column.now }
 {
@@ -65,7 +65,7 @@ fn column_output(alloc: Global, number: u16, column: &ScopeColumn) -> Result<Out
     })
 }
 
-/// A column of FROM as an output, where it is among those that are shown: 417 where it is not grouped by.
+/// A column of FROM as an output; 417 where a grouped select is not grouped by it.
 fn column_of(
     alloc: Global,
     context: &Context<'_>,
@@ -82,7 +82,7 @@ fn column_of(
     Ok(Some(column_output(alloc, number, column)?))
 }
 
-/// Adds an output, where there is one.
+/// Adds the output, if there is one.
 fn add_shown(outputs: &mut Vec<Output>, shown: Option<Output>) -> Result<(), OutOfMemory>
     ensures { IfOk result (λ u. map output_of outputs.new.items ≡ map output_of outputs.old.items ++ cons_option (option_map output_of shown) []) }
 {
@@ -92,7 +92,7 @@ fn add_shown(outputs: &mut Vec<Output>, shown: Option<Output>) -> Result<(), Out
     Ok(())
 }
 
-/// The columns in scope, or those of one table of FROM: 417 where one is not grouped by.
+/// The columns in scope, or those of one table of FROM; 417 where a grouped select is not grouped by one of them.
 fn columns_of(
     alloc: Global,
     context: &Context<'_>,
@@ -108,7 +108,7 @@ fn columns_of(
     Ok(outputs)
 }
 
-/// The columns of one table of FROM: 401 where there is none of that name.
+/// The columns of one table of FROM; 401 where there is none of that name.
 fn table_shown(
     alloc: Global,
     context: &Context<'_>,
@@ -123,7 +123,7 @@ fn table_shown(
     }
 }
 
-/// An expression of the select list, and its name.
+/// The output of an expression of the select list.
 fn output_shown(
     alloc: Global,
     context: &Context<'_>,

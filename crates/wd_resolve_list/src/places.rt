@@ -1,4 +1,4 @@
-//! Where what is read of the rows below windows stands: in FROM, or in a Group.
+//! The columns of leaves of rows, in FROM or in a Group.
 
 ghost use Rattle.std.specs.Prelude.{◌≡◌, ◌+◌, ◌≤◌, length, map, nat_eq};
 ghost use Rattle.wd_resolve_call.specs.Rows.{group_call_of, row_leaf_of, same_group_call};
@@ -8,7 +8,7 @@ ghost use Rattle.wd_resolve_list.specs.Listing as spec;
 use std::rc::Rc;
 use wd_resolve_scope::{GroupCall, RowLeaf, same_group_call};
 
-/// The number of a column among those that are grouped by, and how many there are where it is none.
+/// The number of a column among those that are grouped by, and their number where it is not among them.
 pub fn column_number(columns: &[u16], column: u16) -> usize
     ensures number { result ≡ number_in nat_eq columns.now column }
     ensures within { result ≤ length columns.now }
@@ -21,7 +21,7 @@ pub fn column_number(columns: &[u16], column: u16) -> usize
     columns.len()
 }
 
-/// The number of a call over groups among others, and their number where it is none.
+/// The number of a call over groups in the list, and the length of the list where it is not in it.
 pub(crate) fn group_number(calls: &[Rc<GroupCall>], call: &GroupCall) -> usize
     ensures number { result ≡ number_in same_group_call (map shared_call calls.now) (group_call_of call.now) }
     ensures within { result ≤ length calls.now }
@@ -44,7 +44,7 @@ pub(crate) fn column_read(leaf: &RowLeaf) -> u16
     }
 }
 
-/// The column of a Group, over these columns and with these calls, where a leaf of rows stands.
+/// The column of a leaf of rows in a Group with these columns and calls.
 pub(crate) fn group_place(columns: &[u16], calls: &[Rc<GroupCall>], leaf: &RowLeaf) -> u16
     requires { length columns.now + length calls.now ≤ 1024 }
     ensures { result ≡ spec.group_place columns.now (map shared_call calls.now) (row_leaf_of leaf.now) }

@@ -1,4 +1,4 @@
--- Why a query has no plan, and how definitions go on where there is no cause.
+-- Why a query has no plan, and how definitions continue where there is no cause.
 use Rattle.std.specs.Prelude.{◌≡◌, ℕ, Option, Some, None, Result, Ok, Err}
 use Rattle.wd_resolve_operand.specs.declared.cause.Cause.{Cause}
 use Rattle.wd_resolve_operand.specs.declared.cause.Cause.TheVariants as c
@@ -27,16 +27,16 @@ number c.NotGrouped = 417
 number c.GroupingOfOther = 418
 number c.TooManySets = 419
 
--- the number of an error, and none where memory runs out
+-- the number of an error; none where memory ran out
 abbrev pub error_number : ResolveError → Option ℕ
 error_number (Refused cause) = Some (number cause)
 error_number OutOfMemory = None
 
--- what has a meaning, or else the first cause for which it has none
+-- the meaning, or else the first cause for which there is none
 abbrev pub Meant : Type 0 → Type 0
 Meant A = Result A Cause
 
--- an operand before what stands over it: the first cause decides
+-- an operand before what is over it: the first cause decides
 infixl 10 ◌>>=◌
 abbrev pub ◌>>=◌ : {A B : Type 0} → Meant A → (A → Meant B) → Meant B
 (Ok x) >>= f = f x
@@ -47,7 +47,7 @@ abbrev pub Fails : {Y : Type 0} → ResolveError → Meant Y → Type 0
 Fails OutOfMemory meant = Unit {0}
 Fails (Refused cause) meant = meant ≡ Err cause
 
--- What a function returned, seen by view, is what is meant, unless memory ran out.
+-- What a function returned, seen by view, is the meaning, unless memory ran out.
 abbrev pub Gives : {X Y : Type 0} → (X → Y) → Result X ResolveError → Meant Y → Type 0
 Gives view (Ok x) meant = meant ≡ Ok (view x)
 Gives view (Err e) meant = Fails e meant

@@ -30,10 +30,10 @@ pub data Formula (L : Type 0) : Type 0 where
   Or : Formula L → Formula L → Formula L
   IsNull : Formula L → Formula L
   IsNotNull : Formula L → Formula L
-  -- a branch of a CASE: its condition, its result, and the rest, which is the next branch or what ELSE gives
+  -- a branch of a CASE: its condition, its result, and the rest, which is the next branch or the operand of ELSE
   Case : Branch → Formula L → Formula L → Formula L → Formula L
 
--- the formula that a value of the code shows, whose leaves show these
+-- the formula that a value of the code shows, by what its leaves show
 abbrev pub formula_of : {C L : Type 0} → (C → L) → Code C → Formula L
 formula_of shown (code.Leaf l) = Leaf (shown l)
 formula_of shown (code.Literal v kind) = Literal v kind
@@ -47,7 +47,7 @@ formula_of shown (code.IsNull' p a) = IsNull (formula_of shown a)
 formula_of shown (code.IsNotNull' p a) = IsNotNull (formula_of shown a)
 formula_of shown (code.Case' branch p a q b r c) = Case branch (formula_of shown a) (formula_of shown b) (formula_of shown c)
 
--- its leaves, from left to right
+-- the leaves of a formula, from left to right
 abbrev pub leaves : {L : Type 0} → Formula L → List L
 leaves (Leaf l) = l ∷ []
 leaves (Literal v kind) = []
@@ -61,7 +61,7 @@ leaves (IsNull a) = leaves a
 leaves (IsNotNull a) = leaves a
 leaves (Case branch a b c) = leaves a ++ leaves b ++ leaves c
 
--- the expression over the columns at which its leaves stand
+-- the expression over the columns of the leaves
 abbrev pub seated : {L : Type 0} → (L → ℕ) → Formula L → Expression
 seated at (Leaf l) = e.Column (at l)
 seated at (Literal v kind) = e.Literal v kind
@@ -75,8 +75,7 @@ seated at (IsNull a) = e.IsNull (seated at a)
 seated at (IsNotNull a) = e.IsNotNull (seated at a)
 seated at (Case branch a b c) = e.Case branch (seated at a) (seated at b) (seated at c)
 
--- one and the same tree over leaves that are alike; a literal's kind counts, and a CASE within ELSE is another tree than a further
--- branch
+-- equal trees over equal leaves; the kind of a literal counts, and a CASE within ELSE differs from a further branch
 abbrev pub same_formula : {L : Type 0} → (L → L → Bool) → Formula L → Formula L → Bool
 same_formula alike (Leaf l) (Leaf m) = alike l m
 same_formula alike (Literal v kind) (Literal w other) = same v w && same_kind kind other
@@ -91,7 +90,7 @@ same_formula alike (IsNotNull a) (IsNotNull b) = same_formula alike a b
 same_formula alike (Case branch a b c) (Case other a' b' c') = sameb branches branch other && (same_formula alike a a' && (same_formula alike b b' && same_formula alike c c'))
 same_formula alike a b = false
 
--- the same expression over other leaves, which its leaves may be; the first that is none of them decides
+-- the expression with each leaf replaced; the first leaf that cannot be replaced decides
 abbrev pub over_leaves : {K L : Type 0} → (K → Meant L) → Formula K → Meant (Formula L)
 over_leaves leaf (Leaf l) = leaf l >>= λ m. Ok (Leaf m)
 over_leaves leaf (Literal v kind) = Ok (Literal v kind)
@@ -105,13 +104,13 @@ over_leaves leaf (IsNull a) = over_leaves leaf a >>= λ x. Ok (IsNull x)
 over_leaves leaf (IsNotNull a) = over_leaves leaf a >>= λ x. Ok (IsNotNull x)
 over_leaves leaf (Case branch a b c) = over_leaves leaf a >>= λ x. over_leaves leaf b >>= λ y. over_leaves leaf c >>= λ z. Ok (Case branch x y z)
 
--- the expression over the columns at which its leaves stand, where they stand at some; the first that stands at none decides
+-- the expression over the columns of the leaves; the first leaf without a column decides
 abbrev pub over_columns : {K : Type 0} → (K → Meant ℕ) → Formula K → Meant Expression
 over_columns at f = over_leaves at f >>= λ g. Ok (seated (λ n. n) g)
 
 -- ---- kinds
 
--- the kind of its values, over leaves of these kinds
+-- the kind of a formula's values, over leaves of these kinds
 abbrev pub kind_over : {L : Type 0} → (L → Option ValueKind) → Formula L → Option ValueKind
 kind_over kinds (Leaf l) = kinds l
 kind_over kinds (Literal v kind) = Some kind
@@ -125,7 +124,7 @@ kind_over kinds (IsNull a) = Some Truth
 kind_over kinds (IsNotNull a) = Some Truth
 kind_over kinds (Case branch a b c) = kind_over kinds b
 
--- each operand is of the kind that its place asks for, as of an expression of a plan (`is_typed` of wd_plan)
+-- each operand is of the kind that its place requires, as in an expression of a plan (`is_typed` of wd_plan)
 abbrev pub is_typed_over : {L : Type 0} → (L → Option ValueKind) → Formula L → Bool
 is_typed_over kinds (Leaf l) = is_some (kinds l)
 is_typed_over kinds (Literal v kind) = is_of_kind kind v

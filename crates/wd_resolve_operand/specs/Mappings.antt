@@ -1,4 +1,4 @@
--- Expressions over leaves, made anew of what becomes of each leaf.
+-- Trees made of expressions, by what each leaf becomes.
 use Rattle.std.specs.Prelude.{◌≡◌, ℕ, ◌+◌, List, [], ◌∷◌, ◌++◌, Option, Some, None, Result, Ok, Err}
 use Rattle.std.proofs.Common.{Bor}
 use Rattle.std.specs.List.{sum_by}
@@ -58,14 +58,14 @@ expression_between binary.Or a b = e.Or a b
 abbrev pub expressions : Making Expression
 expressions = record { literal = e.Literal; under = expression_under; between = expression_between; branch = e.Case }
 
--- what becomes of a leaf, as an expression
+-- what a leaf becomes, as an expression
 abbrev pub leaf_over : {K L : Type 0} → (K → Meant L) → K → Meant (Formula L)
 leaf_over leaf k = leaf k >>= λ l. Ok (f.Leaf l)
 
 abbrev pub column_over : {K : Type 0} → (K → Meant ℕ) → K → Meant Expression
 column_over at k = at k >>= λ n. Ok (e.Column n)
 
--- the tree that an expression is made anew as, where each leaf becomes a tree; the first leaf that becomes none decides
+-- the tree made of an expression, where each leaf becomes a tree; the first leaf that becomes none decides
 abbrev pub mapped : {K T : Type 0} → Making T → (K → Meant T) → Formula K → Meant T
 mapped made leaf (f.Leaf l) = leaf l
 mapped made leaf (f.Literal v kind) = Ok (made.literal v kind)
@@ -94,7 +94,7 @@ module _ {K L T S : Type 0} (read : K → L) (shown : T → S) (made : Making S)
   closed (pending.Result branch a c) y = mapped_of c.now >>= λ z. Ok (made.branch branch (shown a.value) y z)
   closed (pending.Rest branch a b) z = Ok (made.branch branch (shown a.value) (shown b.value) z)
 
-  -- the same, from the last on
+  -- what becomes of the tree of an operand under all that wait, from the last on
   abbrev pub all_closed : List (Pending K T) → Meant S → Meant S
   all_closed [] x = x
   all_closed (outer ∷ inner) x = all_closed inner x >>= λ y. closed outer y
@@ -150,6 +150,6 @@ abbrev pub waiting : {K L : Type 0} → (K → L) → List (Bor (Code K)) → Li
 waiting shown [] = []
 waiting shown (f ∷ fs) = waiting shown fs ++ leaves (formula_of shown f.now)
 
--- how many steps they take
+-- how many steps the waiting expressions take
 abbrev pub waiting_steps : {K L : Type 0} → (K → L) → List (Bor (Code K)) → ℕ
 waiting_steps shown fs = sum_by (λ f. part_steps shown f.now) fs

@@ -1,5 +1,5 @@
--- What an expression means as an operand, and the types that operators ask for (SQL, value expression, search condition; PG,
--- Value Expressions).
+-- What an expression means as an operand, and the types that operators require (SQL, value expression, search condition; PG, Value
+-- Expressions).
 use Rattle.std.specs.Prelude.{ℕ, ◌^◌, ℤ, pos, neg_ℤ, Bool, true, false, List, [], ◌∷◌, ◌++◌, map, nat_lt, nat_le, Ok, Err, if◌then◌else◌}
 use Rattle.wd_value.specs.declared.value.Value.TheVariants.{Null, Int, Text as TextValue, Bool as TruthValue}
 use Rattle.wd_syntax.specs.declared.expression.Literal.{Literal}
@@ -28,19 +28,19 @@ pub data Operand (L : Type 0) : Type 0 where
   bare_null : Operand L
   typed : Formula L → ValueKind → Operand L
 
--- the operand that a value of the code shows, whose leaves show these
+-- the operand that a value of the code shows, by what its leaves show
 abbrev pub operand_of : {C L : Type 0} → (C → L) → Meaning C → Operand L
 operand_of shown code.Null = bare_null
 operand_of shown (code.Typed a kind) = typed (formula_of shown a.value) kind
 
--- ---- the kind that a place asks for
+-- ---- the kind that a place requires
 
--- an operand in a place that asks for a kind: a bare NULL takes it, and another has it
+-- an operand in a place that requires a kind: a bare NULL takes it, and any other operand has to have it
 abbrev pub of_kind : {L : Type 0} → ValueKind → Operand L → Meant (Formula L)
 of_kind kind bare_null = Ok (f.Literal Null kind)
 of_kind kind (typed a other) = if same_kind kind other then Ok a else Err Types
 
--- an operand in a place that asks for none: a bare NULL is a text (own)
+-- an operand in a place that requires none: a bare NULL is a text (this project's choice)
 abbrev pub kind_of : {L : Type 0} → Operand L → ValueKind
 kind_of bare_null = Text
 kind_of (typed a kind) = kind
@@ -49,7 +49,7 @@ abbrev pub settled : {L : Type 0} → Operand L → Formula L
 settled bare_null = f.Literal Null Text
 settled (typed a kind) = a
 
--- several operands ask for the kind of the first of them that is no bare NULL (own)
+-- several operands have the kind of the first of them that is not a bare NULL (this project's choice)
 abbrev pub asked_by_all : {L : Type 0} → List (Operand L) → ValueKind
 asked_by_all [] = Text
 asked_by_all (bare_null ∷ operands) = asked_by_all operands
@@ -60,7 +60,7 @@ asked_by_both a b = asked_by_all (a ∷ b ∷ [])
 
 -- ---- literals
 
--- a number as 64 bits hold it
+-- a number below 2^63; any other is of a wrong type
 abbrev pub number : ℕ → Meant ℕ
 number n = if nat_lt n (2 ^ 63) then Ok n else Err Types
 
@@ -78,14 +78,14 @@ literal (l.Text text) = Ok (typed (f.Literal (TextValue text) Text) Text)
 literal (l.Truth b) = Ok (typed (f.Literal (TruthValue b) Truth) Truth)
 literal l.Null = Ok bare_null
 
--- a sign directly before a number makes a literal: 9223372036854775808 is allowed after a minus alone
+-- a sign directly before a number makes a literal: 9223372036854775808 is allowed only after a minus
 abbrev pub signed_number : {L : Type 0} → Sign → ℕ → Meant (Operand L)
 signed_number s.Plus n = unsigned_number n
 signed_number s.Minus n = if nat_le n (2 ^ 63) then int_literal (neg_ℤ (pos n)) else Err Types
 
 -- ---- operators
 
--- a plus leaves no node
+-- a plus adds no node
 abbrev pub sign_over : {L : Type 0} → Sign → Formula L → Formula L
 sign_over s.Plus a = a
 sign_over s.Minus a = f.Negate a
@@ -104,7 +104,7 @@ null_test false a = f.IsNull a
 abbrev pub tested : {L : Type 0} → Bool → Operand L → Operand L
 tested not a = typed (null_test not (settled a)) Truth
 
--- the kind that an operator asks of both operands: a comparison takes two sides of one kind
+-- the kind that an operator requires of both operands: a comparison takes two sides of one kind
 abbrev pub asked_by : {L : Type 0} → Operator → Operand L → Operand L → ValueKind
 asked_by o.Or a b = Truth
 asked_by o.And a b = Truth
@@ -140,7 +140,7 @@ over_both o.Multiply a b = f.Arithmetic arithmetic.Multiply a b
 over_both o.Divide a b = f.Arithmetic arithmetic.Divide a b
 over_both o.Remainder a b = f.Arithmetic arithmetic.Remainder a b
 
--- an operator over two operands of the kind that it asks for
+-- an operator over two operands of the kind that it requires
 abbrev pub combined : {L : Type 0} → Operator → Operand L → Operand L → Meant (Operand L)
 combined operator a b = do
   left ← of_kind (asked_by operator a b) a
@@ -153,7 +153,7 @@ combined operator a b = do
 abbrev pub arm_of : {C L : Type 0} → (C → L) → CaseArm C → Operand L × Operand L
 arm_of shown arm = (operand_of shown arm.when, operand_of shown arm.gives)
 
--- WHEN a truth value THEN a result of this kind, before the rest; each of them may be of a wrong type only
+-- WHEN a truth value THEN a result of this kind, followed by the rest; a wrong type is the only cause in either
 abbrev pub arm_over : {L : Type 0} → Branch → ValueKind → Operand L × Operand L → Meant (Formula L) → Meant (Formula L)
 arm_over branch kind arm rest = do
   otherwise ← rest
@@ -161,20 +161,20 @@ arm_over branch kind arm rest = do
   gives ← of_kind kind arm.1
   Ok (f.Case branch when gives otherwise)
 
--- the branches of a CASE from this one on, before its rest
+-- the branches of a CASE from this one on, followed by its rest
 abbrev pub arms_over : {L : Type 0} → Branch → ValueKind → List (Operand L × Operand L) → Meant (Formula L) → Meant (Formula L)
 arms_over branch kind [] rest = rest
 arms_over branch kind (arm ∷ arms) rest = arm_over branch kind arm (arms_over Later kind arms rest)
 
--- the branch that stands after these
+-- the branch that comes after these arms
 abbrev pub branch_after : {L : Type 0} → Branch → List (Operand L × Operand L) → Branch
 branch_after branch [] = branch
 branch_after branch (arm ∷ arms) = Later
 
--- the kind that the results of a CASE ask for
+-- the kind of the results of a CASE
 abbrev pub case_kind : {L : Type 0} → List (Operand L × Operand L) → Operand L → ValueKind
 case_kind arms other = asked_by_all (map (λ arm. arm.1) arms ++ other ∷ [])
 
--- a CASE is judged after all its parts
+-- a CASE is checked after all its parts
 abbrev pub case_of : {L : Type 0} → List (Operand L × Operand L) → Operand L → Meant (Operand L)
 case_of arms other = of_kind (case_kind arms other) other >>= λ rest. arms_over First (case_kind arms other) arms (Ok rest) >>= λ whole. Ok (typed whole (case_kind arms other))

@@ -21,7 +21,7 @@ pub enum Cause {
     /// 403: a name that several columns or outputs carry, or a table name twice in one FROM.
     #[error("an ambiguous name, or a table name twice in one FROM")]
     Ambiguous,
-    /// 404: an operand of another type than its place asks for, or a number past 9223372036854775807.
+    /// 404: an operand of another type than its place requires, or a number past 9223372036854775807.
     #[error("an operand of the wrong type, or a number that is too large")]
     Types,
     /// 405: an unknown function, wrong arguments, or a function without OVER that is no aggregate.
@@ -33,10 +33,10 @@ pub enum Cause {
     /// 407: an unknown window, or a window name twice.
     #[error("an unknown window, or a window name twice")]
     UnknownWindow,
-    /// 408: a window copies another and gives what it may not.
+    /// 408: a window copies another and repeats a clause that it may not repeat.
     #[error("a window that copies another gives what it may not")]
     WindowCopy,
-    /// 409: the bounds of a frame in a wrong order.
+    /// 409: the bounds of a frame in the wrong order.
     #[error("the bounds of a frame in a wrong order")]
     FrameBounds,
     /// 410: an offset in RANGE without exactly one sort key, of whole numbers.
@@ -51,19 +51,19 @@ pub enum Cause {
     /// 413: WITH TIES without ORDER BY.
     #[error("WITH TIES without ORDER BY")]
     TiesWithoutOrder,
-    /// 414: with DISTINCT, a sort key that is no output.
+    /// 414: with DISTINCT, a sort key that is not an output.
     #[error("with DISTINCT, a sort key that is no output")]
     ForeignSortKey,
     /// 415: more than 1,024 columns at a node, or more than 8 tables in one FROM.
     #[error("more than 1,024 columns at a node, or more than 8 tables in one FROM")]
     TooMany,
-    /// 416: an aggregate or GROUPING where none may stand, or within an aggregate.
+    /// 416: an aggregate or GROUPING where none may appear, or within an aggregate.
     #[error("an aggregate or GROUPING where none may stand, or within an aggregate")]
     GroupCallNotAllowed,
-    /// 417: in a grouped query, a column that is not grouped by, outside an aggregate.
+    /// 417: in a grouped query, a column outside an aggregate that the query is not grouped by.
     #[error("in a grouped query, a column that is not grouped by, outside an aggregate")]
     NotGrouped,
-    /// 418: GROUPING of a column that is not grouped by.
+    /// 418: GROUPING of a column that the query is not grouped by.
     #[error("GROUPING of a column that is not grouped by")]
     GroupingOfOther,
     /// 419: more than 64 grouping sets.
@@ -106,13 +106,13 @@ pub enum ResolveError {
     /// 401 to 419: the query has no plan.
     #[error("no plan: {0}")]
     Refused(Cause),
-    /// The allocator refused a growth.
+    /// The allocator refused to allocate.
     #[error("out of memory")]
     OutOfMemory,
 }
 
 impl ResolveError {
-    /// The refusal's number, and None where memory runs out.
+    /// The refusal's number, or `None` where memory ran out.
     pub fn number(&self) -> Option<u32>
         ensures { result ≡ error_number self.now }
     {
@@ -122,7 +122,7 @@ impl ResolveError {
         }
     }
 
-    /// No refusal of a query's meaning names a place.
+    /// Always `None`: no refusal of a query's meaning names a place.
     pub fn place(&self) -> Option<u64>
         ensures { result ≡ None }
     {

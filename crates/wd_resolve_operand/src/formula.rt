@@ -15,12 +15,12 @@ pub trait Leaf: Drop {
 
     ghost alike: { Shown → Shown → Bool };
 
-    /// Whether two leaves read the same.
+    /// Whether two leaves are equal.
     fn same(&self, other: &Self) -> bool
         ensures { result ≡ alike (shown self.now) (shown other.now) };
 }
 
-/// An expression, as one of a plan (`Expr`), with leaves in the place of columns.
+/// An expression like `Expr` of a plan, with leaves in place of columns.
 pub enum Formula<L> {
     Leaf(L),
     /// A literal, NULL too, with its kind.
@@ -33,11 +33,11 @@ pub enum Formula<L> {
     Or(Box<Formula<L>>, Box<Formula<L>>),
     IsNull(Box<Formula<L>>),
     IsNotNull(Box<Formula<L>>),
-    /// A branch of a CASE: its condition, its result, and the rest, which is the next branch or what ELSE gives.
+    /// A branch of a CASE: its condition, its result, and the rest, which is the next branch or the operand of ELSE.
     Case(Branch, Box<Formula<L>>, Box<Formula<L>>, Box<Formula<L>>),
 }
 
-/// Lets go along the left side, and along the branches of a CASE, by a loop: a chain of operators is as deep as it is long.
+/// Drops the left side and the branches of a CASE by a loop: a chain of operators is as deep as it is long.
 impl<L: Drop> Drop for Formula<L> {
     fn drop(mut self) {
         loop {
@@ -59,8 +59,8 @@ impl<L: Drop> Drop for Formula<L> {
 }
 
 impl<L: Leaf> Formula<L> {
-    /// Whether two expressions are one and the same tree. A literal's kind counts, and a CASE within ELSE is another tree
-    /// than a further branch. The left operands come last: a compiler makes a loop of that call.
+    /// Whether two expressions are equal trees. The kind of a literal counts, and a CASE within ELSE differs from a further branch. The
+    /// left operands come last, so that the compiler makes a loop of that call.
     pub fn same(&self, other: &Formula<L>) -> bool
         ensures { result ≡ spec.same_formula L.alike (formula_of L.shown self.now) (formula_of L.shown other.now) }
     {

@@ -8,8 +8,8 @@ use crate::formula::{Formula, Leaf};
 use std::alloc::Global;
 use wd_value::OutOfMemory;
 
-/// The leaves of an expression, from left to right. The operands that are still to be looked at stand on the heap, the next one
-/// last, since a chain may have thousands of operators on its left.
+/// The leaves of an expression, from left to right. The operands still to be looked at are on the heap, the next one last, since a chain
+/// may have thousands of operators on its left.
 #[tactic(auto, using(crate::proofs::Walked::waiting_push, crate::proofs::Walked::found_push))]
 pub fn leaves_of<L: Leaf>(alloc: Global, formula: &Formula<L>) -> Result<Vec<&L>, OutOfMemory>
     ensures { IfOk result (λ v. map (λ l. L.shown l.now) v.items ≡ leaves (formula_of L.shown formula.now)) }
@@ -25,7 +25,8 @@ pub fn leaves_of<L: Leaf>(alloc: Global, formula: &Formula<L>) -> Result<Vec<&L>
     Ok(found)
 }
 
-/// The leaf that the expression is; of another its operands are put behind those that wait, the first one last.
+/// The leaf that the expression is, if it is one; the operands of another expression are appended to those that wait, the first operand
+/// last.
 #[tactic(auto, using(crate::proofs::Walked::waiting_push))]
 fn opened<'f, L: Leaf>(
     part: &'f Formula<L>,

@@ -15,10 +15,10 @@ use wd_value::Value;
 /// The greatest number of 64 bits.
 const GREATEST: u64 = i64::MAX as u64;
 
-/// How far below zero the numbers of 64 bits go.
+/// The size of the least number of 64 bits, 2^63.
 const DEEPEST: u64 = 9223372036854775808;
 
-/// A number as 64 bits hold it; 404 past them.
+/// The number, if it is at most 9223372036854775807; else 404.
 pub fn number(n: u64) -> Result<u64, ResolveError>
     ensures { Gives (λ m. m) result (spec.number n) }
 {
@@ -66,7 +66,7 @@ pub fn literal<L: Leaf>(alloc: Global, literal: &Literal) -> Result<Meaning<L>, 
     }
 }
 
-/// A number with a sign directly before it: 9223372036854775808 is allowed after a minus alone.
+/// A number with a sign directly before it; 9223372036854775808 is allowed only after a minus.
 pub fn signed_number<L: Leaf>(alloc: Global, sign: Sign, n: u64) -> Result<Meaning<L>, ResolveError>
     ensures { Gives (operand_of L.shown) result (spec.signed_number sign n) }
 {

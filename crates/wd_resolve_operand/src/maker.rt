@@ -1,4 +1,4 @@
-//! How trees of literals and operators are made, over what becomes of the leaves of an expression.
+//! How trees of literals and operators are made from what the leaves of an expression become.
 
 ghost use Rattle.std.specs.Prelude.{◌≡◌};
 ghost use Rattle.wd_resolve_operand.specs.Causes.{Gives, Meant};
@@ -27,7 +27,7 @@ pub(crate) enum Binary {
     Or,
 }
 
-/// What makes a tree of what becomes of leaves, of literals and of operators.
+/// Makes a tree of what leaves become, of literals and of operators.
 pub(crate) trait Maker {
     type From: Drop;
 
@@ -45,7 +45,7 @@ pub(crate) trait Maker {
 
     ghost meaning: { Self → Read → Meant Shown };
 
-    /// The tree in the place of a leaf.
+    /// The tree in place of a leaf.
     fn leaf(&self, alloc: Global, leaf: &Self::From) -> Result<Self::To, ResolveError>
         ensures { Gives shown result (meaning self.now (read leaf.now)) };
 

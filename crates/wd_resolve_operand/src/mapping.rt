@@ -1,4 +1,4 @@
-//! Expressions over other leaves than their own, and over columns.
+//! Expressions over other leaves, and over columns.
 
 ghost use Rattle.std.specs.Prelude.{ℕ};
 ghost use Rattle.wd_plan.specs.Expressions.{expression_of};
@@ -13,7 +13,7 @@ use std::alloc::Global;
 use wd_plan::{Branch, Expr, ValueKind};
 use wd_value::Value;
 
-/// What leaf becomes of each.
+/// Which leaf each leaf becomes.
 pub trait LeafMap {
     type From: Drop;
 
@@ -29,12 +29,12 @@ pub trait LeafMap {
 
     ghost meaning: { Self → Read → Meant Shown };
 
-    /// The leaf in the place of another.
+    /// The leaf in place of another.
     fn leaf(&self, alloc: Global, leaf: &Self::From) -> Result<Self::To, ResolveError>
         ensures { Gives shown result (meaning self.now (read leaf.now)) };
 }
 
-/// At which column each leaf stands.
+/// The column of each leaf.
 pub trait ColumnMap {
     type From: Drop;
 
@@ -49,7 +49,7 @@ pub trait ColumnMap {
         ensures { Gives (λ n. n) result (meaning self.now (read leaf.now)) };
 }
 
-/// An expression over what becomes of its leaves.
+/// An expression with each leaf replaced.
 #[tactic(auto, using(crate::proofs::Mapped::mapped_over_leaves))]
 pub fn over_leaves<M: LeafMap>(
     alloc: Global,
@@ -61,7 +61,7 @@ pub fn over_leaves<M: LeafMap>(
     made(alloc, &OverLeaves { map }, formula)
 }
 
-/// The expression over the columns at which its leaves stand.
+/// The expression over the columns of its leaves.
 pub fn over_columns<M: ColumnMap>(
     alloc: Global,
     map: &M,
@@ -72,7 +72,7 @@ pub fn over_columns<M: ColumnMap>(
     made(alloc, &OverColumns { map }, formula)
 }
 
-/// Expressions are made over other leaves.
+/// Makes expressions over other leaves.
 #[derive(Drop)]
 struct OverLeaves<'m, M> {
     map: &'m M,
@@ -141,7 +141,7 @@ impl<'m, M: LeafMap> Maker for OverLeaves<'m, M> {
     }
 }
 
-/// Expressions of a plan are made, over columns.
+/// Makes expressions of a plan, over columns.
 #[derive(Drop)]
 struct OverColumns<'m, M> {
     map: &'m M,

@@ -12,7 +12,7 @@ use std::alloc::Global;
 use wd_plan::{ValueKind, same_kind};
 use wd_value::Value;
 
-/// What an expression means as an operand: a bare NULL, whose kind its place decides, or an expression of a kind.
+/// An expression as an operand: a bare NULL, whose kind its place decides, or an expression of a kind.
 #[derive(Drop)]
 pub enum Meaning<L> {
     Null,
@@ -20,7 +20,7 @@ pub enum Meaning<L> {
 }
 
 impl<L: Leaf> Meaning<L> {
-    /// The kind of the values in a place that asks for none: a bare NULL is a text.
+    /// The kind of the values in a place that requires none: a bare NULL is a text.
     pub fn kind(&self) -> ValueKind
         ensures { result ≡ spec.kind_of (operand_of L.shown self.now) }
     {
@@ -30,7 +30,7 @@ impl<L: Leaf> Meaning<L> {
         }
     }
 
-    /// The expression in a place that asks for this kind; 404 where it is of another.
+    /// The expression in a place that requires this kind; 404 where it is of another kind.
     pub fn of_kind(self, alloc: Global, kind: ValueKind) -> Result<Box<Formula<L>>, ResolveError>
         ensures { Gives (λ e. formula_of L.shown e.value) result (spec.of_kind kind (operand_of L.shown self)) }
     {
@@ -44,7 +44,7 @@ impl<L: Leaf> Meaning<L> {
         }
     }
 
-    /// The expression in a place that asks for no kind.
+    /// The expression in a place that requires no kind.
     pub fn settled(self) -> Formula<L>
         ensures { formula_of L.shown result ≡ spec.settled (operand_of L.shown self) }
     {

@@ -13,7 +13,7 @@ use std::alloc::Global;
 use wd_plan::{ArithmeticOp, Branch, ComparisonOp, ValueKind};
 use wd_syntax::{Operator, Sign};
 
-/// A sign over an operand; a plus leaves no node.
+/// A sign over an operand; a plus adds no node.
 pub fn signed<L: Leaf>(
     alloc: Global,
     sign: Sign,
@@ -52,7 +52,7 @@ pub fn tested<L: Leaf>(
     Meaning::typed(alloc, test, ValueKind::Truth)
 }
 
-/// The kind that two operands ask for: that of the first that is no bare NULL.
+/// The kind of both operands: that of the first that is not a bare NULL.
 fn asked_by_both<L: Leaf>(left: &Meaning<L>, right: &Meaning<L>) -> ValueKind
     ensures { result ≡ spec.asked_by_both (operand_of L.shown left.now) (operand_of L.shown right.now) }
 {
@@ -63,7 +63,7 @@ fn asked_by_both<L: Leaf>(left: &Meaning<L>, right: &Meaning<L>) -> ValueKind
     }
 }
 
-/// The kind that an operator asks of both operands.
+/// The kind that an operator requires of both operands.
 fn asked_by<L: Leaf>(operator: Operator, left: &Meaning<L>, right: &Meaning<L>) -> ValueKind
     ensures { result ≡ spec.asked_by operator (operand_of L.shown left.now) (operand_of L.shown right.now) }
 {
@@ -125,7 +125,7 @@ fn over_both<L: Leaf>(operator: Operator, a: Box<Formula<L>>, b: Box<Formula<L>>
     }
 }
 
-/// An operator over two operands of the kind that it asks for.
+/// An operator over two operands of the kind that it requires.
 pub fn combined<L: Leaf>(
     alloc: Global,
     operator: Operator,
@@ -147,7 +147,7 @@ pub struct CaseArm<L> {
     pub gives: Meaning<L>,
 }
 
-/// The kind that the results of a CASE ask for: that of the first that is no bare NULL.
+/// The kind of the results of a CASE: that of the first that is not a bare NULL.
 fn case_kind<L: Leaf>(arms: &[CaseArm<L>], other: &Meaning<L>) -> ValueKind
     ensures { result ≡ spec.case_kind (map (spec.arm_of L.shown) arms.now) (operand_of L.shown other.now) }
 {
@@ -159,7 +159,7 @@ fn case_kind<L: Leaf>(arms: &[CaseArm<L>], other: &Meaning<L>) -> ValueKind
     other.kind()
 }
 
-/// Which branch of its CASE stands after these.
+/// Which branch of its CASE comes after these arms.
 fn branch_after<L: Leaf>(arms: &[CaseArm<L>]) -> Branch
     ensures { result ≡ spec.branch_after Branch.First (map (spec.arm_of L.shown) arms.now) }
 {
@@ -170,7 +170,7 @@ fn branch_after<L: Leaf>(arms: &[CaseArm<L>]) -> Branch
     }
 }
 
-/// A condition and a result, before the rest of a CASE.
+/// A condition and a result, followed by the rest of a CASE.
 fn arm_over<L: Leaf>(
     alloc: Global,
     branch: Branch,
@@ -186,7 +186,7 @@ fn arm_over<L: Leaf>(
     Ok(Box::new(alloc, Formula::Case(branch, when, gives, rest))?)
 }
 
-/// All branches of a CASE, before what ELSE gives.
+/// All branches of a CASE, followed by the operand of ELSE.
 fn arms_over<L: Leaf>(
     alloc: Global,
     kind: ValueKind,

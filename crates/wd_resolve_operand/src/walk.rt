@@ -1,5 +1,5 @@
-//! The walk over an expression that makes a tree of it. What is still to be done stands on the heap, and takes nothing of the stack
-//! however deep the expression is.
+//! The walk over an expression that makes a tree of it. The work still to be done waits on the heap, so the depth of the expression takes
+//! no stack.
 
 ghost use Rattle.std.specs.Prelude.{◌<◌, IfOk};
 ghost use Rattle.wd_resolve_operand.specs.Causes.{Gives};
@@ -16,16 +16,16 @@ use wd_plan::Branch;
 #[derive(Drop)]
 enum Pending<'f, K, T> {
     Under(Unary),
-    /// It stands left; the tree of the right operand is still to be made.
+    /// The tree is that of a left operand; the right operand's is still to be made.
     Left(Binary, &'f Formula<K>),
     Right(Binary, Box<T>),
-    /// It is the condition of a branch; the trees of the result and of the rest are still to be made.
+    /// The tree is that of a branch's condition; those of the result and of the rest are still to be made.
     Condition(Branch, &'f Formula<K>, &'f Formula<K>),
     Result(Branch, Box<T>, &'f Formula<K>),
     Rest(Branch, Box<T>, Box<T>),
 }
 
-/// A tree that is made, or the operand whose tree has to be made first.
+/// A finished tree, or the operand whose tree has to be made first.
 #[derive(Drop)]
 enum Step<'f, K, T> {
     Made(T),

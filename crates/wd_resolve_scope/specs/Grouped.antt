@@ -1,4 +1,4 @@
--- When a select is grouped, and the columns that may then stand in it (SQL, table expression, group by clause; PG, SELECT: GROUP BY
+-- When a select is grouped, and the columns that may then appear in it (SQL, table expression, group by clause; PG, SELECT: GROUP BY
 -- Clause).
 use Rattle.std.specs.Prelude.{ℕ, Bool, true, false, ◌||◌, List, [], ◌∷◌, Option, Some, None, is_some, Ok, Err, ⊤, if◌then◌else◌}
 use Rattle.std.specs.List.{list_any}
@@ -15,7 +15,7 @@ use Rattle.wd_resolve_call.specs.Functions.{group_function_named}
 use Rattle.wd_resolve_call.specs.Leaves.{SelectLeaf, of_row}
 use Rattle.wd_resolve_call.specs.Rows.{column}
 
--- ---- by what it is grouped
+-- ---- how it is grouped
 
 -- a call without OVER that is an aggregate or GROUPING, by its name
 abbrev pub is_group_call : Name → OverTree → Bool
@@ -23,7 +23,7 @@ is_group_call f no_over = is_some (group_function_named f.text)
 is_group_call f over = false
 
 abbrev mutual
-  -- an aggregate or GROUPING stands in it
+  -- an aggregate or GROUPING is in the expression
   pub has_group_call : Tree → Bool
   has_group_call (Constant x) = false
   has_group_call (Column name) = false
@@ -70,16 +70,16 @@ abbrev pub is_written : List GroupTree → Bool
 is_written [] = false
 is_written (a ∷ items) = true
 
--- a select is grouped where it has GROUP BY, HAVING, or an aggregate or GROUPING in its select list, its windows (also in one that
--- no call uses) or its final sort keys
+-- a select is grouped where it has GROUP BY, HAVING, or an aggregate or GROUPING in its select list, its windows (even one that no call
+-- uses) or its final sort keys
 abbrev pub is_grouped : Parts → Bool
 is_grouped parts =
     (is_written parts.tail.grouping.items || is_some parts.tail.grouping.having)
     || (list_any item_has parts.items || (list_any (λ w. window_has w.1) parts.tail.windows || keys_have parts.tail.order))
 
--- ---- the columns that may stand in it
+-- ---- the columns that may appear in a grouped select
 
--- the columns that are grouped by, by their numbers in FROM, and why no other may stand there
+-- the columns that are grouped by, as numbers in FROM, and why no other may appear
 pub record GroupedRule : Type 0 where
   pub columns : List ℕ
   pub other : Cause
@@ -90,7 +90,7 @@ grouped_of g = record { columns = g.columns.now; other = g.other }
 abbrev pub column_operand : ℕ × ValueKind → Operand SelectLeaf
 column_operand x = typed (Leaf (of_row (column x.0))) x.1
 
--- in a grouped select a column is one that is grouped by
+-- a grouped select has to be grouped by the column
 abbrev pub column_allowed : Option GroupedRule → ℕ → Meant ⊤
 column_allowed None n = Ok tt
 column_allowed (Some g) n = if has g.columns n then Ok tt else Err g.other

@@ -1,4 +1,4 @@
--- Laws of what is meant, over the definitions alone.
+-- Laws of meanings, over the definitions alone.
 use Rattle.std.specs.Prelude.{◌≡◌, Ok}
 use Rattle.wd_syntax.specs.Tree.{Tree, WindowTree}
 use Rattle.wd_resolve_operand.specs.Operands.{Operand}
@@ -7,10 +7,10 @@ use Rattle.wd_resolve_scope.specs.Resolving.{ContextRule, resolved, window_resol
 use Rattle.wd_resolve_call.specs.Windows.{WindowMeaning}
 use Rattle.wd_resolve_scope.specs.Typed.{AreKnown, IsOperand, IsWindow, readable}
 
--- What an expression means is typed, over the columns that may stand there and calls over those in scope.
+-- The meaning of an expression is typed, over the columns that may appear and calls over those in scope.
 abbrev pub MeaningsAreTyped : Type 0
 MeaningsAreTyped = (c : ContextRule) (a : Tree) (x : Operand SelectLeaf) → AreKnown (readable c.scope c.groups) c.windows → resolved c a ≡ Ok x → IsOperand (readable c.scope c.groups) x
 
--- What a window means is a window over the columns in scope.
+-- The meaning of a window is a window over the columns in scope.
 abbrev pub WindowsAreTyped : Type 0
 WindowsAreTyped = (c : ContextRule) (v : WindowTree) (w : WindowMeaning) → AreKnown (readable c.scope c.groups) c.windows → window_resolved c v ≡ Ok w → IsWindow (readable c.scope c.groups) w

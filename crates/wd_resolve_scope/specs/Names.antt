@@ -6,12 +6,12 @@ use Rattle.wd_resolve_operand.specs.Causes.{Meant}
 use Rattle.wd_resolve_scope.specs.declared.scope.ScopeColumn.{ScopeColumn}
 use Rattle.wd_resolve_scope.specs.Scopes.{ScopeRule, carries, numbered}
 
--- the one column of these: its number, and the kind of its values
+-- the only one of these columns: its number, and the kind of its values
 abbrev pub the_only : List (ℕ × ScopeColumn) → Meant (ℕ × ValueKind)
 the_only [] = Err UnknownColumn
 the_only (c ∷ []) = Ok (c.0, c.1.kind)
 the_only (c ∷ other ∷ others) = Err Ambiguous
 
--- a name, after the name of its table or not, stands for the one column in scope that carries it
+-- a name, with or without the name of its table before it, stands for the only column in scope that carries it
 abbrev pub column_named : ScopeRule → Option (List ℕ) → List ℕ → Meant (ℕ × ValueKind)
 column_named scope table name = the_only (filter (λ c. carries table name c.1) (numbered scope.columns))

@@ -1,9 +1,9 @@
--- Where in a query what may stand.
+-- What may appear at which place of a query.
 use Rattle.std.specs.Prelude.{Bool, true, false}
 use Rattle.wd_resolve_scope.specs.declared.context.Place.{Place}
 use Rattle.wd_resolve_scope.specs.declared.context.Place.TheVariants.{SelectList, On, Where, Having, Window, Argument, Aggregated, SortKey}
 
--- window calls stand in the select list alone (own: SQL and PG allow them in the final ORDER BY too)
+-- window calls may appear only in the select list (this project's choice: SQL and PG allow them in the final ORDER BY too)
 abbrev pub allows_window_calls : Place → Bool
 allows_window_calls SelectList = true
 allows_window_calls On = false
@@ -14,7 +14,7 @@ allows_window_calls Argument = false
 allows_window_calls Aggregated = false
 allows_window_calls SortKey = false
 
--- aggregates and GROUPING stand in what is read of groups, and in no other aggregate
+-- aggregates and GROUPING may appear in what is read of groups, but not in another aggregate
 abbrev pub allows_group_calls : Place → Bool
 allows_group_calls SelectList = true
 allows_group_calls On = false
@@ -25,7 +25,7 @@ allows_group_calls Argument = true
 allows_group_calls Aggregated = false
 allows_group_calls SortKey = true
 
--- where the arguments of a window call stand: no window call may stand in them, and what else may goes by the call's own place
+-- the place of the arguments of a window call: no window call may appear there; the call's place decides the rest
 abbrev pub within_call : Place → Place
 within_call SelectList = Argument
 within_call place = place

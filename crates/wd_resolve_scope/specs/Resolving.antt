@@ -28,8 +28,7 @@ use Rattle.wd_resolve_call.specs.Functions.{GroupFunction, aggregates, applied, 
 use Rattle.wd_resolve_call.specs.Leaves.{SelectLeaf, of_row, call, over_columns, over_rows}
 use Rattle.wd_resolve_call.specs.Rows.{RowFormula, kind_of_group_call, of_group}
 
--- what an expression is read in: the columns in scope, those of them that a grouped select is grouped by, the windows that have
--- names, and the place where it stands
+-- the context of an expression: the columns in scope, those that a grouped select is grouped by, the named windows, and the place
 pub record ContextRule : Type 0 where
   pub scope : ScopeRule
   pub groups : Option GroupedRule
@@ -39,33 +38,33 @@ pub record ContextRule : Type 0 where
 abbrev pub context_of : Context → ContextRule
 context_of c = record { scope = scope_of c.scope.now; groups = option_map grouped_of c.groups; windows = map known_of c.windows.now; place = c.place }
 
--- the same scope and windows, at another place
+-- the same context at another place
 abbrev pub moved_to : Place → ContextRule → ContextRule
 moved_to place c = record { scope = c.scope; groups = c.groups; windows = c.windows; place = place }
 
--- an aggregate's arguments are read over all columns, and no windows stand there, and GROUPING's have a refusal of their own for columns that are not grouped by;
--- those of another call without OVER stand where it stands
+-- the arguments of an aggregate may have all columns, but no windows; those of GROUPING have a refusal of their own for a column that the
+-- select is not grouped by; those of another call without OVER are read as the call is
 abbrev pub without_over : Option GroupFunction → ContextRule → ContextRule
 without_over None c = c
 without_over (Some (aggregates name)) c = record { scope = c.scope; groups = None; windows = []; place = place.Aggregated }
 without_over (Some grouped) c = record { scope = c.scope; groups = option_map (λ (g : GroupedRule). record { columns = g.columns; other = GroupingOfOther }) c.groups; windows = c.windows; place = c.place }
 
--- what the arguments of a call are read in
+-- the context of the arguments of a call
 abbrev pub arguments_in : ContextRule → Name → OverTree → ContextRule
 arguments_in c f no_over = without_over (group_function_named f.text) c
 arguments_in c f (over_name name) = moved_to (within_call c.place) c
 arguments_in c f (over_window w) = moved_to (within_call c.place) c
 
--- the number that a sign stands directly before
+-- the number directly after a sign, if the expression is one
 abbrev pub written_number : Tree → Option ℕ
 written_number (Constant (l.Number n)) = Some n
 written_number a = None
 
--- aggregates and GROUPING stand in grouped selects, in places that allow them
+-- aggregates and GROUPING may appear in grouped selects, at places that allow them
 abbrev pub may_group : ContextRule → Bool
 may_group c = is_some c.groups && allows_group_calls c.place
 
--- a call without OVER: an aggregate or GROUPING over its arguments, where one may stand
+-- a call without OVER: an aggregate or GROUPING over its arguments, where these are allowed
 abbrev pub group_called : ContextRule → Option GroupFunction → Option (List (Operand SelectLeaf)) → Meant (Operand SelectLeaf)
 group_called c None arguments = Err WrongCall
 group_called c (Some function) arguments = if may_group c then (grouped_over function arguments >>= λ g. Ok (typed (Leaf (of_row (of_group g))) (kind_of_group_call g))) else Err GroupCallNotAllowed
@@ -76,7 +75,7 @@ called f arguments w = do
   function ← applied (function_named f.text) arguments
   Ok (typed (Leaf (call (record { function = function; window = w }))) (kind_of_function function))
 
--- a sign over an operand, or over the number that stands directly after it
+-- a sign over an operand, or over the number directly after it
 abbrev pub sign_meant : Sign → Option ℕ → Meant (Operand SelectLeaf) → Meant (Operand SelectLeaf)
 sign_meant sign (Some n) inner = signed_number sign n
 sign_meant sign None inner = inner >>= λ x. signed sign x
@@ -87,7 +86,7 @@ key_meant x direction place = do
   expression ← over_rows (settled x)
   Ok (record { expression = expression; kind = kind_of x; key = sort_key direction place })
 
--- expressions in places that ask for no kind
+-- expressions in places that require no kind
 abbrev pub all_settled : List (Operand SelectLeaf) → Meant (List RowFormula)
 all_settled [] = Ok []
 all_settled (x ∷ xs) = do
@@ -95,12 +94,12 @@ all_settled (x ∷ xs) = do
   es ← all_settled xs
   Ok (e ∷ es)
 
--- what stands in OVER, where window calls may stand
+-- what is in OVER, where window calls are allowed
 abbrev pub where_allowed : ContextRule → Meant WindowMeaning → Meant WindowMeaning
 where_allowed c w = if allows_window_calls c.place then w else Err CallNotAllowed
 
 abbrev mutual
-  -- what an expression means
+  -- the meaning of an expression
   pub resolved : ContextRule → Tree → Meant (Operand SelectLeaf)
   resolved c (Constant x) = literal x
   resolved c (Column name) = column_named c.scope None name.text >>= λ x. column_meant c.groups x
@@ -144,7 +143,7 @@ abbrev mutual
   else_resolved c no_else = Ok bare_null
   else_resolved c (or_else a) = resolved c a
 
-  -- the expressions that a window sorts by
+  -- the sort keys of a window
   pub keys_resolved : ContextRule → Keys → Meant (List KeyMeaning)
   keys_resolved c no_keys = Ok []
   keys_resolved c (more_keys a direction place keys) = do
@@ -153,7 +152,7 @@ abbrev mutual
     ks ← keys_resolved c keys
     Ok (k ∷ ks)
 
-  -- a call after its arguments: what stands in OVER, and then itself; OVER is looked at only where window calls may stand
+  -- a call after its arguments: first what is in OVER, then the call itself; OVER is looked at only where window calls are allowed
   pub call_over : ContextRule → Name → Option (List (Operand SelectLeaf)) → OverTree → Meant (Operand SelectLeaf)
   call_over c f xs no_over = group_called c (group_function_named f.text) xs
   call_over c f xs (over_name name) = where_allowed c (window_named c.windows name.text) >>= λ w. called f xs w
@@ -170,18 +169,18 @@ abbrev mutual
 
 -- ---- expressions outside the select list
 
--- an expression in a place where no windows have names
+-- an expression at a place where no windows have names
 abbrev pub plain : Place → Option GroupedRule → ScopeRule → Tree → Meant (Operand SelectLeaf)
 plain place groups scope a = resolved (record { scope = scope; groups = groups; windows = []; place = place }) a
 
--- the condition of HAVING, a truth value over groups, where no windows are yet
+-- the condition of HAVING, a truth value over groups, where no windows are known
 abbrev pub group_condition : Option GroupedRule → ScopeRule → Tree → Meant RowFormula
 group_condition groups scope a = do
   x ← plain place.Having groups scope a
   truth ← of_kind Truth x
   over_rows truth
 
--- the condition of WHERE and of ON, a truth value over the columns in scope
+-- the condition of WHERE or of ON, a truth value over the columns in scope
 abbrev pub condition : Place → ScopeRule → Tree → Meant Expression
 condition place scope a = do
   x ← plain place None scope a
@@ -190,7 +189,7 @@ condition place scope a = do
 
 -- ---- the WINDOW clause
 
--- a name that an earlier window has
+-- an earlier window has the name
 abbrev pub is_known : List KnownMeaning → List ℕ → Bool
 is_known windows name = list_any (λ known. bytes_eq known.name name) windows
 
@@ -198,7 +197,7 @@ is_known windows name = list_any (λ known. bytes_eq known.name name) windows
 abbrev pub defined : ScopeRule → Option GroupedRule → List KnownMeaning → Name → WindowTree → Meant KnownMeaning
 defined scope groups windows name w = if is_known windows name.text then Err UnknownWindow else window_resolved (record { scope = scope; groups = groups; windows = windows; place = place.Window }) w >>= λ meaning. Ok (record { name = name.text; window = meaning })
 
--- the windows of the WINDOW clause, after those before them: each is checked, also where no call uses it
+-- the windows of the WINDOW clause, after those before them; each is checked, even where no call uses it
 abbrev pub all_defined : ScopeRule → Option GroupedRule → List KnownMeaning → List (Name × WindowTree) → Meant (List KnownMeaning)
 all_defined scope groups windows [] = Ok windows
 all_defined scope groups windows (w ∷ others) = defined scope groups windows w.0 w.1 >>= λ known. all_defined scope groups (windows ++ known ∷ []) others

@@ -17,7 +17,7 @@ scope_of s = record { tables = s.tables.items; columns = s.columns.items }
 abbrev pub numbered : List ScopeColumn → List (ℕ × ScopeColumn)
 numbered columns = zip (range_with_len 0 (length columns)) columns
 
--- a column of that name, and of the table of that name where one is said
+-- a column of that name and, if a table is named, of that table
 abbrev pub carries : Option (List ℕ) → List ℕ → ScopeColumn → Bool
 carries None name column = bytes_eq column.name name
 carries (Some table) name column = bytes_eq column.table table && bytes_eq column.name name
@@ -26,6 +26,6 @@ carries (Some table) name column = bytes_eq column.table table && bytes_eq colum
 abbrev pub has_table : ScopeRule → List ℕ → Bool
 has_table scope table = list_any (bytes_eq table) scope.tables
 
--- two scopes, one beside the other
+-- two scopes, the columns of the left one first
 abbrev pub beside : ScopeRule → ScopeRule → ScopeRule
 beside left right = record { tables = left.tables ++ right.tables; columns = left.columns ++ right.columns }

@@ -1,4 +1,4 @@
--- That what is meant is typed: an operand has the kind that it says, over the columns in scope and its calls.
+-- That meanings are typed: an operand has the kind that it says, over the columns in scope and its calls.
 use Rattle.std.specs.Prelude.{◌≡◌, ℕ, Bool, true, not, ◌||◌, ◌&&◌, List, length, nat_le, Option, Some, None, is_some, option_map, slice_get, ⊤}
 use Rattle.std.specs.List.{AllByRecursion}
 use Rattle.wd_plan.specs.declared.expression.ValueKind.{ValueKind}
@@ -30,14 +30,14 @@ pub record IsOfKind (kinds : Kinds) (e : Expression) (kind : ValueKind) : Type 0
 
 -- ---- what may be read
 
--- the columns of FROM: their kinds, and which of them may stand outside the argument of an aggregate
+-- the columns of FROM: their kinds, and which of them may appear outside the argument of an aggregate
 pub record Readable : Type 0 where
   pub kinds : Kinds
   pub allows : ℕ → Bool
-  -- calls over groups may stand there
+  -- calls over groups may appear
   pub grouped : Bool
 
--- where rows are grouped, those that are grouped by
+-- where rows are grouped, the columns that are grouped by
 abbrev pub allowed : Option GroupedRule → ℕ → Bool
 allowed None n = true
 allowed (Some g) n = has g.columns n
@@ -47,11 +47,11 @@ readable scope groups = record { kinds = kinds_in scope; allows = allowed groups
 
 -- ---- calls over groups
 
--- what holds of an argument's expression and kind, holds of the argument
+-- a property of an argument's expression and kind, as one of the argument
 abbrev pub IsArgument : {E : Type 0} → (E → ValueKind → Type 0) → ArgumentMeaning E → Type 0
 IsArgument Is a = Is a.expression a.kind
 
--- an aggregate whose argument is such an expression
+-- an aggregate whose argument has the property
 abbrev pub IsAggregate : {E : Type 0} → (E → ValueKind → Type 0) → AggregateMeaning E → Type 0
 IsAggregate Is count_rows = ⊤
 IsAggregate Is (count_of a) = IsArgument Is a
@@ -73,13 +73,13 @@ abbrev pub IsRowLeaf : Readable → RowLeaf → Type 0
 IsRowLeaf r (column n) = (is_some (r.kinds n) ≡ true) × (r.allows n ≡ true)
 IsRowLeaf r (of_group c) = (r.grouped ≡ true) × IsGroupCall r c
 
--- an expression that is typed and has this kind, over columns of these r and calls over groups of their rows
+-- an expression over rows that is typed and has this kind, over these columns and calls over groups of their rows
 pub record IsRowFormula (r : Readable) (f : RowFormula) (kind : ValueKind) : Type 0 where
   pub is : is_typed_over (row_kind_at r.kinds) f ≡ true
   pub has : kind_over (row_kind_at r.kinds) f ≡ Some kind
   pub leaves_are : AllByRecursion (IsRowLeaf r) (leaves f)
 
--- such an expression of some kind
+-- an expression over rows that is typed, of some kind
 pub record IsTypedRow (r : Readable) (f : RowFormula) : Type 0 where
   pub kind : ValueKind
   pub formula : IsRowFormula r f kind
@@ -93,20 +93,20 @@ AreTyped r fs = AllByRecursion (IsTypedRow r) fs
 abbrev pub AreKeys : Readable → List KeyMeaning → Type 0
 AreKeys r keys = AllByRecursion (λ (key : KeyMeaning). IsRowFormula r key.expression key.kind) keys
 
--- a frame that goes with its sort keys: GROUPS has some, an offset in RANGE exactly one, of whole numbers
+-- a frame that is allowed with its sort keys: GROUPS has some, an offset in RANGE exactly one, of whole numbers
 abbrev pub is_framed : FrameMode → List KeyMeaning → Frame → Bool
 is_framed mode.Rows order frame = true
 is_framed mode.Range order frame = not (has_offset frame.start || has_offset frame.end) || is_one_number order
 is_framed mode.Groups order frame = not (is_empty order)
 
--- a window over columns of these r
+-- a window over these columns
 pub record IsWindow (r : Readable) (w : WindowMeaning) : Type 0 where
   pub partition : AreTyped r w.partition
   pub order : AreKeys r w.order
   pub bounds : are_bounds w.frame.start w.frame.end ≡ true
   pub frame : is_framed w.frame.mode w.order w.frame ≡ true
 
--- a function over columns of these r
+-- a function over these columns
 abbrev pub IsFunction : Readable → FunctionMeaning → Type 0
 IsFunction r (ranking ranked) = is_ranking ranked ≡ true
 IsFunction r (away direction a n default) = IsArgument (IsRowFormula r) a × (is_of_kind a.kind default ≡ true)
@@ -117,23 +117,23 @@ pub record IsCall (r : Readable) (call : CallMeaning) : Type 0 where
   pub function : IsFunction r call.function
   pub window : IsWindow r call.window
 
--- the windows that have names
+-- the named windows
 abbrev pub AreKnown : Readable → List KnownMeaning → Type 0
 AreKnown r windows = AllByRecursion (λ (known : KnownMeaning). IsWindow r known.window) windows
 
 -- ---- operands
 
--- the kind of a leaf: that of what is read of rows, or that of the values of the call's function
+-- the kind of a leaf: that of the leaf of rows, or that of the values of the call's function
 abbrev pub kind_at : Readable → SelectLeaf → Option ValueKind
 kind_at r (of_row l) = row_kind_at r.kinds l
 kind_at r (call c) = Some (kind_of_function c.function)
 
--- a column in r, or a call over the columns in r
+-- one of these columns, or a call over them
 abbrev pub IsLeaf : Readable → SelectLeaf → Type 0
 IsLeaf r (of_row l) = IsRowLeaf r l
 IsLeaf r (call c) = IsCall r c
 
--- an expression that is typed and has this kind, over the columns in r and calls over them
+-- an expression that is typed and has this kind, over these columns and calls over them
 pub record IsFormula (r : Readable) (f : Formula SelectLeaf) (kind : ValueKind) : Type 0 where
   pub is : is_typed_over (kind_at r) f ≡ true
   pub has : kind_over (kind_at r) f ≡ Some kind

@@ -1,4 +1,4 @@
-//! What an expression is read in.
+//! The context in which an expression is read.
 
 ghost use Rattle.std.specs.Prelude.{◌≡◌};
 ghost use Rattle.wd_resolve_scope.specs.Places as spec;
@@ -7,7 +7,7 @@ use crate::scope::Scope;
 use wd_resolve_call::KnownWindow;
 use wd_resolve_operand::Cause;
 
-/// Where in a query an expression stands.
+/// The place of an expression in a query.
 #[derive(Clone, Copy, PartialEq, Eq, Debug)]
 pub enum Place {
     SelectList,
@@ -25,7 +25,7 @@ pub enum Place {
 }
 
 impl Place {
-    /// Whether window calls may stand there.
+    /// Whether window calls may appear at this place.
     pub fn allows_window_calls(self) -> bool
         ensures { result ≡ spec.allows_window_calls self }
     {
@@ -41,7 +41,7 @@ impl Place {
         }
     }
 
-    /// Whether aggregates and GROUPING may stand there.
+    /// Whether aggregates and GROUPING may appear at this place.
     pub(crate) fn allows_group_calls(self) -> bool
         ensures { result ≡ spec.allows_group_calls self }
     {
@@ -52,7 +52,7 @@ impl Place {
         }
     }
 
-    /// Where the arguments of a window call that stands here stand.
+    /// The place of the arguments of a window call at this place.
     pub(crate) fn within_call(self) -> Place
         ensures { result ≡ spec.within_call self }
     {
@@ -63,14 +63,14 @@ impl Place {
     }
 }
 
-/// The columns that a select is grouped by, and why no other may stand there.
+/// The columns that a select is grouped by, and why no other may appear.
 #[derive(Clone, Copy)]
 pub struct Grouped<'a> {
     pub columns: &'a [u16],
     pub other: Cause,
 }
 
-/// The columns in scope, those of them that a grouped select is grouped by, the windows that have names, and the place.
+/// The columns in scope, those that a grouped select is grouped by, the named windows, and the place.
 #[derive(Clone, Copy)]
 pub struct Context<'a> {
     pub scope: &'a Scope,

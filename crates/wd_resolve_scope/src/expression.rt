@@ -35,7 +35,7 @@ use wd_syntax::{Arm, Link, Literal, Name, NamedWindow, Over, Sign, SortKey};
 use wd_value::Text;
 
 impl Context<'_> {
-    /// This scope and its windows, at another place.
+    /// This context at another place.
     fn moved_to(&self, place: Place) -> Context<'_>
         ensures { context_of result ≡ spec.moved_to place (context_of self.now) }
     {
@@ -47,7 +47,7 @@ impl Context<'_> {
         }
     }
 
-    /// Whether aggregates and GROUPING may stand there: in a grouped select, and in a place that allows them.
+    /// Whether aggregates and GROUPING may appear here: in a grouped select, and at a place that allows them.
     fn may_group(&self) -> bool
         ensures { result ≡ spec.may_group (context_of self.now) }
     {
@@ -95,7 +95,7 @@ impl Context<'_> {
         }
     }
 
-    /// In a grouped select a column is one that is grouped by.
+    /// Allows a column; in a grouped select only one that it is grouped by.
     pub fn allow_column(&self, number: u16) -> Result<(), ResolveError>
         ensures { Gives (λ u. u) result (column_allowed (option_map grouped_of self.now.groups) number) }
     {
@@ -107,7 +107,7 @@ impl Context<'_> {
         }
     }
 
-    /// A column, which in a grouped select is one that is grouped by.
+    /// A column, which a grouped select has to be grouped by.
     fn column(
         &self,
         alloc: Global,
@@ -123,7 +123,7 @@ impl Context<'_> {
     }
 }
 
-/// What an expression means.
+/// The meaning of an expression.
 #[cycle(resolve)]
 pub fn resolved(
     alloc: Global,
@@ -176,7 +176,7 @@ pub fn resolved(
     }
 }
 
-/// The number that a sign stands directly before.
+/// The number directly after a sign, if the expression is one.
 pub fn written_number(tree: &written::Expr) -> Option<u64>
     ensures { result ≡ spec.written_number (view tree.now) }
 {
@@ -186,7 +186,7 @@ pub fn written_number(tree: &written::Expr) -> Option<u64>
     }
 }
 
-/// A call after its arguments: what stands in OVER, and then itself.
+/// A call after its arguments: first what is in OVER, then the call itself.
 #[tactic(auto, using(crate::proofs::OverCalls::over_called))]
 #[cycle(resolve)]
 fn call_over(
@@ -208,7 +208,8 @@ fn call_over(
     called(alloc, name, arguments, window)
 }
 
-/// A call without OVER, after its arguments: 405 where it is neither an aggregate nor GROUPING, and 416 where none may stand, as in a
+/// A call without OVER, after its arguments: 405 where it is neither an aggregate nor GROUPING, and 416 where these may not appear, as in
+/// a select that is not grouped.
 /// select that is not grouped.
 fn group_called(
     alloc: Global,
@@ -230,7 +231,7 @@ fn group_called(
     Meaning::typed(alloc, Formula::Leaf(leaf), kind)
 }
 
-/// A CASE after its arms: its end, and then itself.
+/// A CASE after its arms: first its end, then the CASE itself.
 #[cycle(resolve)]
 fn case_ended(
     alloc: Global,
@@ -244,7 +245,7 @@ fn case_ended(
     case_of(alloc, arms, other)
 }
 
-/// The last operator of a chain and its right operand, over what stands left of it.
+/// The last operator of a chain and its right operand, over what is to its left.
 #[cycle(resolve)]
 fn last_resolved(
     alloc: Global,
@@ -258,7 +259,7 @@ fn last_resolved(
     combined(alloc, last.operator, left, right)
 }
 
-/// Operators and their right operands, over what stands left of them.
+/// Operators and their right operands, over what is to their left.
 #[cycle(resolve)]
 fn chain_resolved(
     alloc: Global,
@@ -343,7 +344,7 @@ fn arms_resolved(
     Ok(parts)
 }
 
-/// What a CASE ends in; NULL without ELSE.
+/// The operand of ELSE; NULL without ELSE.
 #[cycle(resolve)]
 fn else_resolved(
     alloc: Global,
@@ -358,7 +359,7 @@ fn else_resolved(
     }
 }
 
-/// The expressions that a window sorts by.
+/// The sort keys of a window.
 #[cycle(resolve)]
 fn keys_resolved(
     alloc: Global,
@@ -390,7 +391,7 @@ fn order_key(
     })
 }
 
-/// The window of a call, where one may stand.
+/// The window of a call, where one is allowed.
 #[cycle(resolve)]
 fn over_meant(alloc: Global, context: &Context<'_>, over: &Over) -> Result<Window, ResolveError>
     ensures { Gives window_of result (parts.over_meant (context_of context.now) (view_over over.now)) }
@@ -424,7 +425,7 @@ fn window_resolved(
     window_meant(alloc, base, partition, order, *frame)
 }
 
-/// The expressions in places that ask for no kind; 406 where a window call stands in one.
+/// The expressions in places that require no kind; 406 where a window call is in one.
 fn all_settled(
     alloc: Global,
     operands: &[Meaning<SelectLeaf>],
@@ -438,7 +439,7 @@ fn all_settled(
     Ok(expressions)
 }
 
-/// An expression in a place where no windows have names.
+/// An expression at a place where no windows have names.
 pub fn plain(
     alloc: Global,
     scope: &Scope,
@@ -471,7 +472,7 @@ pub fn group_condition(
     over_rows(alloc, &truth)
 }
 
-/// The condition of WHERE and of ON.
+/// The condition of WHERE or of ON.
 pub fn condition(
     alloc: Global,
     scope: &Scope,
@@ -522,7 +523,7 @@ fn defined(
     })
 }
 
-/// The windows of the WINDOW clause: each is checked, also where no call uses it.
+/// The windows of the WINDOW clause; each is checked, even where no call uses it.
 pub fn all_defined(
     alloc: Global,
     scope: &Scope,

@@ -10,7 +10,7 @@ use wd_resolve_call::group_function_named;
 use wd_syntax as written;
 use wd_syntax::{Arm, Item, Link, Name, NamedWindow, Over, Select, SortKey};
 
-/// Whether an aggregate or GROUPING stands in it.
+/// Whether an aggregate or GROUPING is in the expression.
 #[tactic(auto, using(crate::proofs::GroupCalls::call_has, crate::proofs::GroupCalls::case_has, crate::proofs::GroupCalls::chain_ends_have, crate::proofs::GroupCalls::tests_have))]
 #[cycle(has)]
 fn has_group_call(tree: &written::Expr) -> bool
@@ -44,7 +44,7 @@ fn has_group_call(tree: &written::Expr) -> bool
     }
 }
 
-/// Whether it is a call without OVER that is an aggregate or GROUPING, by its name.
+/// Whether a call is an aggregate or GROUPING without OVER, by its name.
 #[tactic(auto, using(crate::proofs::GroupCalls::no_group_call))]
 fn is_group_call(name: &Name, over: &Option<Box<Over>>) -> bool
     ensures { result ≡ spec.is_group_call name.now (view_over_option over.now) }

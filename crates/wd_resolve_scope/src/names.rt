@@ -11,7 +11,7 @@ use wd_plan::ValueKind;
 use wd_resolve_operand::{Cause, ResolveError};
 use wd_value::Text;
 
-/// Whether a column has the name, and is of the table of the other name where one is said.
+/// Whether a column has the name and, if a table is named, is of that table.
 fn carries(table: Option<&Text>, name: &Text, column: &ScopeColumn) -> bool
     ensures { result ≡ spec.carries (option_map (λ t. t.now) table.entry) name.now column.now }
 {
@@ -23,7 +23,7 @@ fn carries(table: Option<&Text>, name: &Text, column: &ScopeColumn) -> bool
 }
 
 impl Scope {
-    /// The one column of that name, of a table where one is said: 402 where there is none, 403 where there are several.
+    /// The only column of that name, in the named table if one is named; 402 where there is none, 403 where there are several.
     #[tactic(auto, using(crate::proofs::Naming::found_first))]
     pub fn column(
         &self,

@@ -1,4 +1,4 @@
-//! The columns that names can stand for.
+//! The columns that names may stand for.
 
 ghost use Rattle.std.specs.Prelude.{◌≤◌, vec_len};
 
@@ -8,7 +8,7 @@ use wd_value::Text;
 /// The most columns of a node of a plan.
 pub const MOST_COLUMNS: usize = 1024;
 
-/// A column in scope: what its table is called in FROM, its name, and the kind of its values.
+/// A column in scope: its table's name in FROM, its own name, and the kind of its values.
 #[derive(Drop)]
 pub struct ScopeColumn {
     pub table: Text,
@@ -16,7 +16,7 @@ pub struct ScopeColumn {
     pub kind: ValueKind,
 }
 
-/// What the tables of FROM are called, and their columns from left to right, at most 1,024.
+/// The names of the tables of FROM, and their columns from left to right, at most 1,024.
 #[derive(Drop)]
 pub struct Scope {
     pub tables: Vec<Text>,

@@ -32,8 +32,8 @@ use Rattle.wd_resolve_list.specs.Grouping.{below_of}
 use Rattle.wd_resolve_list.specs.Listing.{Below, all_needs, are_wide, needs_shown}
 use Rattle.wd_resolve_list.specs.Outputs.{OutputMeaning, expressions_of, output_of}
 
--- what a select has before its ORDER BY: the columns of FROM, those that may stand in it, what stands below its windows, whether it
--- is DISTINCT, and its outputs
+-- what a select has before its ORDER BY: the columns of FROM, those of them that may appear, what is below its windows, whether it is
+-- DISTINCT, and its outputs
 pub record Shown : Type 0 where
   pub scope : ScopeRule
   pub groups : Option GroupedRule
@@ -46,7 +46,7 @@ shown_of s = record { scope = scope_of s.scope.now; groups = option_map grouped_
 
 -- ---- sort keys
 
--- what is sorted by: the output of that number, or an expression that is no output
+-- what a key sorts by: the output of that number, or an expression that is not an output
 pub data KeyPlace : Type 0 where
   output : ℕ → KeyPlace
   hidden : Formula SelectLeaf → KeyPlace
@@ -64,23 +64,23 @@ abbrev pub output_or : Formula SelectLeaf → Option ℕ → KeyPlace
 output_or f None = hidden f
 output_or f (Some number) = output number
 
--- an expression that equals an output is the first such
+-- the first output that shows the expression, or else the expression
 abbrev pub sorted_place : Formula SelectLeaf → List OutputMeaning → KeyPlace
 sorted_place f outputs = output_or f (position (shows f) outputs)
 
--- the expression of a key over what may stand in it
+-- the expression of a key, over the columns that may appear
 abbrev pub expression_place : Shown → Tree → Meant KeyPlace
 expression_place s a = plain place.SortKey s.groups s.scope a >>= λ x. Ok (sorted_place (settled x) s.outputs)
 
 abbrev pub is_named : List ℕ → OutputMeaning → Bool
 is_named name o = bytes_eq o.name name
 
--- outputs of one name show one expression
+-- all outputs of one name show one expression
 abbrev pub are_one : List OutputMeaning → Bool
 are_one [] = true
 are_one (o ∷ others) = list_all (shows o.expression) others
 
--- the first output of a name, which no output of another expression may have
+-- the first output of a name; all outputs of that name have to show its expression
 abbrev pub first_named : List ℕ → List OutputMeaning → Meant (Option ℕ)
 first_named name outputs = if are_one (filter (is_named name) outputs) then Ok (position (is_named name) outputs) else Err Ambiguous
 
@@ -88,7 +88,7 @@ abbrev pub or_expression : Option ℕ → Meant KeyPlace → Meant KeyPlace
 or_expression None other = other
 or_expression (Some number) other = Ok (output number)
 
--- a bare name that is an output's name means that output, and else a column of FROM
+-- a bare name stands for the output of that name, or else for a column of FROM
 abbrev pub named_place : Shown → Name → Tree → Meant KeyPlace
 named_place s name a = first_named name.text s.outputs >>= λ number. or_expression number (expression_place s a)
 
@@ -96,12 +96,12 @@ named_place s name a = first_named name.text s.outputs >>= λ number. or_express
 abbrev pub ordinal : List OutputMeaning → ℕ → Meant KeyPlace
 ordinal outputs n = if nat_le 1 n && nat_le n (length outputs) then Ok (output (n - 1)) else Err WrongSortKey
 
--- a bare number is an ordinal, and no other bare literal may stand here (own)
+-- a bare number is an ordinal, and no other bare literal may appear here (this project's choice)
 abbrev pub literal_place : List OutputMeaning → Literal → Meant KeyPlace
 literal_place outputs (l.Number n) = number n >>= λ m. ordinal outputs m
 literal_place outputs literal = Err WrongSortKey
 
--- a signed number is a literal too, and else a place stays
+-- a number with a sign is a literal too; any other place stays
 abbrev pub unless_number : Option ℕ → KeyPlace → Meant KeyPlace
 unless_number None p = Ok p
 unless_number (Some n) p = Err WrongSortKey
@@ -109,8 +109,8 @@ unless_number (Some n) p = Err WrongSortKey
 abbrev pub signed_place : Option ℕ → Meant KeyPlace → Meant KeyPlace
 signed_place number place = place >>= λ p. unless_number number p
 
--- A bare name that is an output's name means that output, a bare number is an ordinal, and anything else is an expression over the
--- columns of FROM; brackets round a key don't count.
+-- A bare name stands for the output of that name, a bare number is an ordinal, and anything else is an expression over the columns of
+-- FROM; brackets around a key don't count.
 abbrev pub key_place : Shown → Tree → Meant KeyPlace
 key_place s (tree.Bracket a) = key_place s a
 key_place s (tree.Column name) = named_place s name (tree.Column name)
@@ -118,7 +118,7 @@ key_place s (tree.Constant x) = literal_place s.outputs x
 key_place s (tree.Signed sign a) = signed_place (written_number a) (expression_place s (tree.Signed sign a))
 key_place s a = expression_place s a
 
--- the sort keys over the outputs and the hidden columns after them, and the expressions that are hidden there
+-- the sort keys over the outputs and the hidden columns after them, and the expressions of the hidden columns
 pub record Sorted : Type 0 where
   pub items : List SortColumn
   pub hidden : List (Formula SelectLeaf)
@@ -134,7 +134,7 @@ unsorted = record { items = []; hidden = [] }
 abbrev pub with_item : ℕ → SortKey → Sorted → Sorted
 with_item number key so_far = record { items = so_far.items ++ record { column = number; key = key } ∷ []; hidden = so_far.hidden }
 
--- a further key by a new hidden column, behind the outputs and the hidden columns before it
+-- a further key by a new hidden column, after the outputs and the hidden columns before it
 abbrev pub with_column : Shown → Formula SelectLeaf → SortKey → Sorted → Sorted
 with_column s f key so_far = record {
   items = so_far.items ++ record { column = length s.outputs + length so_far.hidden; key = key } ∷ [];
@@ -162,13 +162,13 @@ keys_sorted s (more_keys a direction nulls keys) so_far = key_sorted s a (sort_k
 abbrev pub IsNarrow : Shown → Sorted → Type 0
 IsNarrow s so_far = are_wide s.below (expressions_of s.outputs) so_far.hidden ≡ false
 
--- what the outputs and the sort keys so far need is counted
+-- the needs are those of the outputs and the sort keys so far
 abbrev pub IsCounted : Shown → CodeSorted → Type 0
 IsCounted s so_far = needs_shown so_far.needs ≡ all_needs s.below (expressions_of s.outputs) (sorted_of so_far).hidden
 
 -- ---- limits of rows
 
--- how many rows are left out, how many are then given at most, and whether with ties
+-- how many rows are left out, how many are then returned at most, and whether with ties
 pub record Cut : Type 0 where
   pub offset : ℕ
   pub count : Option ℕ

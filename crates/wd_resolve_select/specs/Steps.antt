@@ -1,4 +1,4 @@
--- The steps of a plan above FROM: the windows of a select list, and what is shown, sorted and cut (SQL, query specification, query
+-- The steps of a plan above FROM: the windows of a select list, and what is shown, sorted and cut off (SQL, query specification, query
 -- expression; PG, SELECT).
 use Rattle.std.specs.Prelude.{ℕ, Bool, true, false, ◌&&◌, List, [], ◌∷◌, ◌++◌, map, length, nat_eq, Option, Some, None, Ok, if◌then◌else◌}
 use Rattle.std.specs.List.{position_or_len, range_with_len}
@@ -32,7 +32,7 @@ use Rattle.wd_resolve_select.specs.Sorting.{Shown, Sorted, Cut}
 
 -- ---- the windows of a select list
 
--- the aggregate of a plan, over the column where its argument stands
+-- the aggregate of a plan, over the column of its argument
 abbrev pub aggregate_over : {E : Type 0} → (E → ℕ) → AggregateMeaning E → Aggregate
 aggregate_over at count_rows = rows.CountRows
 aggregate_over at (count_of a) = rows.Count (at a.expression)
@@ -51,7 +51,7 @@ function_over inputs (aggregate a) = OfFrame (of_frame.Aggregate (aggregate_over
 abbrev pub order_item : List RowFormula → KeyMeaning → SortColumn
 order_item inputs key = record { column = input_number inputs key.expression; key = key.key }
 
--- the class of a call: its partition and its sort keys among the inputs
+-- the class of a call: its partition and its sort keys, over the inputs
 abbrev pub class_over : List RowFormula → CallMeaning → ClassRule
 class_over inputs call = record { partition = map (input_number inputs) call.window.partition; order = map (order_item inputs) call.window.order }
 
@@ -79,12 +79,12 @@ window_over inputs calls = record { classes = classes_over inputs calls; calls =
 
 -- ---- the steps
 
--- WHERE is a Filter
+-- a Filter for WHERE
 abbrev pub filtered : ScopeRule → Option Tree → PlanTree → Meant PlanTree
 filtered scope None plan = Ok plan
 filtered scope (Some a) plan = condition place.Where scope a >>= λ e. Ok (Filter e plan)
 
--- a call over groups, over the columns that are grouped by and the arguments behind them
+-- a call over groups, over the columns that are grouped by, followed by the arguments
 abbrev pub group_call_over : List ℕ → List Expression → GroupCall → GroupCallRule
 group_call_over columns inputs (of_rows a) = OfRows (aggregate_over (number_in same_expression inputs) a)
 group_call_over columns inputs (grouping cs) = Grouping (map (number_in nat_eq columns) cs)
@@ -97,7 +97,7 @@ group_over g calls = record { columns = length g.columns; sets = map (set_seated
 abbrev pub group_on : GroupedBy → List GroupCall → PlanTree → PlanTree
 group_on g calls plan = Group (group_over g calls) (Map (group_inputs g.columns calls) plan)
 
--- HAVING is a Filter over the Group
+-- a Filter over the Group for HAVING
 abbrev pub having_on : (RowLeaf → ℕ) → Option RowFormula → PlanTree → PlanTree
 having_on place None plan = plan
 having_on place (Some condition) plan = Filter (seated place condition) plan
@@ -114,37 +114,37 @@ grouped_on below calls plan = by below.grouped
 abbrev pub window_on : (RowLeaf → ℕ) → List RowFormula → List CallMeaning → PlanTree → PlanTree
 window_on place inputs calls plan = Window (window_over inputs calls) (Map (map (seated place) inputs) plan)
 
--- a Window, where there are window calls
+-- a Window, if there are window calls
 abbrev pub windowed : (RowLeaf → ℕ) → List RowFormula → List CallMeaning → PlanTree → PlanTree
 windowed place inputs [] plan = plan
 windowed place inputs (call ∷ calls) plan = window_on place inputs (call ∷ calls) plan
 
--- a Map of the expressions, over the Window where there is one
+-- a Map of the expressions, over the Window if there is one
 abbrev pub mapped_over : (RowLeaf → ℕ) → Needs → List (Formula SelectLeaf) → PlanTree → PlanTree
 mapped_over place needs formulas plan = Map (map (over place needs) formulas) (windowed place needs.inputs needs.calls plan)
 
--- a Map of outputs and hidden sort keys, over what stands below it
+-- a Map of outputs and hidden sort keys, over what is below it
 abbrev pub mapped : Below → (outputs hidden : List (Formula SelectLeaf)) → PlanTree → PlanTree
 mapped below outputs hidden plan =
     let needs = all_needs below outputs hidden in
     mapped_over (row_place below.grouped needs.groups) needs (outputs ++ hidden) (grouped_on below needs.groups plan)
 
--- DISTINCT is a Distinct
+-- a Distinct for DISTINCT
 abbrev pub deduplicated : Bool → PlanTree → PlanTree
 deduplicated false plan = plan
 deduplicated true plan = Distinct plan
 
--- ORDER BY, OFFSET or a count is a Limit
+-- a Limit for ORDER BY, OFFSET or a count
 abbrev pub limited : List SortColumn → Option Cut → PlanTree → PlanTree
 limited [] None plan = plan
 limited (item ∷ items) None plan = Limit (record { keys = item ∷ items; offset = 0; count = None; ties = false }) plan
 limited items (Some cut) plan = Limit (record { keys = items; offset = cut.offset; count = cut.count; ties = cut.ties }) plan
 
--- the columns from a number on, so many
+-- the given number of columns from a number on
 abbrev pub columns_from : ℕ → ℕ → List Expression
 columns_from first count = map Column (range_with_len first count)
 
--- a Map that drops so many hidden sort keys after so many outputs, where there are some
+-- a Map that drops hidden sort keys after the outputs, if there are any
 abbrev pub without_hidden : ℕ → ℕ → PlanTree → PlanTree
 without_hidden outputs hidden plan = if nat_eq hidden 0 then plan else Map (columns_from 0 outputs) plan
 
@@ -156,7 +156,7 @@ pub record Lowered : Type 0 where
   pub plan : PlanTree
   pub columns : List OutputColumn
 
--- the plan of what a select shows, sorts by and cuts, and its columns
+-- the plan of what a select shows, sorts by and cuts off, and its columns
 abbrev pub lowered_shown : Shown → Sorted → Option Cut → PlanTree → Lowered
 lowered_shown s sorted cut plan = record {
   plan =

@@ -1,4 +1,8 @@
 //! What a select sorts by and its limits, and the steps of a plan that it makes of these and of its list.
+//!
+//! `sorting` reads ORDER BY into the sort keys of `shown`, and `limits` reads OFFSET, LIMIT and FETCH. `steps` then makes the nodes above
+//! FROM, from WHERE to the Map that drops hidden sort keys; `seated` replaces the leaves of expressions by columns. A key that is no
+//! output becomes a hidden column, so that a plan sorts by columns alone.
 #![tactic(auto)]
 
 mod limits;

@@ -8,7 +8,7 @@ ghost use Rattle.wd_resolve_select.specs.Sorting as spec;
 use wd_resolve_operand::{Cause, ResolveError, number};
 use wd_syntax::{Count, Limits, Offset};
 
-/// How many rows are left out, how many are then given at most, and whether with ties.
+/// How many rows are left out, how many are then returned at most, and whether with ties.
 #[derive(Clone, Copy, PartialEq, Eq, Debug)]
 pub struct Cut {
     pub offset: u64,
@@ -16,7 +16,7 @@ pub struct Cut {
     pub ties: bool,
 }
 
-/// The rows that FETCH gives where it does not say.
+/// The number of rows of FETCH without a number.
 const ONE_ROW: u64 = 1;
 
 /// WITH TIES needs ORDER BY.

@@ -1,4 +1,4 @@
-//! Expressions over leaves, as expressions over the columns where these stand.
+//! Expressions over leaves, as expressions over the columns of these.
 
 ghost use Rattle.std.specs.Prelude.{◌≡◌, false, map, IfOk};
 ghost use Rattle.wd_plan.specs.Expressions.{expression_of};
@@ -50,7 +50,7 @@ pub(crate) fn all_seated(
     Ok(expressions)
 }
 
-/// An expression over rows, over the columns where these stand.
+/// An expression over rows, over the columns of its leaves.
 pub(crate) fn row_seated(
     alloc: Global,
     needs: &Needs,
@@ -82,7 +82,7 @@ pub(crate) fn inputs_seated(
     Ok(expressions)
 }
 
-/// The columns below what is shown where leaves stand.
+/// The columns of leaves below what is shown.
 #[derive(Drop)]
 struct Places<'n, 'b> {
     needs: &'n Needs,
@@ -109,7 +109,7 @@ impl<'n, 'b> ColumnMap for Places<'n, 'b> {
     }
 }
 
-/// The columns where leaves of rows stand.
+/// The columns of leaves of rows.
 #[derive(Drop)]
 struct RowPlaces<'n, 'b> {
     needs: &'n Needs,

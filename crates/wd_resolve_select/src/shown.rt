@@ -1,4 +1,4 @@
-//! What is sorted by an ORDER BY, and what is sorted.
+//! What ORDER BY sorts, and what it sorts by.
 
 ghost use Rattle.std.specs.Prelude.{◌≤◌, length};
 
@@ -7,7 +7,7 @@ use wd_resolve_operand::Formula;
 use wd_resolve_scope::{Grouped, Scope, SelectLeaf};
 use wd_value::SortColumn;
 
-/// What a select has before its ORDER BY: the columns of FROM, those that may stand in it, what stands below its windows, whether it is
+/// What a select has before its ORDER BY: the columns of FROM, those of them that may appear, what is below its windows, whether it is
 /// DISTINCT, and its outputs, at most 1,024.
 #[derive(Clone, Copy)]
 pub struct Shown<'a> {
@@ -19,15 +19,15 @@ pub struct Shown<'a> {
     pub ghost narrow: { length outputs.now ≤ 1024 },
 }
 
-/// What is sorted by: the output of that number, or an expression that is no output.
+/// What a key sorts by: the output of that number, or an expression that is not an output.
 #[derive(Drop)]
 pub enum KeyPlace {
     Output(u16),
     Hidden(Formula<SelectLeaf>),
 }
 
-/// The sort keys over the outputs and the hidden columns after them, the expressions that are hidden there, and what the outputs,
-/// HAVING and these need of the rows below them.
+/// The sort keys over the outputs and the hidden columns after them, the expressions of the hidden columns, and what the outputs, HAVING
+/// and these need of the rows below them.
 #[derive(Drop)]
 pub struct Sorted {
     pub items: Vec<SortColumn>,

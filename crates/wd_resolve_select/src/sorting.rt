@@ -42,7 +42,7 @@ fn output_number(formula: &Formula<SelectLeaf>, outputs: &[Output]) -> usize
     outputs.len()
 }
 
-/// An expression that equals an output is the first such.
+/// The output that shows the expression, the first if there are several, or else the expression.
 fn sorted_place(formula: Formula<SelectLeaf>, outputs: &[Output]) -> KeyPlace
     requires { length outputs.now ≤ 1024 }
     ensures { place_shown result ≡ spec.sorted_place (formula_of formula) (map output_of outputs.now) }
@@ -73,7 +73,7 @@ fn is_named(name: &Name, output: &Output) -> bool
     output.name.as_str() == name.text.as_str()
 }
 
-/// Whether each output of that name has the expression.
+/// Whether all outputs of that name show the expression.
 fn names_only(name: &Name, formula: &Formula<SelectLeaf>, outputs: &[Output]) -> bool
     ensures { result ≡ list_all (spec.shows (formula_of formula.now)) (filter (spec.is_named name.now.text) (map output_of outputs.now)) }
 {
@@ -85,7 +85,7 @@ fn names_only(name: &Name, formula: &Formula<SelectLeaf>, outputs: &[Output]) ->
     true
 }
 
-/// The number of the first output of a name; 403 where another has it and shows another expression.
+/// The number of the first output of a name; 403 where outputs of that name show different expressions.
 #[tactic(auto, using(wd_resolve_list::proofs::Among::found_at, wd_resolve_list::proofs::Among::found_none))]
 fn first_named(name: &Name, outputs: &[Output]) -> Result<Option<u16>, ResolveError>
     requires { length outputs.now ≤ 1024 }
@@ -103,7 +103,7 @@ fn first_named(name: &Name, outputs: &[Output]) -> Result<Option<u16>, ResolveEr
     Ok(None)
 }
 
-/// An ordinal counts outputs from 1.
+/// The output of an ordinal, which counts outputs from 1.
 fn ordinal(outputs: &[Output], n: u64) -> Result<KeyPlace, ResolveError>
     requires { length outputs.now ≤ 1024 }
     ensures { Gives place_shown result (spec.ordinal (map output_of outputs.now) n) }
@@ -115,7 +115,7 @@ fn ordinal(outputs: &[Output], n: u64) -> Result<KeyPlace, ResolveError>
     }
 }
 
-/// A bare number is an ordinal, and no other bare literal may stand here.
+/// The output of a bare number, which is an ordinal; 412 for any other bare literal.
 fn literal_place(outputs: &[Output], literal: &Literal) -> Result<KeyPlace, ResolveError>
     requires { length outputs.now ≤ 1024 }
     ensures { Gives place_shown result (spec.literal_place (map output_of outputs.now) literal.now) }
@@ -128,7 +128,7 @@ fn literal_place(outputs: &[Output], literal: &Literal) -> Result<KeyPlace, Reso
     }
 }
 
-/// A bare name that is an output's name means that output, and else a column of FROM.
+/// The output of a bare name, or else the column of FROM of that name.
 fn named_place(
     alloc: Global,
     shown: &Shown<'_>,
@@ -143,7 +143,7 @@ fn named_place(
     }
 }
 
-/// A number with a sign is a literal too, which may not stand here.
+/// The place of a key that is an expression; 412 for a number with a sign, which is a literal too.
 fn signed_place(
     alloc: Global,
     shown: &Shown<'_>,
@@ -159,7 +159,7 @@ fn signed_place(
     }
 }
 
-/// What a final sort key sorts by. Brackets round it don't count.
+/// What a final sort key sorts by. Brackets around it don't count.
 fn key_place(
     alloc: Global,
     shown: &Shown<'_>,
@@ -185,7 +185,7 @@ fn key_place(
     }
 }
 
-/// A key by an output.
+/// The keys with one by an output.
 fn with_output(
     sorted: Sorted,
     shown: &Shown<'_>,
@@ -211,7 +211,7 @@ fn with_output(
     })
 }
 
-/// A further hidden column, and a key by it.
+/// The keys with a new hidden column and one by it.
 #[tactic(auto, using(wd_resolve_list::proofs::Counted::needs_pushed))]
 fn with_column(
     alloc: Global,
@@ -251,7 +251,7 @@ fn are_wide(shown: &Shown<'_>, sorted: &Sorted) -> bool
         .is_wide(shown.outputs.len() + sorted.hidden.len(), shown.below)
 }
 
-/// A key by a new hidden column: 414 with DISTINCT, and 415 where it makes a node too wide.
+/// The keys with one by a new hidden column; 414 with DISTINCT, and 415 where a node becomes too wide.
 #[tactic(auto, using(crate::proofs::Counted::few_shown))]
 fn with_hidden(
     alloc: Global,
@@ -298,7 +298,7 @@ fn key_sorted(
     }
 }
 
-/// The sort keys of a select, whose outputs and HAVING need this.
+/// The sort keys of a select whose outputs and HAVING need this.
 pub fn keys_sorted(
     alloc: Global,
     shown: &Shown<'_>,

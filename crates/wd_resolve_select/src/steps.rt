@@ -40,14 +40,14 @@ use wd_resolve_scope::{
 use wd_syntax as written;
 use wd_value::{OutOfMemory, SortColumn};
 
-/// All rows.
+/// The limits that keep all rows.
 const NO_CUT: Cut = Cut {
     offset: 0,
     count: None,
     ties: false,
 };
 
-/// WHERE is a Filter.
+/// A Filter for WHERE.
 pub fn filtered(
     alloc: Global,
     scope: &Scope,
@@ -113,7 +113,7 @@ fn function_over(function: AppliedFunction, inputs: &[Formula<RowLeaf>]) -> Func
     }
 }
 
-/// The columns of a partition among the inputs.
+/// The columns of a partition, as numbers of inputs.
 fn columns_over(
     alloc: Global,
     inputs: &[Formula<RowLeaf>],
@@ -129,7 +129,7 @@ fn columns_over(
     Ok(columns)
 }
 
-/// The sort keys of a window among the inputs.
+/// The sort keys of a window, over the inputs.
 fn items_over(
     alloc: Global,
     inputs: &[Formula<RowLeaf>],
@@ -148,7 +148,7 @@ fn items_over(
     Ok(items)
 }
 
-/// The class of a call: its partition and its sort keys among the inputs.
+/// The class of a call: its partition and its sort keys, over the inputs.
 fn class_over(
     alloc: Global,
     inputs: &[Formula<RowLeaf>],
@@ -202,7 +202,7 @@ fn same_class(a: &Class, b: &Class) -> bool
     same_items(&a.order, &b.order) && same_columns(&a.partition, &b.partition)
 }
 
-/// The number of the first class that equals another, and the number of classes where none does.
+/// The number of the first equal class in the list, and the length of the list where there is none.
 fn class_number(classes: &[Class], class: &Class) -> usize
     ensures number { result ≡ position_or_len (spec.same_class (class_of class.now)) (map class_of classes.now) }
     ensures within { result ≤ length classes.now }
@@ -215,7 +215,7 @@ fn class_number(classes: &[Class], class: &Class) -> usize
     classes.len()
 }
 
-/// Whether a class is among others.
+/// Whether a class is in the list.
 #[tactic(auto, using(wd_resolve_list::proofs::FirstMet::any_by_number))]
 fn is_known(classes: &[Class], class: &Class) -> bool
     ensures { result ≡ list_any (spec.same_class (class_of class.now)) (map class_of classes.now) }
@@ -223,7 +223,7 @@ fn is_known(classes: &[Class], class: &Class) -> bool
     class_number(classes, class) < classes.len()
 }
 
-/// Adds a class, where it is new.
+/// Adds a class, if it is new.
 fn add_class(classes: &mut Vec<Class>, class: Class) -> Result<(), OutOfMemory>
     ensures meant { IfOk result (λ u. map class_of classes.new.items ≡ with_new spec.same_class (map class_of classes.old.items) (class_of class ∷ [])) }
     ensures within { IfOk result (λ u. vec_len classes.new ≤ vec_len classes.old + 1) }
@@ -316,7 +316,7 @@ fn window_on(
     })
 }
 
-/// With window calls a Window over a Map of the inputs.
+/// A Window over a Map of the inputs, if there are window calls.
 fn windowed(alloc: Global, needs: Needs, below: &Below, plan: Plan) -> Result<Plan, OutOfMemory>
     requires few_inputs { is_window_wide (needs_shown needs) ≡ false }
     requires few_groups { is_group_wide (below_of below.now).grouped (needs_shown needs).groups ≡ false }
@@ -396,7 +396,7 @@ fn column_numbers(
     Ok(numbers)
 }
 
-/// A call over groups, over the columns that are grouped by and the arguments behind them.
+/// A call over groups, over the columns that are grouped by, followed by the arguments.
 fn group_call_over(
     alloc: Global,
     columns: &[u16],
@@ -436,7 +436,7 @@ fn group_calls_over(
     Ok(planned)
 }
 
-/// The Group of a grouped select over its Map.
+/// The Group of a grouped select, over its Map.
 #[tactic(auto, using(wd_resolve_list::proofs::Narrow::few_groups))]
 fn group_on(
     alloc: Global,
@@ -463,7 +463,7 @@ fn group_on(
     })
 }
 
-/// HAVING is a Filter over the Group.
+/// A Filter over the Group for HAVING.
 fn having_on(alloc: Global, needs: &Needs, below: &Below, plan: Plan) -> Result<Plan, OutOfMemory>
     requires { is_group_wide (below_of below.now).grouped (needs_shown needs.now).groups ≡ false }
     ensures { IfOk result (λ p. plan_of p ≡ spec.having_on (row_place (below_of below.now).grouped (needs_shown needs.now).groups) (below_of below.now).having (plan_of plan)) }
@@ -490,7 +490,7 @@ fn grouped_on(alloc: Global, needs: &Needs, below: &Below, plan: Plan) -> Result
     having_on(alloc, needs, below, plan)
 }
 
-/// A Map of the expressions, over what stands below them.
+/// A Map of the expressions, over what is below them.
 pub fn mapped(
     alloc: Global,
     needs: Needs,
@@ -511,7 +511,7 @@ pub fn mapped(
     })
 }
 
-/// DISTINCT is a Distinct.
+/// A Distinct for DISTINCT.
 pub fn deduplicated(alloc: Global, distinct: bool, plan: Plan) -> Result<Plan, OutOfMemory>
     ensures { IfOk result (λ p. plan_of p ≡ spec.deduplicated distinct (plan_of plan)) }
 {
@@ -524,7 +524,7 @@ pub fn deduplicated(alloc: Global, distinct: bool, plan: Plan) -> Result<Plan, O
     }
 }
 
-/// ORDER BY, OFFSET or a count is a Limit.
+/// A Limit for ORDER BY, OFFSET or a count.
 pub fn limited(
     alloc: Global,
     keys: Vec<SortColumn>,
@@ -550,7 +550,7 @@ pub fn limited(
     })
 }
 
-/// The first columns, so many.
+/// The first `count` columns.
 fn first_columns(alloc: Global, count: usize) -> Result<Vec<Expr>, OutOfMemory>
     requires { count ≤ 1024 }
     ensures { IfOk result (λ v. map expression_of v.items ≡ spec.columns_from 0 count) }
@@ -562,7 +562,7 @@ fn first_columns(alloc: Global, count: usize) -> Result<Vec<Expr>, OutOfMemory>
     Ok(columns)
 }
 
-/// A Map that drops the hidden sort keys after the outputs, where there are some.
+/// A Map that drops the hidden sort keys after the outputs, if there are any.
 pub fn without_hidden(
     alloc: Global,
     outputs: usize,

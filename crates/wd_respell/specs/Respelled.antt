@@ -26,7 +26,7 @@ use Rattle.wd_with.specs.declared.place.Place.TheVariants.{Elsewhere}
 use Rattle.wd_dialect_read.specs.declared.said.Statement.{Statement}
 
 infixl 10 ◌▹◌
--- what is written of tokens next, unless these were too many
+-- the next step on these tokens, unless there were too many
 abbrev pub ◌▹◌ : Result (List Token) RespellError → (List Token → Result (List Token) RespellError) → Result (List Token) RespellError
 (Err e) ▹ next = Err e
 (Ok tokens) ▹ next = next tokens
@@ -37,15 +37,16 @@ abbrev pub plain : List TableRule → List Token → Result (List Token) Respell
 plain tables tokens =
     selects.respelled (unqualified (Elsewhere ∷ []) tokens) ▹ naturals.respelled tables ▹ joins.respelled tables ▹ memberships.respelled ▹ keys.respelled ▹ counts.respelled
 
--- a query without its WITH clauses, those within brackets first, and plain then; and the members that are read more than once
+-- a query without its WITH clauses, those within brackets first, and then with the equations of `plain`; and the members that are read
+-- more than once
 pub record IsTakenOut (tables : List TableRule) (tokens : List Token) (said : Said) : Type 0 where
   pub inner : Said
   pub is_inner : without_inner tokens ≡ Ok inner
   pub is_plain : plain tables (members.expanded inner.tokens).tokens ≡ Ok said.tokens
   pub members : said.read_twice ≡ inner.read_twice ++ (members.expanded inner.tokens).read_twice
 
--- what the tokens of a query are by the equations, over these tables, which the statements make: WITH is taken out, then come the
--- equations of selects as above, then those of expressions, and moments become numbers. And the members of WITH that are read twice
+-- the tokens of a query by the equations, over these tables, which the statements make: WITH is taken out, then come the equations of
+-- selects as above, then those of expressions, and moments become numbers; with the members of WITH that are read twice
 pub record IsEquated (tables : List TableRule) (statements : List Statement) (tokens : List Token) (said : Said) : Type 0 where
   pub taken : Said
   pub is_taken : IsTakenOut tables tokens taken
@@ -64,7 +65,7 @@ pub record AreEquated (tables : List TableRule) (statements : List Statement) (t
   pub equated : IsEquated tables statements uncast said
 
 -- the other text has the tokens that the equations give for those of the query, in which each `::` and the point in a number are masked
--- and numbers with a point are literals, and the query reads these members of WITH more than once
+-- and numbers with a point are literals; and the query reads these members of WITH more than once
 pub record IsRespelled (tables : List TableRule) (statements : List Statement) (query other : List ℕ) (twice : List Token) : Type 0 where
   pub text : List ℕ
   pub masked : masked query ≡ Some text
@@ -77,24 +78,24 @@ pub record IsRespelled (tables : List TableRule) (statements : List Statement) (
   pub are : kinds_of own ≡ kinds_of said.tokens
   pub members : twice ≡ said.read_twice
 
--- no more tokens than a step may write
+-- at most as many tokens as a step may write
 abbrev pub AreFew : List Token → Type 0
 AreFew tokens = length tokens ≤ most_tokens
 
--- a query without casts has few tokens on the way through the equations: without WITH, with the equations of expressions, and with
--- numbers. The other steps give an error where they would write too many
+-- on the way through the equations a query without casts has few tokens: without WITH, with the equations of expressions, and with
+-- numbers; the other steps return an error where they would write too many
 pub record IsShortWay (tables : List TableRule) (statements : List Statement) (tokens : List Token) : Type 0 where
   pub outer : (inner : Said) → without_inner tokens ≡ Ok inner → AreFew (members.expanded inner.tokens).tokens
   pub expanded : (taken : Said) → IsTakenOut tables tokens taken → AreFew (expressions.expanded taken.tokens)
   pub numbered : (taken : Said) → IsTakenOut tables tokens taken → AreFew (with_numbers statements (expressions.expanded taken.tokens))
 
--- the equations give these for the tokens of a query, which are few without casts and all the way
+-- the equations give these tokens for those of a query, which are few without casts and on the whole way
 pub record AreGiven (tables : List TableRule) (statements : List Statement) (tokens : List Token) (said : Said) : Type 0 where
   pub uncast : AreFew (without_casts statements tokens)
   pub way : IsShortWay tables statements (without_casts statements tokens)
   pub equated : AreEquated tables statements tokens said
 
--- the query can be respelled: the equations give others for its tokens, and these can be written
+-- the query can be respelled: the equations give other tokens for its tokens, and these can be written
 pub record CanBeRespelled (tables : List TableRule) (statements : List Statement) (query : List ℕ) : Type 0 where
   pub text : List ℕ
   pub masked : masked query ≡ Some text
@@ -106,20 +107,20 @@ pub record CanBeRespelled (tables : List TableRule) (statements : List Statement
   pub writable : AreWritable said.tokens
 
 -- the query is left as it is: it has no masked text or no tokens, a cast is left, the tokens would be too many, the equations change
--- nothing, or what they give cannot be written
+-- nothing, or their result cannot be written
 abbrev pub IsLeft : List TableRule → List Statement → List ℕ → Type 0
 IsLeft tables statements query = ¬ (CanBeRespelled tables statements query)
 
--- with numbers of the units that they count, the tokens of a query over the tables of these statements say something else
+-- over the tables of these statements the tokens of a query differ from those with its numbers in the units that they count
 abbrev pub AreCounted : List Statement → List Token → Type 0
 AreCounted statements tokens = ¬ (kinds_of (with_numbers statements tokens) ≡ kinds_of tokens)
 
--- numbers of the query count units: read as they are written, they would be taken for other amounts
+-- numbers of the query count units: read as they are written, they would denote other amounts
 pub record CountsUnits (statements : List Statement) (query : List ℕ) : Type 0 where
   pub tokens : List Token
   pub lexed : IsLexed query tokens
   pub counted : AreCounted statements tokens
 
--- whichever these members are
+-- respelled so, with any members read more than once
 abbrev pub IsRespelledAs : List TableRule → List Statement → List ℕ → List ℕ → Type 0
 IsRespelledAs tables statements query other = (twice : List Token) × IsRespelled tables statements query other twice

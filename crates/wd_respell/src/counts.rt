@@ -12,8 +12,8 @@ use wd_moments::{MomentError, with_numbers};
 use wd_token_text::say_the_same;
 use wd_value::OutOfMemory;
 
-/// Whether the numbers of a query count units, so that it says something else with numbers for these. What its columns count is known
-/// by the statements of PostgreSQL's that make its schema.
+/// Whether the numbers of a query count units, so that the query is different with numbers for these. What its columns count is known
+/// from the statements that PostgreSQL has for its schema.
 pub fn counts_units(
     alloc: Global,
     statements: &[Statement],

@@ -1,23 +1,23 @@
-//! Tokens as a text, each as near as can be to where it stood in the source.
+//! Tokens as a text, each as near as possible to its place in the source.
 
 use std::alloc::Global;
 use wd_lex::Token;
 use wd_token_text::push_token;
 use wd_value::OutOfMemory;
 
-/// A text that grows, and how far it is.
+/// A text that is being written, and its current line.
 #[derive(Drop)]
 struct Layout {
     text: String,
-    /// The line on which the next token would stand, counted from 0.
+    /// The line of the next token, counted from 0.
     line: usize,
-    /// Where that line began in the text.
+    /// The byte at which that line begins in the text.
     line_start: usize,
 }
 
-/// The text of tokens that stood in a source: what stands before its first token, and then the tokens. One that stood further down or
-/// further to the right than the text has come stands just there; another one after one blank. At the end as many lines are begun as
-/// the source has.
+/// The text of tokens from a source: what comes before its first token, followed by the tokens. A token whose place in the source is
+/// further down or further to the right than the end of the text is written at that place, any other one after a blank. At the end lines
+/// are added until there are as many as in the source.
 pub(crate) fn laid_out(
     alloc: Global,
     source: &[u8],
@@ -35,7 +35,7 @@ pub(crate) fn laid_out(
     Ok(layout.text)
 }
 
-/// Where the lines of a text end.
+/// The bytes at which the lines of a text end.
 fn line_breaks(alloc: Global, text: &[u8]) -> Result<Vec<usize>, OutOfMemory> {
     let mut breaks = Vec::new(alloc);
     for at in 0..text.len() {
@@ -47,7 +47,7 @@ fn line_breaks(alloc: Global, text: &[u8]) -> Result<Vec<usize>, OutOfMemory> {
 }
 
 impl Layout {
-    /// A text that begins with these bytes, where they are UTF-8.
+    /// A text that begins with these bytes, if they are UTF-8.
     fn new(alloc: Global, before: &[u8]) -> Result<Layout, OutOfMemory> {
         let mut text = String::new(alloc);
         text.push_str(str::from_utf8(before).unwrap_or(""))?;
@@ -63,7 +63,7 @@ impl Layout {
         })
     }
 
-    /// Goes on to where a token stood that began at a byte of the source, if that is further on; else one blank on.
+    /// Continues to the place of a token that began at a byte of the source, if that is further on; otherwise adds one blank.
     fn move_to(&mut self, breaks: &[usize], at: usize) -> Result<(), OutOfMemory> {
         let line = breaks.partition_point(|end| *end < at);
         if line > self.line {
@@ -93,7 +93,7 @@ impl Layout {
         Ok(())
     }
 
-    /// Begins lines until so many are ended.
+    /// Begins lines up to the given number.
     fn end_on(&mut self, line: usize) -> Result<(), OutOfMemory> {
         for ended in self.line..line {
             self.text.push('\n')?;

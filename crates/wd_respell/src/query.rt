@@ -1,4 +1,4 @@
-//! A query through the equations.
+//! The equations applied to a query.
 
 ghost use Rattle.std.specs.Prelude.{◌≡◌, ◌<◌, ◌⊎◌, length, Some, Err, IfOk, IfSome, IfNone, IsTrue};
 ghost use Rattle.std.specs.String.{string_bytes};
@@ -41,7 +41,7 @@ use wd_using::without_using;
 use wd_value::OutOfMemory;
 use wd_with::{Expanded, without_with};
 
-/// A query as the equations respell it.
+/// A query respelled by the equations.
 #[derive(Drop)]
 pub struct Respelled {
     /// Its text.
@@ -50,15 +50,15 @@ pub struct Respelled {
     pub read_twice: Vec<Token>,
 }
 
-/// The text of a query with the equations put in, where these change it. None also where its own text has no tokens, or the others
-/// would be too many or cannot be written. What its columns count is known by the statements of PostgreSQL's that make its schema.
+/// The text of a query with the equations applied, if they change it. Also `None` where its own text has no tokens, or the other tokens
+/// would be too many or cannot be written. What its columns count is known from the statements that PostgreSQL has for its schema.
 pub fn respell(
     alloc: Global,
     schema: &Schema,
     statements: &[Statement],
     query: &[u8],
 ) -> Result<Option<Respelled>, OutOfMemory>
-    // The text has the tokens that the equations give.
+    // The text has the tokens that the equations give for the query.
     ensures respelled { IfOk result (λ o. IfSome o (λ r. IsRespelled (schema_of schema.now) statements.now query.now (string_bytes r.text) r.read_twice.items)) }
 
     // A query is left only where it cannot be respelled.
@@ -70,7 +70,7 @@ pub fn respell(
     }
 }
 
-/// The text of a query of which this is the masked text, with the equations put in.
+/// The text of a query with this masked text, with the equations applied.
 fn respell_masked(
     alloc: Global,
     schema: &Schema,
@@ -91,7 +91,7 @@ fn respell_masked(
     }
 }
 
-/// The text of a query of which these are the masked text and its tokens, with the equations put in.
+/// The text of a query with this masked text and its tokens, with the equations applied.
 fn respell_tokens(
     alloc: Global,
     schema: &Schema,
@@ -111,7 +111,7 @@ fn respell_tokens(
     }
 }
 
-/// What the tokens of a masked query are by the equations, with a literal for each number with a point.
+/// The tokens of a masked query by the equations, with a literal for each number with a point.
 fn equated_literals(
     alloc: Global,
     schema: &Schema,
@@ -126,7 +126,7 @@ fn equated_literals(
     without_any_casts(alloc, schema, statements, &literals)
 }
 
-/// The tokens without casts, where none is left.
+/// The tokens without casts, if none is left.
 fn uncast(
     alloc: Global,
     statements: &[Statement],
@@ -142,7 +142,7 @@ fn uncast(
     }
 }
 
-/// What the tokens are by the equations, without casts first, unless one is left or they would be too many.
+/// The tokens by the equations, first without casts; `None` where a cast is left or they would be too many.
 fn without_any_casts(
     alloc: Global,
     schema: &Schema,
@@ -161,7 +161,7 @@ fn without_any_casts(
     }
 }
 
-/// What the tokens are by the equations, unless they would be too many.
+/// The tokens by the equations, unless they would be too many.
 fn equated(
     alloc: Global,
     schema: &Schema,
@@ -181,7 +181,7 @@ fn equated(
     }
 }
 
-/// The tokens without WITH clauses, those within brackets first, and plain then.
+/// The tokens without WITH clauses, those within brackets first, and then with the equations of `plain`.
 fn taken_out(alloc: Global, schema: &Schema, tokens: &[Token]) -> Result<Expanded, RespellError>
     ensures taken { IfOk result (λ e. IsTakenOut (schema_of schema.now) tokens.now (said e)) }
     ensures long { result ≡ Err RespellError.TooLong → (taken : Said) → IsTakenOut (schema_of schema.now) tokens.now taken → ((inner : Said) → without_inner tokens.now ≡ Ok inner → AreFew (members.expanded inner.tokens).tokens) → ⊥ }
@@ -218,7 +218,7 @@ fn plain(alloc: Global, schema: &Schema, tokens: &[Token]) -> Result<Vec<Token>,
     without_distinct_counts(alloc, &grouped)
 }
 
-/// The tokens with the equations of expressions, and with numbers for moments, beside these names.
+/// The tokens with the equations of expressions, and with numbers for moments; the names are kept as they are.
 fn numbered(
     alloc: Global,
     statements: &[Statement],
@@ -240,7 +240,7 @@ fn numbered(
     }
 }
 
-/// The text of the other tokens, where they say something else and can be written.
+/// The text of the other tokens, if they differ and can be written.
 fn written(
     alloc: Global,
     schema: &Schema,
@@ -266,7 +266,7 @@ fn written(
     }
 }
 
-/// The text of the other tokens, where they say something else than those of the query and can be written.
+/// The text of the other tokens, if they differ from those of the query and can be written.
 fn other_text(
     alloc: Global,
     query: &[u8],
@@ -283,7 +283,7 @@ fn other_text(
     }
 }
 
-/// The text of the other tokens: laid out as those of the query are, where the lexer reads just these in it, or else one after the
+/// The text of the other tokens: laid out as those of the query are, if the lexer reads just these tokens in it, or else one after the
 /// other.
 fn text_of(
     alloc: Global,

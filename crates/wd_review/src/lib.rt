@@ -1,9 +1,9 @@
 //! The program `wdreport` over its words, files and streams.
 //!
-//! `review` goes through all files and `lock` makes their locks. `run` has what both work with: the files and folders, and the
-//! schemas that were read; `schema` has one of these, `queries` the text of a file as it is judged, and `respelled` prints both.
-//! `outputs` writes the page and the baseline, and sees to it that no file is written over which is read; `mended` writes files with
-//! the keys put in; `stop` says why a run ends before its end.
+//! `review` goes through all files, and `lock` writes their locks. `run` has what both use: the files and folders, and the schemas that
+//! were read. `schema` holds one schema, `queries` the text of a file as it is checked, and `respelled` prints both. `outputs` writes the
+//! page and the baseline, and ensures that no file that is read is overwritten; `mended` writes files with added keys; `stop` says why a
+//! run ends early.
 #![tactic(auto)]
 
 mod lock;

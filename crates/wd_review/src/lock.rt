@@ -20,17 +20,17 @@ use wd_words::{Colour, FilesRequest, Format};
 /// The most bytes of a lock that are read.
 const MOST_OF_A_LOCK: u64 = 64 << 20;
 
-/// What is told of a file whose lock is not written.
+/// The remark on a file whose lock is not written.
 const NOT_LOCKED: &str = "not locked";
 
-/// A lock that stands beside a file, and its path.
+/// A lock beside a file, and its path.
 #[derive(Drop)]
 pub(crate) struct Beside {
     pub(crate) path: String,
     pub(crate) lock: Lock,
 }
 
-/// The lock beside a file; none where there is none, or where it is none, which is told.
+/// The lock beside a file; `None` where there is none, or where the file there is no lock, which is reported.
 pub(crate) fn lock_beside<S: Sources>(
     run: &mut Run<'_, S>,
     query: &str,
@@ -62,7 +62,7 @@ pub(crate) fn lock_beside<S: Sources>(
     }
 }
 
-/// Tells why a file is no lock.
+/// Reports why a file is not a lock.
 fn tell_no_lock<S: Sources>(
     run: &mut Run<'_, S>,
     path: &str,
@@ -164,7 +164,7 @@ fn lock_file<S: Sources, W: Watch>(
     write_lock(run, path, lock_path.as_str(), &lock, report)
 }
 
-/// Writes a lock, and tells how many certificates it has. One without any is not written, and one that stands there goes.
+/// Writes a lock, and reports how many certificates it has. A lock without certificates is not written, and an existing one is removed.
 fn write_lock<S: Sources>(
     run: &mut Run<'_, S>,
     query: &str,

@@ -1,4 +1,4 @@
-//! Files with the keys put in.
+//! Files with added sort keys.
 
 use crate::run::Run;
 use std::alloc::Global;
@@ -9,10 +9,10 @@ use wd_output::Report;
 use wd_sources::{MOST_BYTES, STANDARD_INPUT, SourceError, Sources};
 use wd_value::OutOfMemory;
 
-/// What is told of a file that is not written with its keys.
+/// The remark on a file that is not written with its keys.
 const NOT_FIXED: &str = "not fixed";
 
-/// Writes a file with its mended statements, where there are some, and tells so. What standard input becomes is added to a text.
+/// Writes a file with its mended statements, if there are any, and reports it. The new text of standard input is appended to a text.
 pub(crate) fn write_mended<S: Sources>(
     run: &mut Run<'_, S>,
     file: File<'_>,
@@ -48,7 +48,7 @@ pub(crate) fn write_mended<S: Sources>(
     report.add_line(alloc, "fixed", Level::Warning, file.path, line.as_str())
 }
 
-/// Replaces the text of a file, where it still has the one that was judged. The result is why it is not replaced.
+/// Replaces the text of a file, if it still is the text that was checked. The result is why it is not replaced.
 fn replaced<S: Sources>(
     alloc: Global,
     file: File<'_>,

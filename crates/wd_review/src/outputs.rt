@@ -21,7 +21,7 @@ pub(crate) fn lock_path(alloc: Global, query: &str) -> Result<String, OutOfMemor
     Ok(path)
 }
 
-/// What is known of findings, as the words ask.
+/// What is known of findings, as the command line asks.
 pub(crate) fn knowledge<'w, S: Sources, E: Write>(
     alloc: Global,
     request: &Request<'w>,
@@ -53,7 +53,7 @@ pub(crate) fn knowledge<'w, S: Sources, E: Write>(
     }
 }
 
-/// Writes the baseline, where that is asked for.
+/// Writes the baseline, if that is requested.
 pub(crate) fn write_baseline<'w, S: Sources>(
     alloc: Global,
     request: &Request<'w>,
@@ -70,7 +70,7 @@ pub(crate) fn write_baseline<'w, S: Sources>(
     }
 }
 
-/// Writes the page, where one is asked for.
+/// Writes the page, if one is requested.
 pub(crate) fn write_page<'w, S: Sources>(
     alloc: Global,
     request: &Request<'w>,
@@ -87,7 +87,7 @@ pub(crate) fn write_page<'w, S: Sources>(
     }
 }
 
-/// The files that a run reads, or writes already, by the paths that are the same for all their spellings.
+/// The files that a run reads or already writes, by resolved paths, which do not depend on the spelling.
 #[derive(Drop)]
 pub(crate) struct Used {
     alloc: Global,
@@ -95,7 +95,7 @@ pub(crate) struct Used {
 }
 
 impl Used {
-    /// None so far.
+    /// No files yet.
     pub(crate) fn new(alloc: Global) -> Used {
         Used {
             alloc,
@@ -103,7 +103,7 @@ impl Used {
         }
     }
 
-    /// Adds a file, and what it is. One whose folder is not there can't be meant by any other path.
+    /// Adds a file, and what it is. A file whose folder does not exist cannot be meant by any other path.
     pub(crate) fn add<S: Sources>(
         &mut self,
         path: &str,
@@ -116,7 +116,7 @@ impl Used {
         Ok(())
     }
 
-    /// Adds the queries that are judged.
+    /// Adds the files of queries that are checked.
     pub(crate) fn add_queries<S: Sources>(
         &mut self,
         steps: &[Step],
@@ -132,7 +132,7 @@ impl Used {
         Ok(())
     }
 
-    /// Adds the locks of the queries that are judged.
+    /// Adds the locks of the files that are checked.
     pub(crate) fn add_locks<S: Sources>(
         &mut self,
         steps: &[Step],
@@ -147,8 +147,8 @@ impl Used {
         Ok(())
     }
 
-    /// Adds the schema that is given, or the places where those of the queries are looked for. Queries that stand side by side have
-    /// the same.
+    /// Adds the given schema, or the places where the schemas of the queries are looked for. Files of queries in one folder have the same
+    /// places.
     pub(crate) fn add_schemas<S: Sources>(
         &mut self,
         schema: Option<&str>,
@@ -182,7 +182,7 @@ impl Used {
         Ok(())
     }
 
-    /// What a file is that is to be written, where it is one of these.
+    /// What a file to be written is, if it is one of these.
     pub(crate) fn what<S: Sources>(
         &self,
         path: &str,
@@ -195,7 +195,7 @@ impl Used {
     }
 }
 
-/// The path that is the same for all spellings of a file's path; none where its folder can't be looked at.
+/// The resolved path of a file, which does not depend on the spelling; `None` where its folder cannot be looked at.
 fn resolved<S: Sources>(
     alloc: Global,
     path: &str,
@@ -208,7 +208,7 @@ fn resolved<S: Sources>(
     }
 }
 
-/// Refuses a page or a baseline that would take the place of a file which is read, or of one another.
+/// Refuses a page or a baseline that would overwrite a file that is read, or one another.
 pub(crate) fn check_outputs<'w, S: Sources>(
     alloc: Global,
     request: &Request<'w>,
@@ -234,7 +234,7 @@ pub(crate) fn check_outputs<'w, S: Sources>(
     }
 }
 
-/// Refuses a file that is to be written where it is used.
+/// Refuses a file to be written that is used.
 pub(crate) fn refuse_used<'w, S: Sources>(
     used: &Used,
     path: &'w str,

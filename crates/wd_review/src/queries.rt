@@ -1,4 +1,4 @@
-//! A file of queries, as it is judged.
+//! A file of queries, as it is checked.
 
 use crate::schema::SchemaFile;
 use std::alloc::Global;
@@ -7,22 +7,22 @@ use wd_output::Report;
 use wd_query_front::{RespelledText, respelled_text};
 use wd_value::OutOfMemory;
 
-/// What is told of a file in which queries are respelled.
+/// The remark on a file in which queries are respelled.
 const RESPELLED: &str =
     "note: queries that wdcheck does not read are judged as the standard's equations respell them; --show-respelled prints them";
 
-/// A file of queries, as it is judged.
+/// A file of queries, as it is checked.
 #[derive(Drop)]
 pub(crate) struct Queries {
     pub(crate) text: Vec<u8>,
-    /// Whether some of them are respelled.
+    /// Whether some of the queries are respelled.
     pub(crate) is_respelled: bool,
-    /// What is told of these, a line each.
+    /// Notes on the respelled queries, one line each.
     notes: Vec<String>,
 }
 
 impl Queries {
-    /// A file whose text is judged as it is.
+    /// A file whose text is checked as it is.
     pub(crate) fn as_written(alloc: Global, text: Vec<u8>) -> Queries {
         Queries {
             text,
@@ -31,7 +31,7 @@ impl Queries {
         }
     }
 
-    /// A file of this text over a schema: what the profile refuses stands as the standard's equations respell it.
+    /// A file of this text over a schema: statements that the profile refuses are respelled by the standard's equations.
     pub(crate) fn over(
         alloc: Global,
         schema: &SchemaFile,
@@ -47,7 +47,7 @@ impl Queries {
         }
     }
 
-    /// Tells that queries are respelled.
+    /// Reports that queries are respelled.
     pub(crate) fn tell(
         &self,
         alloc: Global,

@@ -1,4 +1,4 @@
-//! The texts over which queries are judged.
+//! The texts over which queries are checked.
 
 use crate::queries::Queries;
 use crate::run::{Run, Step, WRONG, steps};
@@ -17,7 +17,8 @@ use wd_words::{Colour, FilesRequest, Format};
 /// The status where a schema is not read.
 const NOT_READ: u8 = 2;
 
-/// Prints the text of each schema over which queries of these files are judged, and of each file with queries that are respelled. What is told of them goes to standard error.
+/// Prints the text of each schema over which queries of these files are checked, and of each file with respelled queries. Remarks on them
+/// go to standard error.
 pub(crate) fn show_respelled<'w, S: Sources, C: Clock, O: Write, E: Write>(
     alloc: Global,
     request: &FilesRequest<'w>,
@@ -58,16 +59,16 @@ pub(crate) fn show_respelled<'w, S: Sources, C: Clock, O: Write, E: Write>(
     })
 }
 
-/// What is printed.
+/// The text to be printed.
 #[derive(Drop)]
 struct Shown {
-    /// How many of the schemas that were read are in it.
+    /// How many of the schemas that were read are in the text.
     count: usize,
     text: Vec<u8>,
 }
 
 impl Shown {
-    /// Adds a query's file, where some of its queries are respelled; and before it its schema, where that is not there yet.
+    /// Adds a query's file, if some of its queries are respelled; and before it its schema, unless that was added before.
     fn add<S: Sources>(
         &mut self,
         run: &mut Run<'_, S>,
@@ -98,7 +99,7 @@ impl Shown {
         Ok(())
     }
 
-    /// Adds a schema, where it is read.
+    /// Adds a schema, if it was read.
     fn add_schema(
         &mut self,
         alloc: Global,

@@ -20,13 +20,12 @@ use wd_sources::{STANDARD_INPUT, Sources};
 use wd_value::OutOfMemory;
 use wd_words::{Asked, Format, Request, SCHEMA_OF_DATABASE, read_words};
 
-/// Runs the program on the words after its own name, and gives its exit status: 0 where each query is deterministic, 1 where some
-/// depend or may tie or lost their certificates, 2 where some are not read, 3 where a path, a schema, a lock or a word is wrong,
-/// memory runs out or the output or a file can't be written. Help, the version and the SQL of `schema` go to standard output, with
-/// 0.
+/// Runs the program on the words after its own name, and returns its exit status: 0 where each query is deterministic, 1 where some
+/// depend or may tie or lost their certificates, 2 where some are not read, 3 where a path, a schema, a lock or a word is wrong, memory
+/// runs out or the output or a file can't be written. Help, the version and the SQL of `schema` go to standard output, with status 0.
 ///
-/// With `--fix` the status is that of the files as they are written, and where one of the paths is standard input, its text as it
-/// is mended goes to standard output and what is told to standard error.
+/// With `--fix` the status is that of the files as they are written; where one of the paths is standard input, its mended text goes to
+/// standard output and the findings go to standard error.
 pub fn review_words<S: Sources, C: Clock, O: Write, E: Write>(
     alloc: Global,
     words: &[&str],
@@ -75,7 +74,7 @@ fn show<O: Write, E: Write>(error: &Error, out: &mut O, err: &mut E) -> u8 {
 #[derive(Drop)]
 struct Review {
     tally: Tally,
-    /// What standard input becomes.
+    /// The new text of standard input.
     input: Vec<u8>,
 }
 
@@ -163,8 +162,8 @@ fn review_file<S: Sources, W: Watch>(
     Ok(())
 }
 
-/// Tells what is found of a file, over the schema with this number among those that were read. Of a schema that is refused as
-/// PostgreSQL's tools write it that is told once, and not for each query.
+/// Reports what is found of a file, over the schema with this number among those that were read. A schema that is refused in the form of
+/// PostgreSQL's tools is reported once, and not for each query.
 fn review_text<S: Sources, W: Watch>(
     run: &mut Run<'_, S>,
     query: File<'_>,
@@ -202,7 +201,8 @@ fn review_text<S: Sources, W: Watch>(
     Ok(Some(review_statements(task, &mut findings)?))
 }
 
-/// Writes the baseline and the page, the line that counts, but to a program, and what standard input becomes, and gives the status.
+/// Writes the baseline and the page, the line with the counts unless a program reads the output, and the new text of standard input; the
+/// result is the exit status.
 fn finish<'w, S: Sources, C: Clock, O: Write, E: Write>(
     run: Run<'_, S>,
     request: &Request<'w>,
@@ -234,7 +234,7 @@ fn finish<'w, S: Sources, C: Clock, O: Write, E: Write>(
     Ok(tally.status(request.allows_unknown))
 }
 
-/// Adds how many findings of the baseline no longer occur, where there are any.
+/// Adds how many findings of the baseline no longer occur, if there are any.
 fn add_gone(line: &mut String, gone: u64) -> Result<(), OutOfMemory> {
     if gone == 0 {
         return Ok(());
@@ -245,7 +245,7 @@ fn add_gone(line: &mut String, gone: u64) -> Result<(), OutOfMemory> {
     )?)
 }
 
-/// Adds how many queries lost their certificates, where some did.
+/// Adds how many queries lost their certificates, if some did.
 fn add_lost(line: &mut String, lost: u64) -> Result<(), OutOfMemory> {
     match lost {
         0 => Ok(()),

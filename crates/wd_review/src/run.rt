@@ -1,4 +1,4 @@
-//! What a run works with: its files, and the schemas that were read.
+//! What a run uses: its files, and the schemas that were read.
 
 use crate::schema::{Reading, SchemaFile};
 use std::alloc::Global;
@@ -11,7 +11,7 @@ use wd_value::OutOfMemory;
 /// The status where a path, a schema or a word is wrong, or the output or a file can't be written.
 pub(crate) const WRONG: u8 = 3;
 
-/// A file to be judged, or a path that is wrong.
+/// A file to be checked, or a path that is wrong.
 #[derive(Drop)]
 pub(crate) enum Step {
     File(String),
@@ -47,7 +47,7 @@ pub(crate) struct Schemas {
 }
 
 impl Schemas {
-    /// None so far.
+    /// No schemas yet.
     fn new(alloc: Global) -> Schemas {
         Schemas {
             kept: Vec::new(alloc),
@@ -60,12 +60,12 @@ impl Schemas {
         self.kept.get(number)
     }
 
-    /// Whether one of them is not read.
+    /// Whether one of the schemas is not read.
     pub(crate) fn has_unread(&self) -> bool {
         self.kept.iter().any(|kept| kept.reading != Reading::Read)
     }
 
-    /// The number of the schema of a path; it is read where it was not yet.
+    /// The number of the schema of a path, which is read unless it was read before.
     fn at<S: Sources>(
         &mut self,
         alloc: Global,
@@ -91,7 +91,7 @@ impl Schemas {
 pub(crate) struct Run<'r, S> {
     pub(crate) alloc: Global,
     pub(crate) sources: &'r mut S,
-    /// The path of the schema, where one is given.
+    /// The path of the schema, if one is given.
     pub(crate) schema: Option<&'r str>,
     pub(crate) schemas: Schemas,
     /// Whether a path, a schema or a lock is wrong, or a file can't be written.
@@ -110,7 +110,7 @@ impl<'r, S: Sources> Run<'r, S> {
         }
     }
 
-    /// The text of a query's file; none where it can't be read, which is told.
+    /// The text of a query's file; `None` where it cannot be read, which is reported.
     pub(crate) fn read(
         &mut self,
         path: &str,
@@ -125,7 +125,7 @@ impl<'r, S: Sources> Run<'r, S> {
         }
     }
 
-    /// Tells what is not done to a file, and why.
+    /// Reports what is not done to a file, and why.
     pub(crate) fn tell_not_done(
         &mut self,
         what: &'static str,
@@ -138,7 +138,7 @@ impl<'r, S: Sources> Run<'r, S> {
         report.add_line(self.alloc, what, Level::Error, path, line.as_str())
     }
 
-    /// Tells that a path can't be read.
+    /// Reports that a path cannot be read.
     pub(crate) fn tell_wrong(
         &mut self,
         path: &str,
@@ -154,8 +154,8 @@ impl<'r, S: Sources> Run<'r, S> {
         report.add_remark(self.alloc, path, remark)
     }
 
-    /// The number of a query's schema among those that were read: the one that is given, or the nearest; none where there is none,
-    /// which is told.
+    /// The number of a query's schema among those that were read: the given one, or the nearest; `None` where there is none, which is
+    /// reported.
     pub(crate) fn schema_for(
         &mut self,
         query: &str,
@@ -185,7 +185,7 @@ impl<'r, S: Sources> Run<'r, S> {
         }
     }
 
-    /// The number of the schema that is given, or of the nearest one.
+    /// The number of the given schema, or of the nearest one.
     fn nearest(&mut self, query: &str) -> Result<Option<usize>, SourceError> {
         if let Some(path) = self.schema {
             return Ok(Some(self.schemas.at(self.alloc, path, self.sources)?));

@@ -1,4 +1,4 @@
-//! A schema that was read, and what is told of it.
+//! A schema that was read, and the remarks on it.
 
 use std::alloc::Global;
 use std::mem;
@@ -11,11 +11,11 @@ use wd_lines::refusal_words_at;
 use wd_output::Report;
 use wd_value::OutOfMemory;
 
-/// What is still to be told of a schema.
+/// What is still to be reported of a schema.
 #[derive(Drop)]
 enum Untold {
     Nothing,
-    /// What is passed over, and what is taken for granted.
+    /// What is ignored, and what is assumed.
     Notes(Vec<String>),
     /// It is refused at these bytes.
     Refused(Span),
@@ -23,13 +23,13 @@ enum Untold {
     Tables(String),
 }
 
-/// Whether a schema is read. Where it is not, its text is that of the file.
+/// Whether a schema is read. If it is not, its text is that of the file.
 #[derive(Clone, Copy, PartialEq, Eq)]
 pub(crate) enum Reading {
     Read,
-    /// The profile refuses it, which is told of each query.
+    /// The profile refuses the schema, which is reported for each query.
     Unread,
-    /// It is refused as PostgreSQL's tools write it, which is told once.
+    /// The schema is refused in the form of PostgreSQL's tools, which is reported once.
     Refused,
 }
 
@@ -37,10 +37,10 @@ pub(crate) enum Reading {
 #[derive(Drop)]
 pub(crate) struct SchemaFile {
     path: String,
-    /// The text over which queries are judged: that of the file, or the one that spells its tables.
+    /// The text over which queries are checked: that of the file, or the one that spells its tables.
     pub(crate) text: Vec<u8>,
     pub(crate) reading: Reading,
-    /// The statements of PostgreSQL's that make it; none where PostgreSQL does not read it.
+    /// The statements that PostgreSQL has for the schema; none where PostgreSQL does not read it.
     pub(crate) statements: Vec<Statement>,
     untold: Untold,
 }
@@ -88,7 +88,7 @@ impl SchemaFile {
         }
     }
 
-    /// Its path, and the text over which queries are judged.
+    /// The schema's path, and the text over which queries are checked.
     pub(crate) fn file(&self) -> File<'_> {
         File {
             path: self.path.as_str(),
@@ -96,7 +96,7 @@ impl SchemaFile {
         }
     }
 
-    /// Tells of it what was not told yet.
+    /// Reports what was not reported yet.
     pub(crate) fn tell(&mut self, alloc: Global, report: &mut Report) -> Result<(), OutOfMemory> {
         let path = self.path.as_str();
         match mem::replace(&mut self.untold, Untold::Nothing) {
@@ -113,7 +113,7 @@ impl SchemaFile {
     }
 }
 
-/// The statements that a text of the profile has for PostgreSQL, by which it is known what its columns are.
+/// The statements that PostgreSQL has for a text of the profile, from which it is known what the columns are.
 fn statements_of(alloc: Global, text: &[u8]) -> Result<Vec<Statement>, OutOfMemory> {
     match read_dialect(alloc, text) {
         Ok(schema) => {
@@ -128,7 +128,7 @@ fn statements_of(alloc: Global, text: &[u8]) -> Result<Vec<Statement>, OutOfMemo
     }
 }
 
-/// What is to be told of a refusal.
+/// What is to be reported of a refusal.
 fn untold_of(alloc: Global, refused: Refused) -> Result<Untold, OutOfMemory> {
     match refused {
         Refused::Profile => Ok(Untold::Nothing),

@@ -1,31 +1,31 @@
-//! Why a run ends before its end.
+//! Why a run ends early.
 
 use std::alloc::AllocError;
 use std::io::Write;
 use wd_output::ScreenError;
 use wd_value::OutOfMemory;
 
-/// Why a run ends before its end.
+/// Why a run ends early.
 #[derive(Clone, Copy, Debug)]
 pub(crate) enum Stop<'w> {
     /// Memory runs out, or the output can't be written.
     Refused,
-    /// No baseline is named that is to be written.
+    /// The baseline is to be written, but none is named.
     NoBaseline,
-    /// The baseline can't be read, or is none.
+    /// The baseline can't be read, or is not one.
     BaselineUnread,
-    /// The baseline has more bytes than are read of one.
+    /// The baseline has more bytes than are read.
     BaselineLarge,
     /// The baseline can't be written.
     BaselineUnwritten,
     /// The page can't be written.
     PageUnwritten,
-    /// A file that is to be written is this one, which is read or written too.
+    /// A file to be written is this one, which is read or written too.
     Overwrites { path: &'w str, what: &'static str },
 }
 
 impl Stop<'_> {
-    /// Says why.
+    /// Reports why.
     pub(crate) fn tell<E: Write>(self, err: &mut E) {
         let words = match self {
             Stop::Refused => "out of memory, or the output can't be written",

@@ -1,5 +1,5 @@
--- What the definition of a valid certificate says of a node's entry: its traces are good, what it keeps is reached, and its calls
--- and its limit are justified.
+-- What the definition of a valid certificate asks of a node's entry: its traces are good, what it keeps is reached, and its calls and its
+-- limit are justified.
 use Rattle.std.specs.Prelude.{◌≡◌, ℕ, Bool, true, List, [], ◌∷◌, map, nat_lt, slice_get, Option, Some, None, ⊤}
 use Rattle.std.specs.List.{list_all}
 use Rattle.wd_plan.specs.declared.window.Call.{Call}
@@ -22,7 +22,7 @@ use Rattle.wd_rules.specs.Rules.{is_target, is_whole_or_ties, member_of, taken_c
 
 -- ---- traces
 
--- Uses in their turn: each names a given fact whose left side is reached by then, and its right side is reached from then on.
+-- Uses in order: each names a given fact whose left side is reached by then; its right side is reached from then on.
 abbrev pub AreGood : FactList → (Member → Bool) → List ℕ → Type 0
 AreGood facts has [] = ⊤
 AreGood facts has (n ∷ uses) = (fact : Fact) × (slice_get facts.list n ≡ Some fact) × (reaches_each facts has fact.from ≡ true) × AreGood facts (also has fact.to) uses
@@ -36,16 +36,16 @@ abbrev pub right_side : Option Fact → List Member
 right_side None = []
 right_side (Some fact) = fact.to
 
--- the members by which uses reach what they do in the end
+-- the members after these uses; what follows from them is reached
 abbrev pub after_uses : FactList → (Member → Bool) → List ℕ → Member → Bool
 after_uses facts has [] = has
 after_uses facts has (n ∷ uses) = after_uses facts (also has (right_side (slice_get facts.list n))) uses
 
--- the members by which a trace does
+-- the members after the uses of a trace
 abbrev pub trace_has : FactList → TraceRecord → Member → Bool
 trace_has facts trace = after_uses facts (stands_in (columns_named trace.from)) trace.uses
 
--- the number names a trace of the entry; it starts from among some columns, and reaches the members
+-- the number names a trace of the entry; the trace starts from among some columns, and reaches the members
 pub record Gives (facts : FactList) (traces : List TraceRecord) (among : ℕ → Bool) (members : List Member) (number : ℕ) : Type 0 where
   pub trace : TraceRecord
   pub named : slice_get traces number ≡ Some trace
@@ -54,14 +54,14 @@ pub record Gives (facts : FactList) (traces : List TraceRecord) (among : ℕ →
 
 -- ---- kept facts
 
--- of an output with so many columns: each target is one of these or the row, and its trace gives it from among these
+-- a kept fact over this number of columns: each target is one of these or the row, and its trace reaches it from among these columns
 pub record IsKept (facts : FactList) (columns : ℕ) (traces : List TraceRecord) (kept : KeptRecord) : Type 0 where
   pub targets : list_all (is_target columns) kept.to ≡ true
   pub reached : Gives facts traces (λ c. nat_lt c columns) (map member_of kept.to) kept.trace
 
 -- ---- calls and limits
 
--- a call of a class with the columns that pass a test, over an input with so many columns
+-- a call by its rule, where a test tells the columns of its class, over an input with this number of columns
 abbrev pub IsJustified : FactList → ℕ → List TraceRecord → (ℕ → Bool) → Call → Rule → Type 0
 IsJustified facts columns traces among call rule.Peers = is_by_peers call.frame call.function ≡ true
 IsJustified facts columns traces among call (rule.Unique n) = Gives facts traces among (member.Row ∷ []) n
@@ -73,19 +73,19 @@ abbrev pub AreJustified : FactList → ℕ → List TraceRecord → WindowRule �
 AreJustified facts columns traces w calls rules = (i : ℕ) (call : Call) (r : Rule)
     → slice_get calls i ≡ Some call → slice_get rules i ≡ Some r → IsJustified facts columns traces (is_in (class_columns (class_at w call.class))) call r
 
--- any two calls that go by `exchange` are of one class
+-- any two calls that go by `exchange` have one class
 abbrev pub HasOneExchange : List Call → List Rule → Type 0
 HasOneExchange calls rules = (i j : ℕ) (call other : Call) (m n : ℕ)
     → slice_get calls i ≡ Some call → slice_get rules i ≡ Some (rule.Exchange m) → slice_get calls j ≡ Some other → slice_get rules j ≡ Some (rule.Exchange n)
     → call.class ≡ other.class
 
--- a limit without a trace takes all rows, or ties, and has no offset; the trace that is named for it gives every column from the
--- sort keys
+-- a limit without a trace takes all rows, or has ties, and has no offset; a limit with a trace has sort keys that determine every column
+-- by that trace
 abbrev pub IsJustifiedLimit : FactList → ℕ → List TraceRecord → LimitRule → Option ℕ → Type 0
 IsJustifiedLimit facts columns traces limit None = is_whole_or_ties limit ≡ true
 IsJustifiedLimit facts columns traces limit (Some n) = Gives facts traces (is_in (order_columns (limit_class limit))) (columns_named (all_columns columns)) n
 
--- the calls of a Window and a Limit; no other node has any
+-- the calls of a Window and the limit of a Limit; no other node has either
 abbrev pub HasRules : FactList → PlanTree → NodeRecord → Type 0
 HasRules facts (Scan table columns) entry = ⊤
 HasRules facts (Join condition left right) entry = ⊤

@@ -18,14 +18,14 @@ use Rattle.wd_rules.specs.Validity.{IsValidCertificate, first_refusal, kept_belo
 abbrev pub KeptHold : PlanTree → Instance → List (List ℕ) → ℕ → List NodeRecord → Type 0
 KeptHold plan instance choice first nodes = AtRows (outcome plan instance choice) (AreKept (width plan) (kept_facts (top_at plan first nodes))) ⊤
 
--- and its given facts do
+-- and its given facts hold there
 abbrev pub GivenHoldAt : List TableRule → PlanTree → Instance → List (List ℕ) → ℕ → List NodeRecord → Type 0
 GivenHoldAt tables plan instance choice first nodes = GivenHold tables plan instance choice (kept_below plan first nodes) (kept_right plan first nodes)
 
 abbrev pub BothHold : List TableRule → PlanTree → Instance → List (List ℕ) → ℕ → List NodeRecord → Type 0
 BothHold tables plan instance choice first nodes = GivenHoldAt tables plan instance choice first nodes × KeptHold plan instance choice first nodes
 
--- the given and the kept facts hold of a plan's nodes, each in the rows of its node
+-- the given and the kept facts of each node of a plan hold in the rows of that node
 abbrev pub FactsHold : List TableRule → PlanTree → Instance → List (List ℕ) → ℕ → List NodeRecord → Type 0
 FactsHold tables (Scan table columns) instance choice first nodes = BothHold tables (Scan table columns) instance choice first nodes
 FactsHold tables (Join condition left right) instance choice first nodes =
@@ -44,7 +44,7 @@ pub record Shows (tables : List TableRule) (plan : PlanTree) (nodes : List NodeR
   pub facts : FactsHold tables plan instance choice 0 nodes
   pub settled : IsSettledPlan plan instance choice
 
--- so it is over every instance that meets the schema, under every valid choice
+-- this is so over every instance that meets the schema, under every valid choice
 abbrev pub AlwaysShows : List TableRule → PlanTree → List NodeRecord → Type 0
 AlwaysShows tables plan nodes = (instance : Instance) (choice : List (List ℕ)) → Meets tables instance → IsValidChoice plan instance choice → Shows tables plan nodes instance choice
 
@@ -57,7 +57,7 @@ HasOneAnswer tables plan = (instance other : Instance) (c1 c2 : List (List ℕ))
 abbrev pub ValidIsNotRefused : Type 0
 ValidIsNotRefused = (tables : List TableRule) (plan : PlanTree) (certificate : CertificateRecord) → IsValidCertificate tables plan certificate ↔ (first_refusal tables plan certificate ≡ None)
 
--- what a valid certificate of a plan that fits keeps and uses is true
+-- what a valid certificate keeps and uses is true, if the plan fits
 abbrev pub ValidShows : Type 0
 ValidShows = (tables : List TableRule) (plan : PlanTree) (certificate : CertificateRecord) → fits tables plan ≡ true → IsValidCertificate tables plan certificate → AlwaysShows tables plan certificate.nodes
 

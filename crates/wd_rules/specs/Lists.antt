@@ -14,16 +14,16 @@ use Rattle.wd_laws.specs.Laws.{SameTables}
 use Rattle.wd_certificate.specs.Certificates.{CertificateRecord, NodeRecord}
 use Rattle.wd_rules.specs.Validity.{IsValidCertificate, entry_at, top_number}
 
--- outcomes agree as lists where they are the same fault, or equal lists of rows
+-- outcomes agree as lists where they are one fault, or equal lists of rows
 abbrev pub AgreeAsLists : RowsOrFault → RowsOrFault → Type 0
 AgreeAsLists (Ok rows) (Ok others) = rows ≡ others
 AgreeAsLists (Ok rows) (Err g) = ⊥
 AgreeAsLists (Err f) (Ok others) = ⊥
 AgreeAsLists (Err f) (Err g) = f ≡ g
 
--- The number of the Limit that gives a plan's rows their order, the last one in postorder: the plan's top node, or the first node
--- that is no Map below its top, since a Map keeps the order. There is none where that node is no Limit. The plan's nodes begin at
--- a number.
+-- The number of the Limit that orders a plan's rows: the last Limit in postorder, which is the plan's top node, or the first node below
+-- the top that is no Map, since a Map keeps the order. None where that node is no Limit. The plan's nodes are numbered from the given
+-- number on.
 abbrev pub final_limit : PlanTree → ℕ → Option ℕ
 final_limit (Scan table columns) first = None
 final_limit (Join condition left right) first = None
@@ -34,12 +34,12 @@ final_limit (Distinct input) first = None
 final_limit (Group g input) first = None
 final_limit (Limit limit input) first = Some (top_number (Limit limit input) first)
 
--- there is such a Limit, and its entry names a trace: it goes by `keys`
+-- there is such a Limit, and its entry names a trace, so it goes by `keys`
 abbrev pub goes_by_keys : List NodeRecord → Option ℕ → Bool
 goes_by_keys nodes None = false
 goes_by_keys nodes (Some n) = is_some (entry_at nodes n).limit
 
--- the sort keys of that Limit give every column of the rows that it reads
+-- the sort keys of that Limit determine every column of the rows that it reads
 abbrev pub IsListedPlan : PlanTree → Instance → List (List ℕ) → Type 0
 IsListedPlan (Scan table columns) instance choice = ⊥
 IsListedPlan (Join condition left right) instance choice = ⊥
@@ -50,7 +50,7 @@ IsListedPlan (Distinct input) instance choice = ⊥
 IsListedPlan (Group g input) instance choice = ⊥
 IsListedPlan (Limit limit input) instance choice = AtRows (outcome input instance choice) (λ rows. (width : ℕ) × HasWidth width rows × DeterminesAll rows width (order_columns (limit_class limit))) ⊤
 
--- The list law: a plan that is settled under one valid choice, and whose last Limit is ordered by keys that give every column, has
+-- The list law: a plan that is settled under one valid choice, and whose last Limit has sort keys that determine every column, has
 -- outcomes that agree as lists under every valid choice, over the same tables in any row order, faults included.
 abbrev pub PlanHasOneList : Type 0
 PlanHasOneList = (plan : PlanTree) (instance other : Instance) (c1 c2 : List (List ℕ))
@@ -62,7 +62,7 @@ abbrev pub HasOneList : List TableRule → PlanTree → Type 0
 HasOneList tables plan = (instance other : Instance) (c1 c2 : List (List ℕ))
     → Meets tables instance → SameTables instance other → IsValidChoice plan instance c1 → IsValidChoice plan other c2 → AgreeAsLists (outcome plan instance c1) (outcome plan other c2)
 
--- a plan that fits and has a valid certificate by which its last Limit goes by `keys` has one list
+-- a plan that fits and has a valid certificate that justifies its last Limit by `keys` has one list
 abbrev pub ListedHasOne : Type 0
 ListedHasOne = (tables : List TableRule) (plan : PlanTree) (certificate : CertificateRecord)
     → fits tables plan ≡ true → IsValidCertificate tables plan certificate → goes_by_keys certificate.nodes (final_limit plan 0) ≡ true → HasOneList tables plan

@@ -1,4 +1,4 @@
--- What a node's entry in a certificate claims, and by which refusal a claim fails that its traces don't show.
+-- What a node's entry in a certificate claims, and the refusal of a claim that its traces don't show.
 use Rattle.std.specs.Prelude.{ℕ, Bool, true, false, not, ◌&&◌, ◌||◌, List, [], ◌∷◌, map, nat_eq, nat_lt, slice_get, Option, Some, None, Result, Ok, Err, is_some, if◌then◌else◌}
 use Rattle.std.specs.List.{list_all}
 use Rattle.wd_plan.specs.declared.function.FrameFunction.{FrameFunction}
@@ -27,7 +27,7 @@ use Rattle.wd_sets.specs.Sets.{is_in}
 use Rattle.wd_sets.specs.Reaches.{reaches_each}
 use Rattle.wd_rules.specs.Traces.{Traced, each_traced}
 
--- ---- refusals in turn
+-- ---- refusals in order
 
 -- the first of two refusals
 abbrev pub or_else : Option CertError → Option CertError → Option CertError
@@ -56,7 +56,7 @@ abbrev pub trace_or : Option TraceRecord → TraceRecord
 trace_or None = no_trace
 trace_or (Some trace) = trace
 
--- what an entry keeps: the trace's columns give the targets
+-- the fact that an entry keeps: the trace's columns determine the targets
 abbrev pub kept_fact : List TraceRecord → KeptRecord → Fact
 kept_fact traces kept = record { from = columns_named (trace_or (slice_get traces kept.trace)).from; to = map member_of kept.to }
 
@@ -64,12 +64,12 @@ kept_fact traces kept = record { from = columns_named (trace_or (slice_get trace
 abbrev pub kept_facts : NodeRecord → List Fact
 kept_facts entry = map (kept_fact entry.traces) entry.keep
 
--- a column among so many, or the row
+-- a column below the given number of columns, or the row
 abbrev pub is_target : ℕ → Target → Bool
 is_target columns (target.Column c) = nat_lt c columns
 is_target columns target.Row = true
 
--- a kept fact of a node with so many columns, by its trace
+-- a kept fact of a node with the given number of columns, by its trace
 abbrev pub kept_refusal : ℕ → FactList → ℕ → List Target → Option Traced → Option CertError
 kept_refusal node facts columns to None = Some (OutOfRange node)
 kept_refusal node facts columns to (Some trace) =
@@ -81,11 +81,11 @@ keep_refusal node facts columns shown keep = first_of (λ (kept : KeptRecord). k
 
 -- ---- calls and limits
 
--- a trace shows that columns give members: it starts from among the columns, and reaches each member
+-- a trace shows that columns determine members: it starts from among the columns, and reaches each member
 abbrev pub shows : FactList → (ℕ → Bool) → List Member → Traced → Bool
 shows facts among members trace = list_all among trace.from && reaches_each facts trace.has members
 
--- a trace that the entry has passes a test
+-- the trace exists and passes a test
 abbrev pub refuse_unless_shown : ℕ → CertError → (Traced → Bool) → Option Traced → Option CertError
 refuse_unless_shown node refusal test None = Some (OutOfRange node)
 refuse_unless_shown node refusal test (Some trace) = refuse_unless (test trace) refusal
@@ -104,11 +104,11 @@ abbrev pub shows_column : FactList → (ℕ → Bool) → Option ℕ → Traced 
 shows_column facts among None trace = false
 shows_column facts among (Some c) trace = shows facts among (member.Column c ∷ []) trace
 
--- over a stable frame, the trace shows the column whose value the call takes
+-- over a stable frame, the trace reaches the column whose value the call takes
 abbrev pub shows_value : FactList → (ℕ → Bool) → Call → Traced → Bool
 shows_value facts among call trace = is_stable call.frame && shows_column facts among (taken_column call.function) trace
 
--- a call by its rule, of a class with the columns that pass a test, over an input with so many columns
+-- a call by its rule, where a test tells the columns of its class, over an input with the given number of columns
 abbrev pub call_refusal : ℕ → FactList → ℕ → List Traced → (ℕ → Bool) → Call → Rule → Option CertError
 call_refusal node facts columns shown among call rule.Peers = refuse_unless (is_by_peers call.frame call.function) (UnjustifiedCall node)
 call_refusal node facts columns shown among call (rule.Unique n) = refuse_unless_shown node (UnjustifiedCall node) (shows facts among (member.Row ∷ [])) (slice_get shown n)
@@ -145,7 +145,7 @@ exchange_only class (call ∷ calls) (r ∷ rules) = (not (is_exchange r) || nat
 abbrev pub has_one_exchange : List Call → List Rule → Bool
 has_one_exchange calls rules = exchange_only (exchange_class calls rules) calls rules
 
--- the rules of a Window: of each call, and of its classes
+-- the rules of a Window: of each call, and of its exchange class
 abbrev pub window_refusal : ℕ → FactList → ℕ → List Traced → WindowRule → List Rule → Option CertError
 window_refusal node facts columns shown w rules =
     or_else (calls_refusal node facts columns shown w w.calls rules) (refuse_unless (has_one_exchange w.calls rules) (SecondExchange node))
@@ -154,7 +154,7 @@ window_refusal node facts columns shown w rules =
 abbrev pub is_whole_or_ties : LimitRule → Bool
 is_whole_or_ties limit = nat_eq limit.offset 0 && (not (is_some limit.count) || limit.ties)
 
--- a limit; with a trace, its sort keys give every column
+-- a limit; with a trace, its sort keys determine every column
 abbrev pub limit_refusal : ℕ → FactList → ℕ → List Traced → LimitRule → Option ℕ → Option CertError
 limit_refusal node facts columns shown limit None = refuse_unless (is_whole_or_ties limit) (UnjustifiedLimit node)
 limit_refusal node facts columns shown limit (Some n) =

@@ -1,4 +1,4 @@
--- By what a certificate is refused for a plan and a schema, and when it is valid.
+-- The refusal of a certificate for a plan and a schema, and when a certificate is valid.
 use Rattle.std.specs.Prelude.{◌≡◌, ℕ, ◌+◌, Bool, true, false, not, ◌&&◌, ◌||◌, List, [], length, nat_eq, slice_index_or, Option, None, is_some, if◌then◌else◌}
 use Rattle.std.specs.List.{AllByRecursion}
 use Rattle.wd_schema.specs.Tables.{TableRule}
@@ -14,7 +14,7 @@ use Rattle.wd_facts.specs.Given.{given}
 use Rattle.wd_rules.specs.Justified.{HasRules, IsGoodTrace, IsKept}
 use Rattle.wd_rules.specs.Rules.{entry_refusal, kept_facts, or_else, refuse_unless}
 
--- ---- entries, one for each node in postorder; a plan's begin at a number
+-- ---- entries, one for each node in postorder; the nodes of a plan are numbered from a given number on
 
 abbrev pub no_entry : NodeRecord
 no_entry = record { calls = []; keep = []; limit = None; traces = [] }
@@ -22,7 +22,7 @@ no_entry = record { calls = []; keep = []; limit = None; traces = [] }
 abbrev pub entry_at : List NodeRecord → ℕ → NodeRecord
 entry_at nodes n = slice_index_or nodes n no_entry
 
--- the number of a plan's top node, which stands behind all others of the plan
+-- the number of a plan's top node, which comes after all others of the plan
 abbrev pub top_number : PlanTree → ℕ → ℕ
 top_number (Scan table columns) first = first
 top_number (Join condition left right) first = (first + node_count left) + node_count right
@@ -33,7 +33,7 @@ top_number (Window w input) first = first + node_count input
 top_number (Distinct input) first = first + node_count input
 top_number (Limit limit input) first = first + node_count input
 
--- its entry
+-- the entry of a plan's top node
 abbrev pub top_at : PlanTree → ℕ → List NodeRecord → NodeRecord
 top_at plan first nodes = entry_at nodes (top_number plan first)
 
@@ -49,7 +49,7 @@ all_entries test (Window w input) first nodes = let plan = Window w input in all
 all_entries test (Distinct input) first nodes = let plan = Distinct input in all_entries test input first nodes && test plan (top_at plan first nodes)
 all_entries test (Limit limit input) first nodes = let plan = Limit limit input in all_entries test input first nodes && test plan (top_at plan first nodes)
 
--- a limit stands at a Limit alone
+-- only a Limit has a limit
 abbrev pub has_its_limit : PlanTree → NodeRecord → Bool
 has_its_limit (Scan table columns) entry = not (is_some entry.limit)
 has_its_limit (Join condition left right) entry = not (is_some entry.limit)
@@ -87,18 +87,18 @@ has_group (Window w input) = has_group input
 has_group (Distinct input) = has_group input
 has_group (Limit limit input) = has_group input
 
--- the least version whose certificates may speak of a plan
+-- the least version whose certificates may describe a plan
 abbrev pub version_needed : PlanTree → Version
 version_needed plan = if has_group plan then Two else One
 
--- version 1 is read for a plan without a Group, version 2 for every plan
+-- version 1 is allowed for a plan without a Group, version 2 for every plan
 abbrev pub is_read_for : PlanTree → Version → Bool
 is_read_for plan One = not (has_group plan)
 is_read_for plan Two = true
 
 -- ---- given facts
 
--- what the child of a plan's top node keeps, at a Join the left one
+-- what the child of a plan's top node keeps; at a Join the left child
 abbrev pub kept_below : PlanTree → ℕ → List NodeRecord → List Fact
 kept_below (Scan table columns) first nodes = []
 kept_below (Join condition left right) first nodes = kept_facts (top_at left first nodes)
@@ -142,25 +142,25 @@ nodes_refusal tables (Window w input) first nodes = or_else (nodes_refusal table
 nodes_refusal tables (Distinct input) first nodes = or_else (nodes_refusal tables input first nodes) (top_refusal tables (Distinct input) first nodes)
 nodes_refusal tables (Limit limit input) first nodes = or_else (nodes_refusal tables input first nodes) (top_refusal tables (Limit limit input) first nodes)
 
--- a plan's entries have its form: one for each node; limits at Limits alone; as many rules as a node has calls
+-- the form of a plan's entries: one for each node; limits only at Limits; as many rules as a node has calls
 abbrev pub form_refusal : PlanTree → List NodeRecord → Option CertError
 form_refusal plan nodes =
     or_else (refuse_unless (nat_eq (length nodes) (node_count plan)) refused.Count)
     (or_else (refuse_unless (all_entries has_its_limit plan 0 nodes) refused.Shape)
     (refuse_unless (all_entries has_its_calls plan 0 nodes) refused.Count))
 
--- by what a plan's entries are refused: by their form, then by the first refusal in postorder
+-- the refusal of a plan's entries: by their form, then the first refusal in postorder
 abbrev pub entries_refusal : List TableRule → PlanTree → List NodeRecord → Option CertError
 entries_refusal tables plan nodes = or_else (form_refusal plan nodes) (nodes_refusal tables plan 0 nodes)
 
--- by what a certificate is refused: by its version, then by its entries
+-- the refusal of a certificate: by its version, then by its entries
 abbrev pub first_refusal : List TableRule → PlanTree → CertificateRecord → Option CertError
 first_refusal tables plan certificate = or_else (refuse_unless (is_read_for plan certificate.version) refused.Version) (entries_refusal tables plan certificate.nodes)
 
 -- ---- valid certificates
 
--- the entry of a node where these facts are given: good traces, kept facts that are reached, a rule for each call, a limit at a
--- Limit alone, and rules that are justified
+-- a valid entry of a node with these given facts: good traces, kept facts that are reached, a rule for each call, a limit only at a
+-- Limit, and rules that are justified
 pub record IsValidEntry (facts : FactList) (plan : PlanTree) (entry : NodeRecord) : Type 0 where
   pub traces : AllByRecursion (IsGoodTrace facts) entry.traces
   pub kept : AllByRecursion (IsKept facts (width plan) entry.traces) entry.keep
@@ -168,11 +168,11 @@ pub record IsValidEntry (facts : FactList) (plan : PlanTree) (entry : NodeRecord
   pub limit : has_its_limit plan entry ≡ true
   pub rules : HasRules facts plan entry
 
--- the entry of a plan's top node is valid, where its children's entries keep what they do
+-- the entry of a plan's top node is valid, given what its children's entries keep
 abbrev pub IsValidTop : List TableRule → List NodeRecord → PlanTree → ℕ → Type 0
 IsValidTop tables nodes plan first = IsValidEntry (given_at tables plan first nodes) plan (top_at plan first nodes)
 
--- what is said of each node of a plan, whose nodes begin at a number
+-- a property of each node of a plan, whose nodes are numbered from a given number on
 abbrev pub EachNode : (PlanTree → ℕ → Type 0) → PlanTree → ℕ → Type 0
 EachNode P (Scan table columns) first = P (Scan table columns) first
 EachNode P (Join condition left right) first = EachNode P left first × EachNode P right (first + node_count left) × P (Join condition left right) first
@@ -183,8 +183,8 @@ EachNode P (Window w input) first = EachNode P input first × P (Window w input)
 EachNode P (Distinct input) first = EachNode P input first × P (Distinct input) first
 EachNode P (Limit limit input) first = EachNode P input first × P (Limit limit input) first
 
--- A valid certificate: its version is read for the plan, it has one entry for each node, and each of these is valid. The law
--- `ValidIsNotRefused` says that it is exactly one that is not refused.
+-- A valid certificate: its version is allowed for the plan, it has one entry for each node, and each entry is valid. The law
+-- `ValidIsNotRefused` says that this is exactly a certificate that is not refused.
 pub record IsValidCertificate (tables : List TableRule) (plan : PlanTree) (certificate : CertificateRecord) : Type 0 where
   pub version : is_read_for plan certificate.version ≡ true
   pub count : length certificate.nodes ≡ node_count plan

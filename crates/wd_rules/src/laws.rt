@@ -10,8 +10,8 @@ pub fn valid_is_not_refused()
     ensures { ValidIsNotRefused }
 {}
 
-/// Where a plan fits a schema and a certificate is valid for them, each given and each kept fact
-/// holds in its node's rows, and each call and limit is settled.
+/// Where a plan fits a schema and a certificate is valid for them, each given and each kept fact holds in the rows of its node, and each
+/// call and limit is settled.
 pub fn valid_shows()
     ensures { ValidShows }
 {}
@@ -26,23 +26,23 @@ pub fn never_both()
     ensures { NeverBoth }
 {}
 
-/// By what some certificates are refused, and that others are valid.
+/// The refusals of worked certificates, and that others are valid.
 pub fn certificates_come_out()
     ensures { CertificatesComeOut }
 {}
 
-/// By what some certificates of grouped queries are refused, that others are valid, and which facts their groups give.
+/// The refusals of worked certificates of grouped queries, that others are valid, and the facts of their groups.
 pub fn groups_are_certified()
     ensures { GroupsAreCertified }
 {}
 
-/// A settled plan whose last Limit is ordered by keys that give every column has outcomes that agree as lists, under any valid
-/// choices, over the same tables in any row order.
+/// A settled plan whose last Limit has sort keys that determine every column has outcomes that agree as lists, under any valid choices,
+/// over the same tables in any row order.
 pub fn plan_has_one_list()
     ensures { PlanHasOneList }
 {}
 
-/// A plan with a valid certificate by which its last Limit goes by `keys` has one list.
+/// A plan with a valid certificate that justifies its last Limit by `keys` has one list.
 pub fn listed_has_one()
     ensures { ListedHasOne }
 {}

@@ -1,4 +1,4 @@
-//! Which versions of certificates are read for a plan.
+//! Which versions of certificates are allowed for a plan.
 
 ghost use Rattle.std.specs.Prelude.{◌≡◌};
 ghost use Rattle.wd_plan.specs.Plans.{plan_of};
@@ -23,7 +23,7 @@ fn has_group(plan: &Plan) -> bool
     }
 }
 
-/// The least version whose certificates may speak of a plan: 2 where a node is a Group, else 1.
+/// The least version whose certificates may describe the plan: 2 where a node is a Group, else 1.
 pub fn version_needed(plan: &Plan) -> Version
     ensures { result ≡ validity.version_needed (plan_of plan.now) }
 {
@@ -34,7 +34,7 @@ pub fn version_needed(plan: &Plan) -> Version
     }
 }
 
-/// Whether a version is read for a plan: version 2 is for every plan, version 1 for one without a Group.
+/// Whether a version is allowed for a plan: version 2 for every plan, version 1 for a plan without a Group.
 pub fn is_read_for(plan: &Plan, version: Version) -> bool
     ensures { result ≡ validity.is_read_for (plan_of plan.now) version }
 {

@@ -1,4 +1,4 @@
--- The numbers and the places of refusals, what they are about, and what stands in the inputs where they are answered.
+-- The numbers and the places of refusals, what they are about, and the properties of the inputs for which they are reported.
 use Rattle.std.specs.Prelude.{◌≡◌, ◌≢◌, ◌⊎◌, ℕ, ⊤, List, ◌∷◌, ◌++◌, Option, Some, None, All, Any}
 use Rattle.wd_schema.specs.Tables.{TableRule}
 use Rattle.wd_query.specs.Causes.{HasTextCause, text_number, text_place}
@@ -35,7 +35,7 @@ run_place (run.Data name error) = records.place_of error
 run_place (run.Evaluation error) = steps.place_of error
 run_place run.OutOfMemory = None
 
--- the input that a refusal is about; that of data goes by its name
+-- the input that a refusal is about; data is identified by its name
 abbrev pub ComesFrom : RunError → Origin → Type 0
 ComesFrom (run.Texts (text.Schema error)) origin.Schema = ⊤
 ComesFrom (run.Texts (text.Query error)) origin.Query = ⊤
@@ -45,14 +45,14 @@ ComesFrom (run.Evaluation error) origin.Run = ⊤
 ComesFrom run.OutOfMemory origin.Run = ⊤
 ComesFrom error other = ⊥
 
--- ---- what stands in the inputs
+-- ---- what is in the inputs
 
--- data is given under the name, and no table has it
+-- data is given under a name that no table has
 pub record IsNoTable (tables : List TableRule) (given : List (List ℕ × List ℕ)) (name : List ℕ) : Type 0 where
   pub there : IsGiven given name
   pub unnamed : (n : ℕ) → IsNamed tables name n → ⊥
 
--- data is given under the name, and given again after it
+-- data is given twice under the name
 pub record IsGivenTwice (given : List (List ℕ × List ℕ)) (name : List ℕ) : Type 0 where
   pub before : List (List ℕ × List ℕ)
   pub again : List ℕ
@@ -60,14 +60,14 @@ pub record IsGivenTwice (given : List (List ℕ × List ℕ)) (name : List ℕ) 
   pub parts : given ≡ before ++ (name, again) ∷ behind
   pub earlier : IsGiven before name
 
--- the plan scans the table of the name, which has no data
+-- the plan scans the table of that name, which has no data
 pub record LacksData (tables : List TableRule) (given : List (List ℕ × List ℕ)) (plan : PlanTree) (name : List ℕ) : Type 0 where
   pub number : ℕ
   pub named : IsNamed tables name number
   pub scanned : ReadsTable plan number
   pub none : All (λ g. g.0 ≢ name) given
 
--- why data is refused for its name
+-- why data is refused because of its name
 abbrev pub HasNameCause : List TableRule → List (List ℕ × List ℕ) → PlanTree → List ℕ → Type 0
 HasNameCause tables given plan name = IsNoTable tables given name ⊎ (IsGivenTwice given name ⊎ LacksData tables given plan name)
 
@@ -85,7 +85,7 @@ pub record HasStepCause (tables : List TableRule) (given : List (List ℕ × Lis
   pub data_holds : HoldsData tables given instance
   pub cause : IsRunRefused plan instance error
 
--- a refusal's cause stands in the inputs; where memory runs out none need
+-- the inputs have the refusal's cause; where memory runs out they need not have one
 abbrev pub HasCause : List ℕ → List ℕ → List (List ℕ × List ℕ) → RunError → Type 0
 HasCause schema query given (run.Texts error) = HasTextCause schema query error
 HasCause schema query given (run.Given name) = ForReading schema query (λ tables plan. HasNameCause tables given plan name)

@@ -1,4 +1,4 @@
--- What the readers of data give and refuse, each for its part.
+-- What the readers of data return and refuse, each for its part.
 use Rattle.std.specs.Prelude.{◌≡◌, ◌⊎◌, ℕ, ⊤, List, Some, slice_get}
 use Rattle.wd_schema.specs.Tables.{TableRule}
 use Rattle.wd_plan.specs.Plans.{PlanTree}
@@ -11,7 +11,7 @@ use Rattle.wd_run.specs.Runs.{HasData, HoldsData, IsGiven, IsNamed}
 use Rattle.wd_run.specs.declared.error.RunError.{RunError}
 use Rattle.wd_run.specs.declared.error.RunError.TheVariants as run
 
--- 707 for the name, where this holds; or out of memory
+-- 707 for the name, and the condition holds; or out of memory
 abbrev pub RefusesName : List ℕ → Type 0 → RunError → Type 0
 RefusesName name P (run.Given refused) = (refused ≡ name) × P
 RefusesName name P run.OutOfMemory = ⊤
@@ -19,7 +19,7 @@ RefusesName name P (run.Texts error) = ⊥
 RefusesName name P (run.Data refused error) = ⊥
 RefusesName name P (run.Evaluation error) = ⊥
 
--- a text is refused under its name, after those that were given earlier
+-- a text is refused under its name, after the texts given before it
 abbrev pub RefusesText : List TableRule → List (List ℕ × List ℕ) → List ℕ → List ℕ → RunError → Type 0
 RefusesText tables earlier name text (run.Given refused) = (refused ≡ name) × (((n : ℕ) → IsNamed tables name n → ⊥) ⊎ IsGiven earlier name)
 RefusesText tables earlier name text (run.Data refused error) = (refused ≡ name) × ((n : ℕ) × (named : IsNamed tables name n) × records.HasCause named.table text error)

@@ -28,13 +28,13 @@ pub record IsNamed (tables : List TableRule) (name : List ℕ) (number : ℕ) : 
   pub found : slice_get tables number ≡ Some table
   pub name_is : table.name ≡ name
 
--- a text that is given under the table's name holds the rows, and without one there are none; the rows meet the table
+-- a text under the table's name holds the rows, and without a text there are none; the rows meet the table
 pub record HoldsTable (table : TableRule) (given : List (List ℕ × List ℕ)) (rows : List Row) : Type 0 where
   pub meets : MeetsTable table rows
   pub held : All (λ g. g.0 ≡ table.name → HoldsRows table g.1 rows) given
   pub empty : All (λ g. g.0 ≢ table.name) given → rows ≡ []
 
--- each text is given under the name of a table, no name twice, and the instance has each table's rows
+-- each text is given under the name of a table, no name is given twice, and the instance has each table's rows
 pub record HoldsData (tables : List TableRule) (given : List (List ℕ × List ℕ)) (instance : Instance) : Type 0 where
   pub lists : length instance ≡ length tables
   pub named : All (λ g. (n : ℕ) × IsNamed tables g.0 n) given
@@ -72,9 +72,9 @@ HasData tables given plan = (number : ℕ) → HasDataAt tables given plan numbe
 
 -- ---- answers
 
--- The plan and the names read the schema's text and the query's text, each table that the plan scans has data, the data holds
--- the instance, and the answer is one of the plan over it: its outcome under some valid choice of orderings, under which no
--- step is larger than allowed.
+-- The plan and the names are those of the schema's text and the query's text, each table that the plan scans has data, the data holds the
+-- instance, and the answer is one of the plan over it: its outcome under some valid choice of orderings under which no step is larger
+-- than allowed.
 pub record IsAnswer (schema query : List ℕ) (given : List (List ℕ × List ℕ)) (names : List (List ℕ)) (answer : RowsOrFault) : Type 0 where
   pub read : Answer
   pub reads : Reads schema query read

@@ -20,9 +20,8 @@ use wd_schema::{Schema, Table};
 use wd_tables::load_columns;
 use wd_value::{OutOfMemory, Text};
 
-/// The rows of each table, from texts that are given as pairs of a table's name and its CSV text.
-/// A table without a text has no rows. Refused by 707 at the first name that is no table's or that
-/// was given before, and by 701 to 706 as `load` refuses a text.
+/// The rows of each table, from pairs of a table's name and its CSV text. A table without a text has no rows. Refused by 707 at the first
+/// name that no table has or that was given before, and by 701 to 706 as `load` refuses a text.
 pub fn load_data(
     alloc: Global,
     schema: &Schema,
@@ -39,7 +38,7 @@ pub fn load_data(
     Ok(instance)
 }
 
-/// Puts the rows of one text more into the list of its table.
+/// Adds the rows of one text to its table.
 fn add_data(
     alloc: Global,
     schema: &Schema,
@@ -64,7 +63,7 @@ fn add_data(
     Ok(())
 }
 
-/// A list without rows for each table.
+/// Empty lists of rows, one for each table.
 fn empty_tables(alloc: Global, count: usize) -> Result<Vec<Columns>, OutOfMemory>
     ensures len { IfOk result (λ v. length v.items ≡ count) }
     ensures empty { IfOk result (λ v. All (λ rows. rows ≡ []) v.items) }
@@ -76,7 +75,7 @@ fn empty_tables(alloc: Global, count: usize) -> Result<Vec<Columns>, OutOfMemory
     Ok(instance)
 }
 
-/// The table of that number, where it has the name.
+/// The table of that number, if it has the name.
 fn named_at<'a>(schema: &'a Schema, number: usize, name: &str) -> Option<&'a Table>
     ensures found { IfSome result (λ table. FindsTable (schema_of schema.now) name.now number (table_of table.now)) }
     ensures none { IfNone result (IsNamed (schema_of schema.now) name.now number → ⊥) }
@@ -116,7 +115,7 @@ fn load_table(alloc: Global, table: &Table, text: &[u8]) -> Result<Columns, RunE
     }
 }
 
-/// 707, or out of memory where the name can't be kept.
+/// 707, or out of memory where the name cannot be kept.
 fn unexpected_data(alloc: Global, name: &str) -> RunError
     ensures { RefusesName name.now (Unit {0}) result }
 {
@@ -126,7 +125,7 @@ fn unexpected_data(alloc: Global, name: &str) -> RunError
     }
 }
 
-/// The name of the table of that number, where a plan scans it and it has no data.
+/// The name of the table of that number, if a plan scans it and it has no data.
 fn lacking<'a>(
     schema: &'a Schema,
     plan: &Plan,
@@ -147,7 +146,7 @@ fn lacking<'a>(
     Some(name)
 }
 
-/// Whether each table that a plan scans has data. Refused by 707 at the first one in the schema that has none.
+/// Checks that each table that a plan scans has data; refused by 707 at the first table of the schema that has none.
 pub fn check_given(
     alloc: Global,
     schema: &Schema,

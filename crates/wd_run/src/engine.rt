@@ -18,12 +18,12 @@ use wd_query::{PlannedQuery, read_texts};
 use wd_schema::Schema;
 use wd_value::Text;
 
-/// The names of a query's columns and its outcome over the data of tables, which is given as pairs of a table's name and its CSV
-/// text: the rows or the fault under some choice among the orders that the query leaves open. The schema is read first, then the
-/// query, then the data in the order given; a table without data is empty, if the query does not read it.
+/// The names of a query's columns and its outcome over the data of tables, which is given as pairs of a table's name and its CSV text:
+/// the rows or the fault under one of the choices that the query leaves open. The schema is read first, then the query, then the data in
+/// the given order; a table without data is empty, and the query may not read it.
 ///
-/// Each refusal comes only where its cause stands: 101 to 107 and 301 to 309 of the schema; 101 to 107, 201, 202 and 401 to 415 of
-/// the query; 701 to 707 of the data under a name; 802 where a step has more than 10,000,000 rows.
+/// A refusal is returned only where its cause is in the inputs: 101 to 107 and 301 to 309 of the schema; 101 to 107, 201, 202 and 401 to
+/// 419 of the query; 701 to 707 of the data under a name; 802 where a step has more than 10,000,000 rows.
 pub fn run(
     alloc: Global,
     schema: &[u8],
@@ -43,7 +43,7 @@ pub fn run(
     }
 }
 
-/// As [`run`], with the rows kept as the evaluation left them.
+/// As [`run`], with the rows as the evaluation left them.
 pub fn run_kept(
     alloc: Global,
     schema: &[u8],

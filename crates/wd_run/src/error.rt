@@ -17,17 +17,16 @@ pub enum RunError {
     /// The schema's text or the query's is refused.
     #[error(transparent)]
     Texts(TextError),
-    /// 707: the name is no table's or is given twice, or the table of this name, which the query
-    /// reads, has no data.
+    /// 707: no table has the name, or it is given twice, or the table of this name is read by the query and has no data.
     #[error("no such table, or data given twice or not at all")]
     Given { name: Text },
     /// The data of the table with this name is refused.
     #[error("{error}")]
     Data { name: Text, error: DataError },
-    /// 802: a step of the plan has more rows than 10,000,000.
+    /// 802: a step of the plan has more than 10,000,000 rows.
     #[error(transparent)]
     Evaluation(EvalError),
-    /// The allocator refused a growth.
+    /// The allocator refused to allocate.
     #[error("out of memory")]
     OutOfMemory,
 }
@@ -37,13 +36,13 @@ pub enum RunError {
 pub enum Origin<'a> {
     Schema,
     Query,
-    /// The data that was given, or should have been, under this name.
+    /// The data that was given, or is missing, under this name.
     Data(&'a str),
     Run,
 }
 
 impl RunError {
-    /// The refusal's number, and None where memory runs out.
+    /// The refusal's number, or `None` where memory ran out.
     pub fn number(&self) -> Option<u32>
         ensures { result ≡ run_number self.now }
     {

@@ -2,7 +2,7 @@
 
 ghost use Rattle.wd_run.specs.Laws.{DataMeets};
 
-/// The rows that data holds meet the schema.
+/// The rows of the data meet the schema.
 pub fn data_meets()
     ensures { DataMeets }
 {}

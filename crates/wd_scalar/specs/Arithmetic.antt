@@ -2,7 +2,7 @@
 use Rattle.std.specs.Prelude.{Bool, true, false, ◌||◌}
 use Rattle.wd_plan.specs.Expressions.{Expression, Column, Literal, Negate, Arithmetic, Compare, Not, And, Or, IsNull, IsNotNull, Case}
 
--- some operation on whole numbers stands in the expression; without one it has no fault
+-- some operation on whole numbers is in the expression; without one it has no fault
 abbrev pub has_arithmetic : Expression → Bool
 has_arithmetic (Column c) = false
 has_arithmetic (Literal v kind) = false

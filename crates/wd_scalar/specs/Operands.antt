@@ -7,7 +7,7 @@ use Rattle.wd_value.specs.Rows.{Row}
 use Rattle.wd_plan.specs.Expressions.{Expression, Column, Literal, Negate, Arithmetic, Compare, Not, And, Or, IsNull, IsNotNull, Case, and_result, and_value, arithmetic_value, comparison, is_null, is_true, negated, not_value, or_result, or_value, value_of}
 use Rattle.wd_plan.specs.Faults.{and_then}
 
--- the value of an expression whose first operand, or condition, has this value; an expression without one is not asked for
+-- the value of an expression whose first operand or condition has this value; not used for an expression without one
 abbrev pub applied_to : Expression → Row → Value → Result Value Fault
 applied_to (Negate a) row v = negated v
 applied_to (Not a) row v = Ok (not_value v)

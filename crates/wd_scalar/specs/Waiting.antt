@@ -17,17 +17,17 @@ abbrev pub resumed : Row → Waiting → Result Value Fault → Result Value Fau
 resumed row (waiting.First e) r = and_then r (applied_to (expression_of e.now) row)
 resumed row (waiting.Right e left) r = combined (expression_of e.now) left r
 
--- the same of all that waits, from the last on
+-- the value of the whole expression of all that waits, from the last on
 abbrev pub all_resumed : Row → List Waiting → Result Value Fault → Result Value Fault
 all_resumed row [] r = r
 all_resumed row (outer ∷ inner) r = resumed row outer (all_resumed row inner r)
 
--- the value to which a step leads
+-- the value of the whole expression that a step stands for
 abbrev pub step_of : Row → Step → Result Value Fault
 step_of row (step.Made r) = r
 step_of row (step.Into outer part) = resumed row outer (value_of (expression_of part.now) row)
 
--- how many steps are left behind an operand, and behind a step
+-- how many steps are left after an operand
 abbrev pub waiting_steps : Waiting → ℕ
 waiting_steps (waiting.First e) = rest_steps (expression_of e.now)
 waiting_steps (waiting.Right e left) = 1

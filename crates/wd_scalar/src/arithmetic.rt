@@ -8,7 +8,7 @@ ghost use Rattle.wd_scalar.specs.Numbers.{number_or_fault};
 use wd_plan::ArithmeticOp;
 use wd_value::{Fault, Value};
 
-/// The value of an operation, where the left operand has one. NULL beside any value gives NULL.
+/// The value of an operation, where the left operand has a value. It is NULL where either operand is NULL.
 pub(crate) fn arithmetic_result(
     op: ArithmeticOp,
     left: &Value,
@@ -34,7 +34,7 @@ fn arithmetic(op: ArithmeticOp, m: i64, n: i64) -> Result<Value, Fault>
     }
 }
 
-/// Truncates toward zero.
+/// The quotient, truncated toward zero.
 fn quotient(m: i64, n: i64) -> Result<Value, Fault>
     ensures { result ≡ spec.unless_zero n (spec.in_64 (int_div m n)) }
 {
@@ -45,7 +45,7 @@ fn quotient(m: i64, n: i64) -> Result<Value, Fault>
     }
 }
 
-/// Has the dividend's sign, and is 0 for each dividend of -1.
+/// The remainder, with the dividend's sign; 0 for each dividend where the divisor is -1.
 fn remainder(m: i64, n: i64) -> Result<Value, Fault>
     ensures { result ≡ spec.unless_zero n (spec.in_64 (int_rem m n)) }
 {
@@ -58,7 +58,7 @@ fn remainder(m: i64, n: i64) -> Result<Value, Fault>
     }
 }
 
-/// The number with the other sign.
+/// The number with its sign changed.
 pub(crate) fn negated(value: &Value) -> Result<Value, Fault>
     ensures { result ≡ spec.negated value.now }
 {
@@ -69,7 +69,7 @@ pub(crate) fn negated(value: &Value) -> Result<Value, Fault>
     }
 }
 
-/// A number, or the fault of a result that 64 bits don't hold.
+/// The number, or the fault of a result that 64 bits don't hold.
 fn in_range(number: Option<i64>) -> Result<Value, Fault>
     ensures { result ≡ number_or_fault number }
 {

@@ -1,5 +1,5 @@
-//! Expressions that lie deep, evaluated by a loop: what waits for the value of an operand stands on the heap, and takes nothing of
-//! the stack however deep the expression is.
+//! Deep expressions, evaluated by a loop: what waits for the value of an operand is on the heap, so the depth of the expression takes no
+//! stack.
 
 ghost use Rattle.std.specs.Prelude.{◌≡◌, ◌<◌, IfOk, Ok};
 ghost use Rattle.wd_plan.specs.Expressions as spec;
@@ -19,13 +19,13 @@ use wd_value::{Fault, OutOfMemory, Value};
 /// What waits for the value of an operand.
 #[derive(Drop)]
 enum Waiting<'e> {
-    /// An operator for its first operand, a CASE for its condition.
+    /// An operator that waits for its first operand, or a CASE that waits for its condition.
     First(&'e Expr),
-    /// An operator whose left operand has this value, for its right one.
+    /// An operator whose left operand has this value, and which waits for its right one.
     Right(&'e Expr, Value),
 }
 
-/// The value of an expression, or the operand whose value comes before it.
+/// The value of an expression, or an operand to be evaluated first.
 #[derive(Drop)]
 enum Step<'e> {
     Made(Result<Value, Fault>),
@@ -99,8 +99,8 @@ fn closed<'e>(
     }
 }
 
-/// The step after the first operand has its value. The right side of AND and OR is evaluated only where the left one doesn't
-/// decide, and of a CASE only the branch that is taken.
+/// The step after the first operand has its value. The right side of AND and OR is evaluated only where the left one doesn't decide, and
+/// of a CASE only the branch that is taken.
 fn after_first<'e>(
     alloc: Global,
     expression: &'e Expr,
@@ -142,7 +142,7 @@ fn combined(expression: &Expr, left: &Value, right: Result<Value, Fault>) -> Res
     }
 }
 
-/// A copy of the value in a column, and NULL past the last.
+/// A copy of the value in a column; NULL past the last column.
 pub(crate) fn column_value(
     alloc: Global,
     row: &RowView,

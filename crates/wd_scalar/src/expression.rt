@@ -1,4 +1,4 @@
-//! Expressions, kind by kind.
+//! The values of expressions.
 
 ghost use Rattle.std.specs.Prelude.{◌≡◌, ◌++◌, IfOk};
 ghost use Rattle.wd_plan.specs.Expressions as spec;
@@ -17,11 +17,11 @@ use wd_columns::RowSource;
 use wd_plan::Expr;
 use wd_value::{Fault, OutOfMemory, Value};
 
-/// How many operands deep an expression is evaluated by recursion, which asks for no memory. Few go deeper.
+/// How many operands deep an expression is evaluated by recursion, which takes no memory from the allocator. Few are deeper.
 const NEAR: u8 = 32;
 
-/// The value of an expression over a row, or its fault: operands are evaluated left first, and the
-/// left one's fault is the expression's. A column past the row's last is NULL.
+/// The value of an expression over a row, or its fault: operands are evaluated from left to right, and the first fault is the
+/// expression's. A column past the row's last is NULL.
 pub fn value_of(
     alloc: Global,
     expression: &Expr,
@@ -32,7 +32,7 @@ pub fn value_of(
     value_over(alloc, expression, &RowView::of_row(row))
 }
 
-/// The value of an expression over two rows concatenated, or its fault: the rows stay where they are.
+/// The value of an expression over two rows concatenated, or its fault. The rows are not copied.
 pub fn value_of_pair(
     alloc: Global,
     expression: &Expr,
@@ -67,7 +67,7 @@ fn value_over(
     near_value(alloc, expression, row, NEAR)
 }
 
-/// The value by recursion, which goes so many operands down; what lies deeper is evaluated by a loop.
+/// The value by recursion, down to the given number of operands; a deeper part is evaluated by a loop.
 #[cycle(near_value)]
 fn near_value(
     alloc: Global,
@@ -98,7 +98,7 @@ fn near_value(
     }
 }
 
-/// The value of an expression, from the result of its first operand. It stands apart, so that a column's value costs little.
+/// The value of an expression, from the result of its first operand. It is a function of its own, so that a column is evaluated fast.
 #[cycle(near_value)]
 #[inline(never)]
 fn applied(
@@ -158,7 +158,7 @@ fn applied_to(
     }
 }
 
-/// Whether some operation on whole numbers stands in the expression. Without one it has no fault. The left operand comes last: a
+/// Whether some operation on whole numbers is in the expression; without one it has no fault. The left operand comes last, so that the
 /// compiler makes a loop of that call.
 pub fn has_arithmetic(expression: &Expr) -> bool
     ensures { result ≡ faults.has_arithmetic (expression_of expression.now) }

@@ -9,7 +9,7 @@ use std::cmp::Ordering;
 use wd_plan::ComparisonOp;
 use wd_value::{Fault, SortKey, Value, compare};
 
-/// The value of a comparison, where the left side has one.
+/// The value of a comparison, where the left side has a value.
 pub(crate) fn comparison_result(
     op: ComparisonOp,
     left: &Value,
@@ -20,7 +20,7 @@ pub(crate) fn comparison_result(
     Ok(comparison(op, left, &right?))
 }
 
-/// A NULL side gives NULL.
+/// The value of a comparison of two values; NULL where either side is NULL.
 fn comparison(op: ComparisonOp, a: &Value, b: &Value) -> Value
     ensures { result ≡ spec.comparison op a.now b.now }
 {
@@ -49,14 +49,14 @@ pub(crate) fn is_null(value: &Value) -> bool
     matches!(value, Value::Null)
 }
 
-/// Whether a condition is true: not false, and not NULL.
+/// Whether a condition is true, that is, neither false nor NULL.
 pub fn is_true(value: &Value) -> bool
     ensures { result ≡ spec.is_true value.now }
 {
     matches!(value, Value::Bool(true))
 }
 
-/// NOT.
+/// The value of NOT.
 pub(crate) fn not_value(value: &Value) -> Value
     ensures { result ≡ spec.not_value value.now }
 {
@@ -66,7 +66,7 @@ pub(crate) fn not_value(value: &Value) -> Value
     }
 }
 
-/// AND, where its left side has a value.
+/// The value of AND, where its left side has a value.
 pub(crate) fn and_value(a: &Value, b: &Value) -> Value
     ensures { result ≡ spec.and_value a.now b.now }
 {
@@ -77,7 +77,7 @@ pub(crate) fn and_value(a: &Value, b: &Value) -> Value
     }
 }
 
-/// OR, where its left side has a value.
+/// The value of OR, where its left side has a value.
 pub(crate) fn or_value(a: &Value, b: &Value) -> Value
     ensures { result ≡ spec.or_value a.now b.now }
 {
@@ -99,14 +99,14 @@ pub(crate) fn ascending(a: &Value, b: &Value) -> Ordering
     compare(a, b, key)
 }
 
-/// The value of an AND, where its left side has one and doesn't decide.
+/// The value of an AND whose left side has this value and doesn't decide.
 pub(crate) fn and_result(left: &Value, right: Result<Value, Fault>) -> Result<Value, Fault>
     ensures { result ≡ and_then right (λ w. Ok (spec.and_value left.now w)) }
 {
     Ok(and_value(left, &right?))
 }
 
-/// The value of an OR, where its left side has one and doesn't decide.
+/// The value of an OR whose left side has this value and doesn't decide.
 pub(crate) fn or_result(left: &Value, right: Result<Value, Fault>) -> Result<Value, Fault>
     ensures { result ≡ and_then right (λ w. Ok (spec.or_value left.now w)) }
 {

@@ -1,4 +1,4 @@
-//! Rows to be read by an expression.
+//! Rows as an expression reads them.
 
 ghost use Rattle.std.specs.Prelude.{◌≡◌, ◌++◌};
 ghost use Rattle.wd_scalar.specs.Views.{row_held};
@@ -18,7 +18,7 @@ enum Held<'a> {
     At(&'a RowSource<'a>, u64),
 }
 
-/// The values of a row, where they are. Contracts see the row.
+/// The values of a row, without a copy. Contracts see the row.
 #[derive(Drop)]
 pub(crate) struct RowView<'a> {
     held: Held<'a>,
@@ -60,7 +60,7 @@ impl<'a> RowView<'a> {
         }
     }
 
-    /// The value in a column, and `null` past the last.
+    /// The value in a column, and `null` past the last column.
     pub fn value<'b>(&'b self, column: usize, null: &'b Value) -> &'b Value
         requires { null.now ≡ value.Null }
         ensures { result.now ≡ column_of self.now column }

@@ -61,7 +61,7 @@ abbrev pub keys_of_rules : List ℕ → List ColumnRule → List SaidKey
 keys_of_rules name [] = []
 keys_of_rules name (r ∷ rules) = keys_of_rule name r.rule (keys_of_rules name rules)
 
--- the keys of a table, in the order of the text: those among the rules of columns, and those that stand by themselves
+-- the keys of a table, in the order of the text: those among the rules of columns, and those that are elements themselves
 abbrev pub keys_of : List ElementTree → List SaidKey
 keys_of [] = []
 keys_of (Column column ∷ elements) = keys_of_rules (name_text column.name) column.rules ++ keys_of elements
@@ -71,7 +71,7 @@ abbrev pub is_primary : KeyWords → Bool
 is_primary Primary = true
 is_primary (Unique nulls) = false
 
--- UNIQUE takes NULLs as distinct, where it does not say NULLS NOT DISTINCT
+-- UNIQUE takes NULLs as distinct unless it says NULLS NOT DISTINCT
 abbrev pub takes_nulls_distinct : KeyWords → Bool
 takes_nulls_distinct Primary = false
 takes_nulls_distinct (Unique Unsaid) = true
@@ -96,11 +96,11 @@ is_in_primary keys name = list_any (λ key. is_primary key.words && list_any (by
 abbrev pub is_not_null : List SaidKey → ColumnTree → Bool
 is_not_null keys column = list_any (λ r. says_not_null r.rule) column.rules || is_in_primary keys (name_text column.name)
 
--- the column says NULL and is NOT NULL
+-- the column says NULL but is NOT NULL
 abbrev pub is_forbidden : List SaidKey → ColumnTree → Bool
 is_forbidden keys column = list_any (λ r. says_null r.rule) column.rules && is_not_null keys column
 
--- the column that is declared; an unknown type is refused
+-- the column that is declared; its type is known, or the table is refused
 abbrev pub column_declared : List SaidKey → ColumnTree → TableColumn
 column_declared keys column = record {
   name = name_text column.name;
@@ -115,7 +115,7 @@ names_of elements = map (λ column. name_text column.name) (columns_of elements)
 abbrev pub column_names : TableTree → List (List ℕ)
 column_names table = names_of table.elements
 
--- the number of the column of that name; an unknown name is refused
+-- the number of the column of that name; the number of columns where none has it, as in a table that is refused
 abbrev pub column_number : List (List ℕ) → List ℕ → ℕ
 column_number names name = position_or_len (bytes_eq name) names
 
@@ -129,7 +129,7 @@ table_declared table = record {
   keys = map (key_declared (column_names table)) (keys_of table.elements);
 }
 
--- ---- why a schema is refused: what its tables have to keep
+-- ---- why a schema is refused: what its tables have to satisfy
 
 -- 302: the names of its columns differ
 abbrev pub ColumnsDiffer : TableTree → Type 0
@@ -155,11 +155,11 @@ IsSmall table = (length (columns_of table.elements) ≤ 256) × (length (keys_of
 abbrev pub TypesAreKnown : TableTree → Type 0
 TypesAreKnown table = All (λ column. is_some (type_named (name_text column.kind)) ≡ true) (columns_of table.elements)
 
--- 308: no column says NULL that is NOT NULL
+-- 308: no column that is NOT NULL says NULL
 abbrev pub NullsAreAllowed : TableTree → Type 0
 NullsAreAllowed table = All (λ column. is_forbidden (keys_of table.elements) column ≡ false) (columns_of table.elements)
 
--- what a table has to keep, by the refusal that comes where it does not
+-- what a table has to satisfy, by the refusal that reports a violation
 abbrev pub Keeps : SchemaError → TableTree → Type 0
 Keeps ColumnTwice table = ColumnsDiffer table
 Keeps UnknownColumn table = KeysNameColumns table
@@ -173,7 +173,7 @@ Keeps (Tokens error) table = ⊤
 Keeps (Unexpected place) table = ⊤
 Keeps OutOfMemory table = ⊤
 
--- a table that is refused for nothing
+-- a table without a cause of a refusal
 abbrev pub IsAllowed : TableTree → Type 0
 IsAllowed table = (refusal : SchemaError) → Keeps refusal table
 
@@ -181,7 +181,7 @@ IsAllowed table = (refusal : SchemaError) → Keeps refusal table
 abbrev pub TablesDiffer : List TableTree → Type 0
 TablesDiffer tables = AllPairs (λ a b. name_text a.name ≢ name_text b.name) tables
 
--- what the tables of a schema have to keep; 306 also: they are at most 64
+-- what the tables of a schema have to satisfy; for 306 also that they are at most 64
 abbrev pub AllKeep : SchemaError → List TableTree → Type 0
 AllKeep TableTwice tables = TablesDiffer tables
 AllKeep TooMany tables = (length tables ≤ 64) × All IsSmall tables

@@ -13,7 +13,7 @@ use Rattle.wd_schema.specs.Texts.{Declares, HasCause}
 abbrev pub HasOneMeaning : Type 0
 HasOneMeaning = (text : List ℕ) (first second : List TableRule) → Declares text first → Declares text second → first ≡ second
 
--- In a text that declares tables no refusal's cause stands.
+-- A text that declares tables contains no cause of a refusal.
 abbrev pub HasMeaningOrCause : Type 0
 HasMeaningOrCause = (text : List ℕ) (tables : List TableRule) (refusal : SchemaError) → Declares text tables → HasCause text refusal → ⊥
 

@@ -1,4 +1,4 @@
--- When the rows of a table meet what its declaration asks (SQL:2003 part 2: column and unique constraints).
+-- When the rows of a table meet what its declaration requires (SQL:2003 part 2: column and unique constraints).
 use Rattle.std.specs.Prelude.{◌≡◌, ℕ, ◌^◌, ◌-◌, ◌&&◌, Bool, true, false, not, List, [], ◌∷◌, All, AllPairs, length, slice_get, Some, ℤ, pos, negsuc, int_le}
 use Rattle.std.specs.List.{list_any, list_all}
 use Rattle.wd_value.specs.declared.value.Value.{Value}
@@ -9,7 +9,7 @@ use Rattle.wd_value.specs.Rows.{Row, Instance, columns_of, same_row, table_at}
 use Rattle.wd_schema.specs.declared.table.Column.{Column}
 use Rattle.wd_schema.specs.Tables.{KeyRule, TableRule}
 
--- a whole number that so many bits hold, one of them for the sign: bits is one less than the width
+-- a whole number that bits + 1 bits hold, one of them for the sign
 abbrev pub is_signed : ℕ → ℤ → Bool
 is_signed bits n = int_le (negsuc (2 ^ bits - 1)) n && int_le n (pos (2 ^ bits - 1))
 
@@ -31,14 +31,13 @@ is_null v = false
 abbrev pub may_hold : Column → Value → Bool
 may_hold column v = is_of_type column.kind v && not (column.not_null && is_null v)
 
--- a value for each column, which it may hold
+-- a value for each column, which the column may hold
 abbrev pub fits_columns : List Column → Row → Bool
 fits_columns [] [] = true
 fits_columns (column ∷ columns) (v ∷ values) = may_hold column v && fits_columns columns values
 fits_columns columns values = false
 
--- two rows may not both stand in a table with this key: they are the same on its columns,
--- and no NULL stands there where NULLs are distinct
+-- the key forbids two rows in one table: they are equal on its columns, and no NULL is among these where NULLs are distinct
 abbrev pub violates : KeyRule → Row → Row → Bool
 violates key a b = same_row (columns_of key.columns a) (columns_of key.columns b) && not (key.nulls_distinct && list_any is_null (columns_of key.columns a))
 
@@ -51,7 +50,7 @@ pub record MeetsTable (table : TableRule) (rows : List Row) : Type 0 where
   pub values : All (λ row. fits_columns table.columns row ≡ true) rows
   pub keys : All (KeepsKey rows) table.keys
 
--- the list of rows at each place meets the table there
+-- the list of rows at each place meets the table at that place
 abbrev pub EachMeets : List TableRule → Instance → Type 0
 EachMeets schema instance = (t : ℕ) (table : TableRule) → slice_get schema t ≡ Some table → MeetsTable table (table_at instance t)
 

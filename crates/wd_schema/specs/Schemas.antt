@@ -8,6 +8,6 @@ use Rattle.wd_schema.specs.Tables.{TableRule, table_of}
 abbrev pub schema_of : Schema → List TableRule
 schema_of s = map (λ e. table_of e.1) s.tables.entries
 
--- the table of that name: the first, of which a schema that is read has no second
+-- the table of that name: the first one; a schema that was read has no second
 abbrev pub table_named : List ℕ → List TableRule → Option TableRule
 table_named name tables = find (λ table. bytes_eq name table.name) tables

@@ -12,8 +12,8 @@ use Rattle.wd_schema.specs.Schemas.{schema_of}
 use Rattle.wd_schema.specs.Tables.{TableRule}
 use Rattle.wd_read_statements.specs.Written.{SchemaTree, TableTree}
 
--- The text declares the tables: its tokens spell a tree that is refused for nothing, and they are the tables that the tree
--- declares, in its order.
+-- The text declares the tables: its tokens spell a tree that has no cause of a refusal, and the tables are those that the tree declares,
+-- in its order.
 pub record Declares (text : List ℕ) (tables : List TableRule) : Type 0 where
   pub tokens : List Token
   pub tree : SchemaTree
@@ -23,7 +23,7 @@ pub record Declares (text : List ℕ) (tables : List TableRule) : Type 0 where
   pub kept : (refusal : SchemaError) → AllKeep refusal tree.tables
   pub are : tables ≡ map table_declared tree.tables
 
--- the first statements of the text are tables that do not keep what the refusal is about
+-- the first statements of the text are tables that violate what the refusal is about
 pub record Breaks (text : List ℕ) (refusal : SchemaError) : Type 0 where
   pub tokens : List Token
   pub tables : List TableTree
@@ -31,13 +31,13 @@ pub record Breaks (text : List ℕ) (refusal : SchemaError) : Type 0 where
   pub begins : Begins (kinds_of tokens) tables
   pub broken : ¬ (AllKeep refusal tables)
 
--- the text has tokens, and no schema goes on at that place
+-- the text has tokens, and no schema continues with the token at that place
 pub record Stops (text : List ℕ) (place : ℕ) : Type 0 where
   pub tokens : List Token
   pub lexed : IsLexed text tokens
   pub stops : IsUnexpected (kinds_of tokens) place
 
--- a refusal's cause stands in the text; where memory runs out none does
+-- the text has the refusal's cause; where memory runs out it has none
 abbrev pub HasCause : List ℕ → SchemaError → Type 0
 HasCause text (Tokens error) = tokens.HasCause error text
 HasCause text (Unexpected place) = Stops text place

@@ -1,5 +1,5 @@
--- What the tables of each schema text keep (SQL:2003 part 2: table and unique constraint definitions; the limits are this
--- project's choice).
+-- What the tables of each schema text satisfy (SQL:2003 part 2: table and unique constraint definitions; the limits are this project's
+-- choice).
 use Rattle.std.specs.Prelude.{◌≡◌, ◌≢◌, ℕ, ◌<◌, ◌≤◌, List, length, count_by, All, AllPairs, IsTrue, Some, slice_get}
 use Rattle.wd_schema.specs.declared.table.Column.{Column}
 use Rattle.wd_schema.specs.Tables.{KeyRule, TableRule}

@@ -24,7 +24,7 @@ const MOST_COLUMNS: usize = 256;
 /// The most keys of a table.
 const MOST_KEYS: usize = 64;
 
-/// Where something stands in a table's declaration: in which of its elements, and at which part of it.
+/// A place in a table's declaration: which of its elements, and which part of that.
 #[derive(Clone, Copy)]
 pub struct ElementPlace {
     pub element: usize,
@@ -32,7 +32,7 @@ pub struct ElementPlace {
 }
 
 impl ElementPlace {
-    /// The words of a column's rule, after its name and its type.
+    /// The place of the words of a column's rule, after the column's name and type.
     fn of_rule(element: usize, rule: usize) -> ElementPlace {
         ElementPlace {
             element,
@@ -40,7 +40,7 @@ impl ElementPlace {
         }
     }
 
-    /// One of the names after the words of a key.
+    /// The place of one of the names after the words of a key.
     fn of_name(self, name: usize) -> ElementPlace {
         ElementPlace {
             element: self.element,
@@ -53,7 +53,7 @@ impl ElementPlace {
     }
 }
 
-/// A key, and where its words stand.
+/// A key, and the place of its words.
 #[derive(Drop)]
 pub struct KeyAt {
     pub words: KeyWords,
@@ -61,7 +61,7 @@ pub struct KeyAt {
     pub place: ElementPlace,
 }
 
-/// The type of a name in lower case.
+/// The type that a name in lower case stands for.
 pub fn type_named(name: &str) -> Option<ColumnType>
     ensures { result ≡ spec.type_named name.now }
 {
@@ -75,7 +75,7 @@ pub fn type_named(name: &str) -> Option<ColumnType>
     }
 }
 
-/// Whether one of the names is this one.
+/// Whether the name is among the names.
 fn is_among(names: &[Text], name: &Text) -> bool
     ensures { result ≡ list_any (bytes_eq name.now) names.now }
 {
@@ -87,7 +87,7 @@ fn is_among(names: &[Text], name: &Text) -> bool
     false
 }
 
-/// The first of the names that an earlier one equals.
+/// The number of the first name that an earlier one equals.
 fn first_repeat(names: &[Text]) -> Option<usize>
     ensures differ { IfNone result (AllPairs (λ a b. a ≢ b) names.now) }
     ensures repeat { IfSome result (λ _. AllPairs (λ a b. a ≢ b) names.now → ⊥) }
@@ -100,7 +100,7 @@ fn first_repeat(names: &[Text]) -> Option<usize>
     None
 }
 
-/// The first of the names that is none of the columns'.
+/// The number of the first name that no column has.
 fn first_unknown(columns: &[Text], names: &[Text]) -> Option<usize>
     ensures { is_none result ≡ list_all (λ name. list_any (bytes_eq name) columns.now) names.now }
 {
@@ -112,7 +112,7 @@ fn first_unknown(columns: &[Text], names: &[Text]) -> Option<usize>
     None
 }
 
-/// The number of the column of that name, and their number where none has it.
+/// The number of the column of that name, and the number of columns where none has it.
 fn column_number(columns: &[Text], name: &Text) -> usize
     ensures number { result ≡ spec.column_number columns.now name.now }
     ensures within { result ≤ length columns.now }
@@ -209,7 +209,7 @@ fn texts_of(alloc: Global, names: &[Name]) -> Result<Vec<Text>, AllocError>
     Ok(texts)
 }
 
-/// 305: the first name that stands twice in a key.
+/// 305: the place of the first name that appears twice in a key.
 fn key_column_twice(keys: &[KeyAt]) -> Option<ElementPlace>
     ensures differ { IfNone result (All (λ key. AllPairs (λ a b. a ≢ b) key.columns) (map said keys.now)) }
     ensures twice { IfSome result (λ _. All (λ key. AllPairs (λ a b. a ≢ b) key.columns) (map said keys.now) → ⊥) }
@@ -222,7 +222,7 @@ fn key_column_twice(keys: &[KeyAt]) -> Option<ElementPlace>
     None
 }
 
-/// 303: the first name in a key that is no column's.
+/// 303: the place of the first name in a key that no column has.
 fn unknown_column(columns: &[Text], keys: &[KeyAt]) -> Option<ElementPlace>
     ensures { is_none result ≡ list_all (λ key. list_all (λ name. list_any (bytes_eq name) columns.now) key.columns) (map said keys.now) }
 {
@@ -243,7 +243,7 @@ fn is_primary(words: KeyWords) -> bool
     }
 }
 
-/// 304: the second primary key.
+/// 304: the place of the second primary key.
 fn second_primary(keys: &[KeyAt]) -> Option<ElementPlace>
     ensures one { IfNone result (count_by (λ key. spec.is_primary key.words) (map said keys.now) ≤ 1) }
     ensures two { IfSome result (λ _. count_by (λ key. spec.is_primary key.words) (map said keys.now) ≤ 1 → ⊥) }
@@ -260,7 +260,7 @@ fn second_primary(keys: &[KeyAt]) -> Option<ElementPlace>
     None
 }
 
-/// 307: the first type that is unknown.
+/// 307: the place of the first unknown type.
 fn unknown_type(elements: &[Element]) -> Option<ElementPlace>
     ensures { is_none result ≡ list_all (λ column. is_some (spec.type_named (name_text column.kind))) (columns_of (map element_tree elements.now)) }
 {
@@ -277,7 +277,7 @@ fn unknown_type(elements: &[Element]) -> Option<ElementPlace>
     None
 }
 
-/// The first of the rules that is NULL.
+/// The number of the first rule that is NULL.
 fn first_null(rules: &[ColumnRule]) -> Option<usize>
     ensures { is_some result ≡ list_any (λ r. spec.says_null r.rule) rules.now }
 {
@@ -312,14 +312,14 @@ fn is_in_primary(keys: &[KeyAt], name: &Text) -> bool
     false
 }
 
-/// Whether a column is NOT NULL: where it says so or is in the primary key.
+/// Whether a column is NOT NULL: it says so or is in the primary key.
 fn is_not_null(keys: &[KeyAt], column: &WrittenColumn) -> bool
     ensures { result ≡ spec.is_not_null (map said keys.now) (column_tree column.now) }
 {
     says_not_null(&column.rules) || is_in_primary(keys, &column.name.text)
 }
 
-/// 308: the first word NULL on a column that is NOT NULL.
+/// 308: the place of the first word NULL on a column that is NOT NULL.
 fn forbidden_null(keys: &[KeyAt], elements: &[Element]) -> Option<ElementPlace>
     ensures { is_some result ≡ list_any (spec.is_forbidden (map said keys.now)) (columns_of (map element_tree elements.now)) }
 {
@@ -344,7 +344,7 @@ fn null_in(keys: &[KeyAt], element: usize, column: &WrittenColumn) -> Option<Ele
     }
 }
 
-/// 306: the 257th column or the 65th key, whichever stands first.
+/// 306: the place of the 257th column or the 65th key, whichever comes first.
 fn too_many(columns: &[Text], keys: &[KeyAt], elements: &[Element]) -> Option<ElementPlace>
     ensures few { IfNone result ((length columns.now ≤ 256) × (length keys.now ≤ 64)) }
     ensures many { IfSome result (λ _. (length columns.now ≤ 256) × (length keys.now ≤ 64) → ⊥) }
@@ -360,7 +360,7 @@ fn too_many(columns: &[Text], keys: &[KeyAt], elements: &[Element]) -> Option<El
     }
 }
 
-/// Where the column of that number stands.
+/// The place of the column of that number.
 fn place_of_column(elements: &[Element], number: usize) -> ElementPlace {
     let mut left = number;
     for (e, element) in elements.iter().enumerate() {
@@ -380,7 +380,7 @@ fn place_of_column(elements: &[Element], number: usize) -> ElementPlace {
     }
 }
 
-/// 302: the first column with the name of an earlier one, up to the one that is too many.
+/// 302: the place of the first column with the name of an earlier one, up to the column that is too many.
 fn column_twice(columns: &[Text], elements: &[Element]) -> Option<ElementPlace>
     ensures differ { IfNone result (length columns.now ≤ 256 → AllPairs (λ a b. a ≢ b) columns.now) }
     ensures twice { IfSome result (λ _. AllPairs (λ a b. a ≢ b) columns.now → ⊥) }
@@ -392,14 +392,14 @@ fn column_twice(columns: &[Text], elements: &[Element]) -> Option<ElementPlace>
     }
 }
 
-/// A refusal, and where its cause stands.
+/// A refusal and the place of its cause.
 #[derive(Clone, Copy)]
 struct PlacedError {
     place: ElementPlace,
     error: SchemaError,
 }
 
-/// The one that stands first; the first of two at one place.
+/// The refusal with the earlier place; the first argument where both have one place.
 fn earlier(one: Option<PlacedError>, other: Option<PlacedError>) -> Option<PlacedError>
     ensures { MatchOption result ((one ≡ None) × (other ≡ None)) (λ r. (one ≡ Some r) ⊎ (other ≡ Some r)) }
 {
@@ -424,7 +424,7 @@ fn refused_at(place: Option<ElementPlace>, error: SchemaError) -> Option<PlacedE
     Some(PlacedError { place, error })
 }
 
-/// The refusal whose cause stands first in a table's declaration. At one token it is the one of the lower number.
+/// The refusal whose cause comes first in a table's declaration; of two at one token, the one with the lower number.
 fn first_refusal(table: &WrittenTable, columns: &[Text], keys: &[KeyAt]) -> Option<PlacedError>
     requires columns { columns.now ≡ spec.names_of (map element_tree table.now.elements.items) }
     requires keys { map said keys.now ≡ keys_of (map element_tree table.now.elements.items) }
@@ -519,7 +519,7 @@ fn numbers_of(alloc: Global, columns: &[Text], names: &[Text]) -> Result<Vec<u16
     Ok(numbers)
 }
 
-/// The table that is declared.
+/// The table that a declaration declares, or its first refusal.
 pub fn declare(alloc: Global, table: &WrittenTable) -> Result<Table, SchemaError>
     ensures declared { IfOk result (λ found. table_of found ≡ spec.table_declared (table_tree table.now)) }
     ensures allowed { OnOk result (IsAllowed (table_tree table.now)) }

@@ -8,10 +8,10 @@ use std::alloc::{AllocError, AllocFailed};
 use thiserror::Error;
 use wd_lex::LexError;
 
-/// A schema's refusal. The first in the text is answered.
+/// A schema's refusal; of several causes, the first in the text is reported.
 #[derive(Clone, Copy, Debug, Error)]
 pub enum SchemaError {
-    /// 101 to 107: the text has no tokens.
+    /// 101 to 107: the text cannot be split into tokens.
     #[error(transparent)]
     Tokens(LexError),
     /// 301: two tables have one name.
@@ -20,25 +20,25 @@ pub enum SchemaError {
     /// 302: two columns of a table have one name.
     #[error("a column is declared twice")]
     ColumnTwice,
-    /// 303: a key names no column of its table.
+    /// 303: a key names a column that the table does not have.
     #[error("a key over an unknown column")]
     UnknownColumn,
     /// 304: a table has two primary keys.
     #[error("a second primary key")]
     SecondPrimaryKey,
-    /// 305: a key names a column twice.
+    /// 305: a key names one column twice.
     #[error("a column twice in a key")]
     KeyColumnTwice,
     /// 306: more than 64 tables, or more than 256 columns or 64 keys of a table.
     #[error("too many tables, columns or keys")]
     TooMany,
-    /// 307: a type that is none of the types' names.
+    /// 307: a type's name is unknown.
     #[error("an unknown type")]
     UnknownType,
     /// 308: NULL on a column that is NOT NULL or in the primary key.
     #[error("NULL on a column that takes no NULL")]
     NullForbidden,
-    /// 309: no schema goes on with the token of this number, or the tokens end too early.
+    /// 309: no schema continues with the token of this number, or the tokens end too early.
     #[error("unexpected token {place}")]
     Unexpected { place: u64 },
     #[error("out of memory")]
@@ -46,7 +46,7 @@ pub enum SchemaError {
 }
 
 impl SchemaError {
-    /// The refusal's number, or `None` where memory runs out.
+    /// The refusal's number, or `None` where memory ran out.
     pub fn number(&self) -> Option<u32>
         ensures { result ≡ number_of self.now }
     {
@@ -65,7 +65,7 @@ impl SchemaError {
         }
     }
 
-    /// The byte that a refusal of the tokens names, or the number of the token of 309.
+    /// The byte of a refusal of the tokens, or the number of the token of 309; `None` for the others.
     pub fn place(&self) -> Option<u64>
         ensures { result ≡ place_of self.now }
     {

@@ -19,11 +19,11 @@ use wd_value::{ColumnType, Instance, Row, Value, same};
 #[derive(Clone, Copy, PartialEq, Eq)]
 pub struct Violation;
 
-/// Whether an instance meets a schema: for each table, in order of declaration, a list of rows, and no further list. Each
-/// row has a value for each column, of its type and range, and no NULL where the column is NOT NULL. No two rows are the same
-/// on a key, NULL being the same as NULL in a primary key and one with NULLS NOT DISTINCT, and distinct in the others.
+/// Whether an instance meets a schema: it has a list of rows for each table, in order of declaration, and no further list. Each row has a
+/// value for each column, of its type and range, and no NULL where the column is NOT NULL. No two rows are the same on a key; NULL equals
+/// NULL in a primary key and in a key with NULLS NOT DISTINCT, and is distinct in the others.
 ///
-/// Takes no memory; the time goes with the square of the number of rows for each key.
+/// Takes no memory; the time is quadratic in the number of rows for each key.
 pub fn meets(schema: &Schema, instance: &Instance) -> Result<(), Violation>
     ensures met { OnOk result (Meets (schema_of schema.now) (instance_of instance.now.items)) }
     ensures violated { OnErr result (Meets (schema_of schema.now) (instance_of instance.now.items) → ⊥) }
@@ -35,7 +35,7 @@ pub fn meets(schema: &Schema, instance: &Instance) -> Result<(), Violation>
     }
 }
 
-/// Whether each list of rows meets the table at its place.
+/// Whether each list of rows meets the table of the same number.
 fn each_meets(schema: &Schema, instance: &[Vec<Row>]) -> bool
     requires { length instance.now ≡ length schema.now.tables.entries }
     ensures { IsTrue result ↔ spec.EachMeets (schema_of schema.now) (instance_of instance.now) }
@@ -48,7 +48,7 @@ fn each_meets(schema: &Schema, instance: &[Vec<Row>]) -> bool
     true
 }
 
-/// Whether rows meet the table at a place.
+/// Whether rows meet the table of this number.
 fn meets_at(schema: &Schema, t: usize, rows: &[Row]) -> bool
     requires { t < length schema.now.tables.entries }
     ensures { (table : TableRule) → slice_get (schema_of schema.now) t ≡ Some table → result ≡ spec.is_met table (rows_of rows.now) }
@@ -97,7 +97,7 @@ fn may_hold(column: &Column, value: &Value) -> bool
     is_of_type(column.kind, value) && !(column.not_null && is_null(value))
 }
 
-/// Whether a value is NULL or of the type, a number within its range.
+/// Whether a value is NULL or of the type, with a number within the type's range.
 pub fn is_of_type(kind: ColumnType, value: &Value) -> bool
     ensures { result ≡ spec.is_of_type kind value.now }
 {
@@ -152,7 +152,7 @@ fn is_kept(key: &Key, rows: &[Row]) -> bool
     true
 }
 
-/// Whether one of the rows violates the key together with this one.
+/// Whether one of the rows violates the key together with the given row.
 fn violates_any(key: &Key, row: &[Value], rows: &[Row]) -> bool
     ensures { result ≡ list_any (spec.violates (key_of key.now) row.now) (rows_of rows.now) }
 {
@@ -164,8 +164,8 @@ fn violates_any(key: &Key, row: &[Value], rows: &[Row]) -> bool
     false
 }
 
-/// Whether two rows may not both stand in a table with this key: they are the same on its columns, and where it takes NULLs as
-/// distinct none stands there (SQL, table constraint definition; PostgreSQL, NULLS NOT DISTINCT).
+/// Whether the key forbids two rows in one table: they are equal on its columns and, where it takes NULLs as distinct, have no NULL there
+/// (SQL, table constraint definition; PostgreSQL, NULLS NOT DISTINCT).
 pub fn violates(key: &Key, a: &[Value], b: &[Value]) -> bool
     ensures { result ≡ spec.violates (key_of key.now) a.now b.now }
 {

@@ -7,7 +7,7 @@ pub fn one_meaning()
     ensures { HasOneMeaning }
 {}
 
-/// No refusal's cause stands in a text that declares tables.
+/// A text that declares tables contains no cause of a refusal.
 pub fn meaning_or_cause()
     ensures { HasMeaningOrCause }
 {}

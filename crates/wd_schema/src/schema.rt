@@ -13,7 +13,7 @@ use indexmap::IndexMap;
 pub struct Schema {
     pub tables: IndexMap<String, Table>,
 
-    // Each table stands under its own name.
+    // Each table is stored under its own name.
     ghost named: { All (λ entry. string_bytes entry.0 ≡ entry.1.name) tables.entries },
 
     // At most 64 tables of at most 256 columns and 64 keys each; keys name columns.

@@ -5,17 +5,17 @@ use wd_value::{ColumnType, Text};
 pub struct Column {
     pub name: Text,
     pub kind: ColumnType,
-    /// Whether no NULL may stand here. True of the columns of the primary key, too.
+    /// Whether NULL is forbidden. True also for the columns of the primary key.
     pub not_null: bool,
 }
 
-/// A key of a table: no two of its rows may be the same on these columns.
+/// A key of a table: no two of its rows may be equal on these columns.
 #[derive(Drop)]
 pub struct Key {
     /// The numbers of the columns, from 0.
     pub columns: Vec<u16>,
     pub primary: bool,
-    /// Whether rows with a NULL in the key are never the same on it.
+    /// Whether rows with a NULL in the key never count as equal on it.
     pub nulls_distinct: bool,
 }
 

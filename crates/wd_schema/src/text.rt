@@ -22,22 +22,22 @@ const MOST_TABLES: usize = 64;
 
 /// The schema that a text declares: its tables in order of declaration.
 ///
-/// The first refusal in the text is answered; 309 of a statement comes before its others. A statement's names are compared
-/// one with another, so the time goes at most with the square of their number, in a text of at most 65,536 bytes.
+/// Of several causes of a refusal the first in the text is reported; 309 of a statement comes before its other refusals. The names of a
+/// statement are compared with one another, so the time is at most quadratic in their number, in a text of at most 65,536 bytes.
 pub fn read_schema(alloc: Global, text: &[u8]) -> Result<Schema, SchemaError>
     // The schema's tables are those that the text declares.
     ensures schema { IfOk result (λ schema. Declares text.now (schema_of schema)) }
 
-    // They keep the limits; keys name their columns, and those of a primary key are NOT NULL.
+    // The tables keep the limits; keys name columns of their table, and those of a primary key are NOT NULL.
     ensures well_formed { IfOk result (λ schema. IsWellFormed (schema_of schema)) }
 
-    // Tables that the text declares are given, unless memory runs out.
+    // Tables that the text declares are returned, unless memory runs out.
     ensures declared { (tables : List TableRule) → Declares text.now tables → GivesTables tables result }
 
-    // A refusal comes only where its cause stands in the text.
+    // A refusal is returned only where the text has its cause.
     ensures cause { IfErr result (λ refusal. refusal ≢ SchemaError.OutOfMemory → HasCause text.now refusal) }
 
-    // Where a cause stands, the text is refused.
+    // A text with a cause of a refusal is refused.
     ensures refused { OnOk result ((refusal : Refusal) → HasCause text.now refusal → ⊥) }
 {
     answer(alloc, text)
@@ -62,7 +62,7 @@ fn answer(alloc: Global, text: &[u8]) -> Result<Schema, SchemaError>
     }
 }
 
-/// The refusal of a text that has no tokens.
+/// The refusal of a text that cannot be split into tokens.
 fn lexer_refusal(error: LexError) -> SchemaError
     ensures { result ≢ SchemaError.OutOfMemory → (error ≢ LexError.OutOfMemory) × (result ≡ SchemaError.Tokens error) }
 {

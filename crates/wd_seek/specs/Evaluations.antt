@@ -11,11 +11,11 @@ use Rattle.wd_partition.specs.declared.turn.Turn.{Turn}
 abbrev pub most_evaluations : ℕ
 most_evaluations = 2000
 
--- the evaluations of a candidate: one under the choice that leaves rows that tie as they are, and one for each ordering to turn
+-- the number of evaluations of a candidate: one under the choice that keeps tied rows in their order, and one for each ordering to turn
 abbrev pub evaluations : PlanTree → ℕ
 evaluations plan = ordering_count plan + 1
 
--- the ordering with this number, in which rows that tie are taken in a turn
+-- the ordering with this number, in which tied rows are taken in a turn
 abbrev pub turned_at : Turn → ℕ → Turned
 turned_at turn number = record { number = number; turn = turn }
 
@@ -42,17 +42,17 @@ pub record IsTooLargeAt (turn : Turn) (plan : PlanTree) (instance : Instance) (k
   pub passed : AllPass turn plan instance k
   pub large : IsTurnedTooLarge plan instance (flip_of turn k)
 
--- a candidate shows nothing in so many evaluations: all of them, or those up to one with a step that is too large
+-- a candidate shows nothing in the given number of evaluations: all of them, or those up to one with a step that is too large
 abbrev pub ShowsNothing : Turn → PlanTree → Instance → ℕ → Type 0
 ShowsNothing turn plan instance n = ((n ≡ evaluations plan) × AllPass turn plan instance n) ⊎ ((k : ℕ) × (n ≡ k + 1) × IsTooLargeAt turn plan instance k)
 
--- candidates show nothing, one after another, in so many evaluations
+-- candidates show nothing, one after another, in the given number of evaluations
 abbrev pub ShowNothing : Turn → PlanTree → List Instance → ℕ → Type 0
 ShowNothing turn plan [] n = n ≡ 0
 ShowNothing turn plan (instance ∷ instances) n = (a : ℕ) × (b : ℕ) × (n ≡ a + b) × ShowsNothing turn plan instance a × ShowNothing turn plan instances b
 
--- a candidate shows two answers: under the choice that leaves rows that tie as they are and under the one that turns this ordering, the
--- first that does
+-- a candidate shows two answers: under the choice that keeps tied rows in their order and under the one that turns this ordering, the
+-- first that shows another answer
 pub record ShowsTwo (turn : Turn) (plan : PlanTree) (instance : Instance) (flipped : ℕ) (first second : List (List ℕ)) : Type 0 where
   pub within : flipped < ordering_count plan
   pub passed : AllPass turn plan instance (flipped + 1)

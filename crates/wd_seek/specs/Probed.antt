@@ -1,4 +1,4 @@
--- What one evaluation gives, and what the evaluations after the first one show.
+-- The result of one evaluation, and what the evaluations after the first one show.
 use Rattle.std.specs.Prelude.{◌≡◌, ◌⊎◌, ℕ, ◌+◌, ◌<◌, List, [], ◌∷◌, Option, Some, None}
 use Rattle.wd_value.specs.Rows.{Instance}
 use Rattle.wd_plan.specs.Outcomes.{Agree, RowsOrFault, outcome}
@@ -13,12 +13,12 @@ use Rattle.wd_seek.specs.Search.{FindsNothing, FindsTwo}
 use Rattle.wd_seek.specs.declared.evaluated.Evaluated.{Evaluated}
 use Rattle.wd_seek.specs.declared.probed.Pair.{Pair}
 
--- the outcome under a choice that leaves rows that tie as they are, or turns an ordering
+-- the outcome under a choice that keeps tied rows in their order, or turns an ordering
 pub record IsTiedOutcome (plan : PlanTree) (instance : Instance) (turned : Option Turned) (choice : List (List ℕ)) (o : RowsOrFault) : Type 0 where
   pub valid : IsValidTurnedChoice plan instance turned choice
   pub is : o ≡ outcome plan instance choice
 
--- an evaluation gives such a choice and the outcome under it, or nothing where a step is too large
+-- an evaluation returns such a choice and the outcome under it, or nothing where a step is too large
 abbrev pub IsEvaluated : PlanTree → Instance → Option Turned → Option Evaluated → Type 0
 IsEvaluated plan instance turned None = IsTurnedTooLarge plan instance turned
 IsEvaluated plan instance turned (Some e) = IsTiedOutcome plan instance turned (orderings_of e.choice.orderings.items) e.outcome
@@ -28,8 +28,8 @@ pub record IsFirst (plan : PlanTree) (instance : Instance) (o : RowsOrFault) : T
   pub choice : List (List ℕ)
   pub tied : IsTiedOutcome plan instance None choice o
 
--- the evaluations after the first, of which so many are made, show nothing: all are made, a step is too large in the last one,
--- or the most evaluations are made
+-- the given number of evaluations after the first show nothing: all were made, the last one had a step that is too large, or the most
+-- evaluations were made
 abbrev pub ShowNoOther : Turn → PlanTree → Instance → ℕ → ℕ → Type 0
 ShowNoOther turn plan instance made end =
     ((made ≡ ordering_count plan) × AllPass turn plan instance (made + 1))
@@ -43,7 +43,7 @@ pub record IsAnother (turn : Turn) (plan : PlanTree) (instance : Instance) (o : 
   pub valid : IsValidTurnedChoice plan instance (Some (turned_at turn flipped)) choice
   pub differ : ¬ Agree o (outcome plan instance choice)
 
--- they show nothing, or the last one has another outcome than the first
+-- the evaluations show nothing, or the last one has another outcome than the first
 abbrev pub IsOther : Turn → PlanTree → Instance → RowsOrFault → ℕ → ℕ → Option Choice → Type 0
 IsOther turn plan instance o start end None = (made : ℕ) × (end ≡ start + made) × ShowNoOther turn plan instance made end
 IsOther turn plan instance o start end (Some choice) = (flipped : ℕ) × (end ≡ start + (flipped + 1)) × IsAnother turn plan instance o flipped (orderings_of choice.orderings.items)

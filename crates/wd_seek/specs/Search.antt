@@ -5,12 +5,12 @@ use Rattle.wd_plan.specs.Plans.{PlanTree}
 use Rattle.wd_partition.specs.declared.turn.Turn.{Turn}
 use Rattle.wd_seek.specs.Evaluations.{AllPass, ShowNothing, ShowsNothing, ShowsTwo, evaluations, most_evaluations}
 
--- so many evaluations of the next candidate, but not all, show nothing
+-- the given number of evaluations of the next candidate, but not all, show nothing
 abbrev pub Begun : Turn → PlanTree → List Instance → ℕ → Type 0
 Begun turn plan [] n = n ≡ 0
 Begun turn plan (instance ∷ instances) n = AllPass turn plan instance n × (n < evaluations plan)
 
--- a search finds nothing: it goes through all candidates, or ends in the midst of them at the most evaluations
+-- a search finds nothing: it goes through all candidates, or ends within one at the most evaluations
 pub record FindsNothing (turn : Turn) (plan : PlanTree) (instances : List Instance) (start end : ℕ) : Type 0 where
   pub before : List Instance
   pub rest : List Instance
@@ -22,7 +22,7 @@ pub record FindsNothing (turn : Turn) (plan : PlanTree) (instances : List Instan
   pub total : end ≡ start + (spent + part)
   pub whole : (rest ≡ []) ⊎ (end ≡ most_evaluations)
 
--- a search finds two choices over a candidate, which end it; the candidates before show nothing
+-- a search finds two choices over a candidate, where it ends; the candidates before show nothing
 pub record FindsTwo (turn : Turn) (plan : PlanTree) (instances : List Instance) (start end : ℕ) (instance : Instance) (first second : List (List ℕ)) : Type 0 where
   pub before : List Instance
   pub after : List Instance
@@ -33,6 +33,6 @@ pub record FindsTwo (turn : Turn) (plan : PlanTree) (instances : List Instance) 
   pub two : ShowsTwo turn plan instance flipped first second
   pub total : end ≡ start + (spent + (flipped + 2))
 
--- each of the first candidates shows nothing, of as many as the most evaluations suffice for
+-- the first candidates show nothing, as many of them as the most evaluations allow
 abbrev pub FirstShowNothing : Turn → PlanTree → List Instance → Type 0
 FirstShowNothing turn plan instances = All (λ instance. (n : ℕ) × ShowsNothing turn plan instance n) (take (most_evaluations / evaluations plan) instances)

@@ -1,4 +1,4 @@
--- What the search for a witness answers: the first candidate that shows two answers, or that none does.
+-- The result of the search for a witness: the first candidate that shows two answers, or that none does.
 use Rattle.std.specs.Prelude.{◌&&◌, ℕ, Bool, List, [], filter, flat_map, length, nat_eq, Option, Some, None}
 use Rattle.std.specs.List.{list_all}
 use Rattle.wd_value.specs.Bags.{positions}
@@ -17,7 +17,7 @@ use Rattle.wd_candidates.specs.Candidates.{candidates}
 use Rattle.wd_seek.specs.Search.{FindsNothing, FindsTwo}
 use Rattle.wd_seek.specs.Witnesses.{IsOver}
 
--- the reasons that an analysis gives; a certificate has none
+-- the reasons of an analysis; a certificate has none
 abbrev pub reasons_of : Analysis → List Reason
 reasons_of (Certified certificate) = []
 reasons_of (Open reasons marks) = reasons.items
@@ -30,11 +30,11 @@ is_meeting tables instance = nat_eq (length instance) (length tables) && list_al
 abbrev pub candidates_for : List TableRule → PlanTree → List Reason → List Instance
 candidates_for tables plan reasons = flat_map (λ (reason : Reason). candidates tables plan reason.node reason.call) reasons
 
--- those that meet the schema
+-- the candidates that meet the schema
 abbrev pub to_try : List TableRule → PlanTree → List Reason → List Instance
 to_try tables plan reasons = filter (is_meeting tables) (candidates_for tables plan reasons)
 
--- a witness over the first candidate that shows two answers; the search began and ended with so many evaluations
+-- a witness over the first candidate that shows two answers; the search began and ended with these numbers of evaluations
 pub record IsFound (turn : Turn) (tables : List TableRule) (plan : PlanTree) (instances : List Instance) (start end : ℕ) (w : WitnessRecord) : Type 0 where
   pub instance : Instance
   pub meets : Meets tables instance

@@ -1,4 +1,4 @@
--- What is found over one instance.
+-- The result for one instance.
 use Rattle.std.specs.Prelude.{ℕ, List, [], ◌∷◌, Option, Some, None}
 use Rattle.wd_value.specs.Rows.{Instance}
 use Rattle.wd_schema.specs.Tables.{TableRule}
@@ -16,7 +16,7 @@ pub record IsFoundOver (turn : Turn) (tables : List TableRule) (plan : PlanTree)
   pub two : FindsTwo turn plan (instance ∷ []) start end instance w.first w.second
   pub rows : HasScannedRows tables outline instance w.tables
 
--- nothing, or these
+-- nothing, or two such choices
 abbrev pub IsTried : Turn → List TableRule → PlanTree → Outline → Instance → ℕ → Option Witness → ℕ → Type 0
 IsTried turn tables plan outline instance start None end = FindsNothing turn plan (instance ∷ []) start end
 IsTried turn tables plan outline instance start (Some w) end = IsFoundOver turn tables plan outline instance start end (witness_of w)

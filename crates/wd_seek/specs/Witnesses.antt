@@ -1,4 +1,4 @@
--- A witness over an instance of a schema, in which the tables are named that a plan scans.
+-- A witness over an instance of a schema, which has the tables that a plan scans, by name.
 use Rattle.std.specs.Prelude.{◌≡◌, ◌≢◌, ◌↔◌, ℕ, ◌<◌, ◌≤◌, All, AllPairs, Any, List, [], length, find, Some, true, false}
 use Rattle.std.specs.Str.{bytes_eq}
 use Rattle.wd_value.specs.Rows.{Instance, table_at}
@@ -10,7 +10,7 @@ use Rattle.wd_candidates.specs.Origins.{is_scanned}
 use Rattle.wd_candidates.specs.Outlines.{scanned_in}
 use Rattle.wd_candidates.specs.declared.outline.Outline.{Outline}
 
--- the name is that of a table that the plan scans
+-- the name of a table that the plan scans
 pub record IsNameOf (tables : List TableRule) (plan : PlanTree) (name : List ℕ) : Type 0 where
   pub table : ℕ
   pub within : table < length tables
@@ -23,7 +23,7 @@ pub record IsOver (tables : List TableRule) (plan : PlanTree) (instance : Instan
   pub named : (name : List ℕ) → Any (λ t. t.name ≡ name) w.tables ↔ IsNameOf tables plan name
   pub is : instance_under tables w ≡ instance
 
--- no table of the instance has more rows than one of a witness may have, and one that the plan does not scan has none
+-- no table of the instance has more rows than a witness may have, and a table that the plan does not scan has none
 pub record HasFewRows (tables : List TableRule) (plan : PlanTree) (instance : Instance) : Type 0 where
   pub few : (table : ℕ) → table < length tables → length (table_at instance table) ≤ 64
   pub none : (table : ℕ) → table < length tables → is_scanned plan table ≡ false → table_at instance table ≡ []
@@ -40,13 +40,13 @@ pub record IsScannedName (tables : List TableRule) (outline : Outline) (table : 
   pub scanned : scanned_in outline table ≡ true
   pub is : (table_rule tables table).name ≡ name
 
--- the rows of a table with this number that is scanned, under its name
+-- the rows of the scanned table with this number, under its name
 pub record IsScannedTable (tables : List TableRule) (outline : Outline) (instance : Instance) (t : TableRows) : Type 0 where
   pub table : ℕ
   pub name : IsScannedName tables outline table t.name
   pub rows : t.rows ≡ table_at instance table
 
--- each table that is scanned stands under its name with its rows, and no other table
+-- each scanned table with its rows under its name, and no other table
 pub record HasScannedRows (tables : List TableRule) (outline : Outline) (instance : Instance) (named : List TableRows) : Type 0 where
   pub each : All (IsScannedTable tables outline instance) named
   pub found : (table : ℕ) → table < length tables → scanned_in outline table ≡ true

@@ -1,4 +1,4 @@
-//! One evaluation.
+//! The evaluation of a plan under one choice.
 
 ghost use Rattle.std.specs.Prelude.{◌≡◌, true, IfOk};
 ghost use Rattle.wd_plan.specs.Fits.{fits};
@@ -14,14 +14,14 @@ use wd_refute::SortedOutcome;
 use wd_schema::Schema;
 use wd_value::{Instance, OutOfMemory};
 
-/// A choice, and the outcome under it, ready to be compared.
+/// A choice, and the outcome under it, prepared for comparison.
 #[derive(Drop)]
 pub(crate) struct Evaluated {
     pub choice: Choice,
     pub outcome: SortedOutcome,
 }
 
-/// The plan's outcome over an instance under the choice that turns an ordering or none; None where a step is too large.
+/// The plan's outcome over an instance under the choice that turns an ordering or none; `None` where a step is too large.
 pub(crate) fn evaluate(
     alloc: Global,
     schema: &Schema,

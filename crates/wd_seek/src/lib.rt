@@ -1,5 +1,9 @@
-//! The search for a witness: two answers of a plan, over the small candidate instances in which rows tie. Each is evaluated under the
-//! choices that leave rows that tie as they are or turn them round.
+//! The search for a witness: two answers of a plan, over the small candidate instances in which rows tie. Each candidate is evaluated
+//! under the choice that keeps tied rows in their order, and under those that reverse them in one ordering.
+//!
+//! `search` goes through the candidates for each reason of an analysis, and `tried` skips those that do not meet the schema. `probed`
+//! evaluates a candidate under one choice after another until two outcomes differ, by `evaluated`, and `witness` makes the witness of
+//! them. The number of evaluations is bounded.
 #![tactic(auto)]
 
 mod evaluated;

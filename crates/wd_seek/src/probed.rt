@@ -26,9 +26,9 @@ pub(crate) struct Pair {
     pub second: Choice,
 }
 
-/// Evaluates a plan over an instance under the choice that leaves rows that tie as they are, and then turns one ordering after another
-/// until an outcome does not agree with the first. It is given up where a step has more than 10,000,000 rows, and at the most evaluations.
-/// `spent` is the number of the evaluations before, and the number in the answer that with the ones made here.
+/// Evaluates a plan over an instance under the choice that keeps tied rows in their order, and then turns one ordering after another
+/// until an outcome does not agree with the first. It gives up at a step of more than 10,000,000 rows, and at the most evaluations.
+/// `spent` is the number of evaluations before; the result has that number with the evaluations made here.
 pub(crate) fn probe(
     alloc: Global,
     schema: &Schema,
@@ -66,8 +66,8 @@ pub(crate) fn probe(
     }
 }
 
-/// Turns one ordering after another until the outcome does not agree with the first; the choice that does it, and the number of
-/// evaluations.
+/// Turns one ordering after another until the outcome does not agree with the first; the result is the choice under which it does not,
+/// and the number of evaluations.
 fn other_choice(
     alloc: Global,
     schema: &Schema,

@@ -23,13 +23,13 @@ use wd_schema::Schema;
 use wd_value::OutOfMemory;
 use wd_witness_text::Witness;
 
-/// A witness against a plan that an analysis leaves open, and the number of the evaluations that were made.
+/// A witness against a plan that an analysis leaves open, and the number of evaluations that were made.
 ///
-/// For each reason in order the candidates are tried: small instances of 2, 3 and 4 rows in each table that the plan scans, in
-/// which rows tie by the columns that the reason's call or limit sorts by. One that does not meet the schema is passed over. Each
-/// is evaluated with the orderings in which rows that tie stay as they are, and then with one ordering after another turned
-/// round, until an outcome does not agree with the first. A candidate is given up at a step of more than 10,000,000 rows, the search
-/// after 2,000 evaluations. A reason that names no call or limit of the plan is passed over; a certificate has no reasons.
+/// The candidates for each reason are tried in order: small instances of 2, 3 and 4 rows in each table that the plan scans, in which rows
+/// tie on the columns that the reason's call or limit sorts by. A candidate that does not meet the schema is skipped. Each is evaluated
+/// with the orderings that keep tied rows in their order, and then with one ordering after another reversed, until an outcome does not
+/// agree with the first. A candidate is given up at a step of more than 10,000,000 rows, the search after 2,000 evaluations. A reason
+/// that names no call or limit of the plan is skipped; a certificate has no reasons.
 pub fn seek(
     alloc: Global,
     schema: &Schema,

@@ -83,9 +83,9 @@ fn try_shape(
     )
 }
 
-/// Tries an instance of a plan's tables, if it meets the schema: under the orderings in which rows that tie stay as they are, and with
-/// one ordering after another in which they are taken in this turn. The witness over it where two outcomes do not agree, and the
-/// number of evaluations, that of the ones before included.
+/// Tries an instance of a plan's tables, if it meets the schema: under the orderings that keep tied rows in their order, and with one
+/// ordering after another that takes them in the given turn. The result is the witness over the instance, where two outcomes do not
+/// agree, and the number of evaluations, including those before.
 pub fn try_candidate(
     alloc: Global,
     schema: &Schema,
@@ -107,7 +107,7 @@ pub fn try_candidate(
     }
 }
 
-/// Evaluates an instance, and gives the witness over it where two outcomes do not agree.
+/// Evaluates an instance; the result is the witness over it, where two outcomes do not agree.
 fn try_instance(
     alloc: Global,
     schema: &Schema,

@@ -59,7 +59,7 @@ fn scanned_tables(
     Ok(tables)
 }
 
-/// The name of the table with a number, where the plan scans it.
+/// The name of the table with a number, if the plan scans it.
 fn scanned_name<'a>(schema: &'a Schema, outline: &Outline, number: usize) -> Option<&'a str>
     ensures scanned { IfSome result (λ name. IsScannedName (schema_of schema.now) outline.now number name.now) }
     ensures other { IfNone result (number < length (schema_of schema.now) → scanned_in outline.now number ≡ false) }
@@ -71,7 +71,7 @@ fn scanned_name<'a>(schema: &'a Schema, outline: &Outline, number: usize) -> Opt
     }
 }
 
-/// The names of a schema's tables differ, being the keys of a map.
+/// The names of a schema's tables differ, since they are the keys of a map.
 pub(crate) fn names_differ(schema: &Schema)
     ensures { NamesDiffer (schema_of schema.now) }
 {

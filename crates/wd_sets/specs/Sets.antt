@@ -1,8 +1,8 @@
--- Members beside one another, and sets of them as bits.
+-- Sets of members as tests, and as bits.
 use Rattle.std.specs.Prelude.{ℕ, ◌+◌, ◌/◌, ◌%◌, Bool, true, false, List, nat_eq, get_or}
 use Rattle.std.specs.Int.{bit_at}
 use Rattle.std.specs.List.{list_any}
--- whether a column is among some
+-- whether a column is in a list
 pub use Rattle.wd_plan.specs.Plans.{has as is_in}
 use Rattle.wd_step_facts.specs.declared.facts.Member.{Member}
 use Rattle.wd_step_facts.specs.declared.facts.Member.TheVariants.{Column, Left, Right, Row}
@@ -20,7 +20,7 @@ stands_in s m = list_any (same_member m) s
 
 -- ---- bits
 
--- the place of a member's bit
+-- the number of a member's bit
 abbrev pub place : Member → ℕ
 place (Column c) = c + 3
 place Left = 1
@@ -35,6 +35,6 @@ has_bit words i = nat_eq (bit_at (get_or words (i / 64) 0) (i % 64)) 1
 abbrev pub has : Set → Member → Bool
 has s m = has_bit s.words.items (place m)
 
--- whether a column is
+-- whether a column is in a set
 abbrev pub has_column : Set → ℕ → Bool
 has_column s c = has s (Column c)

@@ -9,7 +9,7 @@ use std::alloc::Global;
 use wd_facts::Member;
 use wd_value::OutOfMemory;
 
-/// The place of a member's bit: the row's, the sides', then the columns' in their order.
+/// The number of a member's bit: the row's, the sides', then the columns' in order.
 pub fn place(member: Member) -> usize
     ensures { result ≡ spec.place member }
 {
@@ -40,7 +40,7 @@ fn set_bit(words: &mut [u64], at: usize)
     words[at / 64] |= 1u64 << (at % 64);
 }
 
-/// Words enough for a bit.
+/// Appends words until there is one for the bit.
 fn widen(words: &mut Vec<u64>, most: usize) -> Result<(), OutOfMemory>
     requires small { most < 65536 }
     ensures within { IfOk result (λ _. most < length words.new.items) }
@@ -75,10 +75,10 @@ impl Set {
         has_bit(&self.words, place(member))
     }
 
-    /// Puts a member in; whether it was not there.
+    /// Adds a member; the result is whether it was new.
     ///
     /// # Errors
-    /// Where memory runs out; the set then has the members that it had.
+    /// Where memory runs out; the set is then unchanged.
     pub fn insert(&mut self, member: Member) -> Result<bool, OutOfMemory>
         ensures fresh { IfOk result (λ b. b ≡ not (spec.has self.old member)) }
         ensures has { IfOk result (λ _. (m : AMember) → spec.has self.new m ≡ (same_member m member || spec.has self.old m)) }

@@ -1,5 +1,5 @@
--- Sort keys that are computed from a column, as `c + 1`, `10 - c` or `- c`. Rows that tie there tie in that column too, so that it may
--- stand after them as a sort key of its own: the same orderings are lawful, and the same rows are peers.
+-- Sort keys that are computed from a column, as `c + 1`, `10 - c` or `- c`. Rows that tie on such a key tie on the column too, so the
+-- column may follow the key as a sort key of its own: the same orderings are lawful, and the same rows are peers.
 use Rattle.std.specs.Prelude.{ℕ, suc, nat_lt, map, flat_map, option_map, option_and_then, option_to_list, slice_get, Bool, true, false, ◌||◌, List, [], ◌∷◌, ◌++◌, Option, Some, None, if◌then◌else◌}
 use Rattle.std.specs.List.{list_any}
 use Rattle.wd_value.specs.declared.order.SortColumn.{SortColumn}
@@ -16,7 +16,7 @@ use Rattle.wd_plan.specs.Expressions.{Expression, Column, Literal, Negate, Arith
 use Rattle.wd_plan.specs.Fits.{has_offset, width}
 use Rattle.wd_plan.specs.Plans.{ClassRule, WindowRule, LimitRule, PlanTree, Scan, Join, Filter, Map, Group, Window, Distinct, Limit, has}
 
--- ---- columns that others give back
+-- ---- columns that others determine
 
 -- a literal that is a whole number
 abbrev pub is_whole : Value → Bool
@@ -38,7 +38,7 @@ is_number (IsNull a) = false
 is_number (IsNotNull a) = false
 is_number (Case k a b c) = false
 
--- sums and differences: a product may be zero
+-- sums and differences; not products, which may be zero
 abbrev pub is_shift : ArithmeticOp → Bool
 is_shift Add = true
 is_shift Subtract = true
@@ -46,7 +46,7 @@ is_shift Multiply = false
 is_shift Divide = false
 is_shift Remainder = false
 
--- the column from which an expression differs by a sign and by whole numbers that are added or subtracted
+-- the column from which an expression differs only by a sign and by added or subtracted whole numbers
 abbrev pub shifted : Expression → Option ℕ
 shifted (Column c) = Some c
 shifted (Literal v kind) = None
@@ -79,7 +79,7 @@ abbrev pub place_of : ℕ → List Expression → Option ℕ
 place_of c [] = None
 place_of c (e ∷ outputs) = if has (option_to_list (column_shown e)) c then Some 0 else option_map suc (place_of c outputs)
 
--- the column of a Map's input that an output gives back: one that it is computed from, or that the column that it shows gives back
+-- the column of a Map's input that an output determines: the one that it is computed from, or the one that the shown column determines
 abbrev pub origin : (ℕ → Option ℕ) → Expression → Option ℕ
 origin below e = of_column (column_shown e)
   where
@@ -87,7 +87,7 @@ origin below e = of_column (column_shown e)
     of_column (Some c) = below c
     of_column None = shifted e
 
--- the column of a plan that another one of its columns gives back: one from which that one is computed so
+-- the column of a plan that another one of its columns determines, being computed from it
 abbrev pub given_back : PlanTree → ℕ → Option ℕ
 given_back (Scan table columns) c = None
 given_back (Join condition left right) c = None
@@ -100,15 +100,15 @@ given_back (Limit limit input) c = None
 
 -- ---- sort keys
 
--- the columns that sort keys give back, as sort keys
+-- the columns that sort keys determine, as sort keys
 abbrev pub added_keys : PlanTree → List SortColumn → List SortColumn
 added_keys input keys = flat_map (λ (item : SortColumn). option_to_list (option_map ascending (given_back input item.column))) keys
 
--- sort keys, and after them the columns that they give back
+-- sort keys, followed by the columns that they determine
 abbrev pub keyed : PlanTree → List SortColumn → List SortColumn
 keyed input keys = keys ++ added_keys input keys
 
--- a frame that goes by the distance of keys, for which there must be one
+-- a frame that counts by the distance of keys, which needs exactly one key
 abbrev pub goes_by_distance : Frame → Bool
 goes_by_distance frame = by_mode frame.mode
   where
@@ -120,7 +120,7 @@ goes_by_distance frame = by_mode frame.mode
 abbrev pub keyed_class : PlanTree → ClassRule → ClassRule
 keyed_class input class = record { partition = class.partition; order = keyed input class.order }
 
--- a Window by such sort keys, where no frame goes by the distance of keys
+-- a Window with these sort keys, if no frame counts by the distance of keys
 abbrev pub keyed_window : PlanTree → WindowRule → WindowRule
 keyed_window input w = if list_any (λ (call : Call). goes_by_distance call.frame) w.calls then w else record { classes = map (keyed_class input) w.classes; calls = w.calls }
 

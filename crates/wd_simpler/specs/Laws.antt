@@ -9,7 +9,7 @@ use Rattle.wd_plan.specs.Outcomes.{outcome}
 use Rattle.wd_plan.specs.Plans.{PlanTree}
 use Rattle.wd_simpler.specs.Simpler.{simpler}
 
--- the same choices are valid for two plans over an instance, and under each of them both have the same outcome
+-- the same choices are valid for two plans over an instance, and both have the same outcome under each of them
 pub record AreAlike (plan other : PlanTree) (instance : Instance) : Type 0 where
   pub valid : (choice : List (List ℕ)) → IsValidChoice plan instance choice ↔ IsValidChoice other instance choice
   pub same : (choice : List (List ℕ)) → IsValidChoice plan instance choice → outcome plan instance choice ≡ outcome other instance choice

@@ -1,4 +1,4 @@
--- The whole numbers that the columns of a plan have: those that their types hold, and those that calls give.
+-- The whole numbers that the columns of a plan can have: those of their types, and those of calls that count.
 use Rattle.std.specs.Prelude.{ℕ, ◌-◌, ◌^◌, pos, negsuc, nat_lt, Bool, true, false, not, if◌then◌else◌, List, Option, None, Some, option_and_then, slice_get}
 use Rattle.wd_value.specs.declared.value.ColumnType.{ColumnType}
 use Rattle.wd_value.specs.declared.value.ColumnType.TheVariants.{SmallInt, Integer, BigInt, Text as TextType, Boolean}
@@ -16,13 +16,13 @@ use Rattle.wd_plan.specs.Plans.{GroupCall, OfRows, Grouping, PlanTree, Scan, Joi
 use Rattle.wd_simpler.specs.Keyed.{column_shown}
 use Rattle.wd_simpler.specs.declared.numbers.Numbers.{Numbers}
 
--- numbers from this one on
+-- the numbers from this one on
 abbrev pub from_on : ℕ → Option Numbers
 from_on n = Some (record { least = pos n; greatest = None; nullable = false })
 
 -- ---- columns of tables
 
--- a whole number that so many bits hold, one of them for the sign: bits is one less than the width
+-- the whole numbers that bits + 1 bits hold, one of them for the sign
 abbrev pub signed : ℕ → Bool → Option Numbers
 signed bits not_null = Some (record { least = negsuc (2 ^ bits - 1); greatest = Some (pos (2 ^ bits - 1)); nullable = not not_null })
 
@@ -36,7 +36,7 @@ numbers_of_type Boolean not_null = None
 abbrev pub numbers_of_column : TableColumn → Option Numbers
 numbers_of_column column = numbers_of_type column.kind column.not_null
 
--- of a table's column, both by number
+-- the numbers of a table's column, both by number
 abbrev pub numbers_of_table : List TableRule → ℕ → ℕ → Option Numbers
 numbers_of_table tables table c = option_and_then (λ (t : TableRule). option_and_then numbers_of_column (slice_get t.columns c)) (slice_get tables table)
 
@@ -70,12 +70,12 @@ numbers_of_group_call (Grouping columns) = from_on 0
 
 -- ---- columns of plans
 
--- NULL, too, where there are such numbers: a grouping column is NULL in the rows of a set without it
+-- NULL is allowed too, where there are such numbers: a grouping column is NULL in the rows of a set without it
 abbrev pub with_null : Option Numbers → Option Numbers
 with_null None = None
 with_null (Some numbers) = Some (record { least = numbers.least; greatest = numbers.greatest; nullable = true })
 
--- a plan's column has these numbers alone, and NULL where it may stand among them; none is given of a column of which that is not known
+-- a plan's column has only these numbers, and NULL only where it is allowed among them; none where this is not known
 abbrev pub numbers_of : List TableRule → PlanTree → ℕ → Option Numbers
 numbers_of tables (Scan table columns) c = numbers_of_table tables table c
 numbers_of tables (Join condition left right) c = if nat_lt c (width left) then numbers_of tables left c else numbers_of tables right (c - width left)

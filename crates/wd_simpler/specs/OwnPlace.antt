@@ -1,5 +1,5 @@
--- Frames of the row's own place, which hold the row or nothing, and frames that end before they start: the same rows are in a frame of
--- its peers that leaves out the others, or all of them. That one goes by no order.
+-- Frames of the row's own place, which hold the row or nothing, and frames that end before they start. A frame of the row's peers without
+-- the other peers, or without all of them, holds the same rows, and does not depend on the order.
 use Rattle.std.specs.Prelude.{Bool, true, false, ◌&&◌, nat_eq, nat_lt, if◌then◌else◌}
 use Rattle.wd_plan.specs.declared.window.Bound.{Bound}
 use Rattle.wd_plan.specs.declared.window.Bound.TheVariants.{UnboundedPreceding, Preceding, CurrentRow, Following, UnboundedFollowing}
@@ -46,18 +46,18 @@ is_own_place frame = counts_rows frame.mode && (is_here frame.start && is_here f
 abbrev pub is_nowhere : Frame → Bool
 is_nowhere frame = counts_rows frame.mode && is_past frame.start frame.end
 
--- what is left out of the row's peers: the others where the row stays, all where it is left out
+-- which of the row's peers are excluded: the others where the row is kept, all where it is excluded
 abbrev pub peer_exclusion : Exclusion → Exclusion
 peer_exclusion exclude.NoOthers = exclude.Ties
 peer_exclusion exclude.CurrentRow = exclude.Group
 peer_exclusion exclude.Group = exclude.Group
 peer_exclusion exclude.Ties = exclude.Ties
 
--- the row's peers, without some of them
+-- the row's peers, with this exclusion
 abbrev pub peers_without : Exclusion → Frame
 peers_without exclusion = record { mode = Range; start = CurrentRow; end = CurrentRow; exclusion = exclusion }
 
--- a frame, and one of peers in the place of one of the row's own place, or of one that holds nothing
+-- a frame, or one by peers in place of a frame that is the row's own place or empty
 abbrev pub peer_frame : Frame → Frame
 peer_frame frame =
     if is_own_place frame then peers_without (peer_exclusion frame.exclusion)

@@ -10,6 +10,6 @@ abbrev pub read_of : Option Set → Read
 read_of None = every
 read_of (Some set) = has_column set
 
--- a set with these columns beside its own
+-- a set with its own columns and these
 abbrev pub HasAlso : Set → List ℕ → Set → Type 0
 HasAlso old columns new = (c : ℕ) → has_column new c ≡ (has_column old c || has columns c)

@@ -1,7 +1,7 @@
--- A plan without what nothing reads: outputs of its Maps are NULL, and calls of its Windows and Groups COUNT(*), where no step
--- above reads them and they can't fault. A condition that no row meets is FALSE; what stands below it is not read, and of an input
--- without rows any call is COUNT(*), and a Limit takes all. A frame of the row's own place, or one that holds nothing, goes by peers,
--- and sort keys that are computed from a column are followed by that column. Its nodes, their columns and their orderings stay.
+-- A plan without what nothing reads: outputs of its Maps are NULL, and calls of its Windows and Groups COUNT(*), where no step above
+-- reads them and they can't fault. A condition that no row meets is FALSE, and what is below it is not read; over an input without rows
+-- each call is COUNT(*), and a Limit takes all. A frame that is the row's own place or empty becomes one by peers, and sort keys that are
+-- computed from a column are followed by that column. The plan keeps its nodes, their columns and their orderings.
 use Rattle.std.specs.Prelude.{ℕ, zero, suc, ◌+◌, ℤ, int_le, nat_lt, length, map, ◌&&◌, Bool, true, false, not, ◌||◌, List, [], ◌∷◌, ◌++◌, flat_map, if◌then◌else◌, Option, None, Some, option_to_list}
 use Rattle.wd_schema.specs.Tables.{TableRule}
 use Rattle.wd_value.specs.declared.value.Value.{Value}
@@ -42,15 +42,15 @@ Read = ℕ → Bool
 abbrev pub every : Read
 every c = true
 
--- those, and these columns too
+-- the columns that are read, and these too
 abbrev pub and_also : Read → List ℕ → Read
 and_also read columns c = read c || has columns c
 
--- those of the columns after the first one, counted from it on
+-- the columns that are read after the first, numbered from the second on
 abbrev pub next : Read → Read
 next read c = read (suc c)
 
--- those of the columns after the first so many
+-- the columns that are read after the first n, numbered from the next on
 abbrev pub after : ℕ → Read → Read
 after n read c = read (n + c)
 
@@ -58,7 +58,7 @@ after n read c = read (n + c)
 abbrev pub nothing : Read
 nothing c = false
 
--- what is read of rows of which a step keeps some, or none
+-- what is read of rows of which a step keeps some; nothing where it keeps none
 abbrev pub kept_reads : Bool → Read → Read
 kept_reads is_none read = if is_none then nothing else read
 
@@ -78,7 +78,7 @@ is_plain (IsNull a) = false
 is_plain (IsNotNull a) = false
 is_plain (Case k a b c) = false
 
--- an output, and NULL in its place where it is not read and can't fault
+-- an output, or NULL in its place where it is not read and can't fault
 abbrev pub read_output : Bool → Expression → Expression
 read_output is_read e = if is_read || not (is_plain e) then e else Literal Null Number
 
@@ -88,7 +88,7 @@ read_outputs read (e ∷ outputs) = read_output (read 0) e ∷ read_outputs (nex
 
 -- ---- calls of a Window
 
--- an aggregate that has a value over any rows: of them all only a SUM can be out of range
+-- an aggregate that has a value over any rows: only a SUM can be out of range
 abbrev pub is_total : AggregateFunction → Bool
 is_total CountRows = true
 is_total (Count c) = true
@@ -113,11 +113,11 @@ whole_partition = record { mode = Range; start = UnboundedPreceding; end = Unbou
 abbrev pub count_of : Call → Call
 count_of call = record { class = call.class; function = OfFrame (Aggregate CountRows); frame = whole_partition }
 
--- a call with its frame by peers
+-- a call, with a frame by peers if its frame is the row's own place or empty
 abbrev pub peer_call : Call → Call
 peer_call call = record { class = call.class; function = call.function; frame = peer_frame call.frame }
 
--- a call by peers, and COUNT(*) of its partition in its place where it is not read and can't fault
+-- such a call, or COUNT(*) of its partition where it is not read and can't fault
 abbrev pub read_call : Bool → Call → Call
 read_call is_read call = if is_read || not (never_faults call.function) then peer_call call else count_of call
 
@@ -135,7 +135,7 @@ window_reads w = flat_map class_columns w.classes ++ flat_map (λ (call : Call).
 
 -- ---- calls of a Group
 
--- an aggregate, and COUNT(*) in its place where it is not read and can't fault
+-- an aggregate, or COUNT(*) in its place where it is not read and can't fault
 abbrev pub read_aggregate : Bool → AggregateFunction → AggregateFunction
 read_aggregate is_read a = if is_read || not (is_total a) then a else CountRows
 
@@ -151,7 +151,7 @@ read_group_calls read (call ∷ calls) = read_group_call (read 0) call ∷ read_
 abbrev pub read_group : Read → GroupRule → GroupRule
 read_group read rule = record { columns = rule.columns; sets = rule.sets; calls = read_group_calls read rule.calls }
 
--- the column that a call of a Group reads, beside those that show its group
+-- the column that a call of a Group reads, besides the columns that show its group
 abbrev pub group_argument : GroupCall → Option ℕ
 group_argument (OfRows a) = argument_of_aggregate a
 group_argument (Grouping columns) = None
@@ -168,7 +168,7 @@ takes_none None = false
 takes_none (Some zero) = true
 takes_none (Some (suc n)) = false
 
--- a Limit; one of no rows goes by no offset, and where it has sort keys takes all that tie
+-- a Limit; a Limit of no rows has no offset, and with sort keys it has ties
 abbrev pub plain_limit : LimitRule → LimitRule
 plain_limit limit = by_count limit.count
   where
@@ -187,7 +187,7 @@ read_limit has_none limit = if has_none then whole_limit limit else plain_limit 
 
 -- ---- conditions that no row meets
 
--- each number up to the greatest one, where there is one, is at most this one, or less
+-- the greatest number is at most this one, or less than it; false where there is none
 abbrev pub all_up_to : Option ℤ → ℤ → Bool
 all_up_to None n = false
 all_up_to (Some greatest) n = int_le greatest n
@@ -196,7 +196,7 @@ abbrev pub all_below : Option ℤ → ℤ → Bool
 all_below None n = false
 all_below (Some greatest) n = not (int_le n greatest)
 
--- none of the numbers compares so with this one
+-- the comparison with this number holds for none of the numbers
 abbrev pub never : ComparisonOp → Numbers → ℤ → Bool
 never Equal numbers n = all_below numbers.greatest n || not (int_le numbers.least n)
 never NotEqual numbers n = false
@@ -205,7 +205,7 @@ never LessOrEqual numbers n = not (int_le numbers.least n)
 never Greater numbers n = all_up_to numbers.greatest n
 never GreaterOrEqual numbers n = all_below numbers.greatest n
 
--- a comparison with its sides in each other's place
+-- a comparison with its sides exchanged
 abbrev pub turned : ComparisonOp → ComparisonOp
 turned Equal = Equal
 turned NotEqual = NotEqual
@@ -214,7 +214,7 @@ turned LessOrEqual = GreaterOrEqual
 turned Greater = Less
 turned GreaterOrEqual = LessOrEqual
 
--- no value of a column with these numbers compares so with a literal
+-- the comparison with a literal holds for none of a column's numbers
 abbrev pub never_at : ComparisonOp → Option Numbers → Value → Bool
 never_at op None v = false
 never_at op (Some numbers) (Int n) = never op numbers n
@@ -222,7 +222,7 @@ never_at op (Some numbers) Null = false
 never_at op (Some numbers) (Text t) = false
 never_at op (Some numbers) (TruthValue b) = false
 
--- two numbers don't compare so
+-- the comparison of two numbers does not hold
 abbrev pub never_fixed : ComparisonOp → Value → Value → Bool
 never_fixed op (Int m) (Int n) = not (holds op (int_cmp m n))
 never_fixed op (Int m) Null = false
@@ -242,13 +242,14 @@ never_compares numbers op (Fixed v) (Fixed w) = never_fixed op v w
 never_compares numbers op (Fixed v) Other = false
 never_compares numbers op Other b = false
 
--- numbers, and where NULL is not allowed only those among which it does not stand
+-- the numbers; where NULL is not allowed only if it is not among them
 abbrev pub allowing : Bool → Option Numbers → Option Numbers
 allowing true numbers = numbers
 allowing false None = None
 allowing false (Some numbers) = if numbers.nullable then None else Some numbers
 
--- a condition that is true of no row: a literal, such a comparison (that of a NULL is not true), an AND of one, and an OR of two
+-- a condition that is true over no row: a literal that is not true, a comparison that is never true, an AND with such a side, or an OR of
+-- two such sides
 abbrev pub is_never : (ℕ → Option Numbers) → Expression → Bool
 is_never numbers (Column c) = false
 is_never numbers (Literal v kind) = not (is_true v)
@@ -269,8 +270,8 @@ is_false_value Null = false
 is_false_value (Int n) = false
 is_false_value (Text t) = false
 
--- a condition that is FALSE of each row, without a fault: the literal, such a comparison of a column without NULL, and an AND of one,
--- where its left side has no fault or is FALSE, so that the right one is not looked at
+-- a condition that is FALSE over each row, without a fault: the literal, a comparison that is never true of a column without NULL, or an
+-- AND with such a side; if that is the right side, the left one has no fault or is FALSE itself, so that the right one is not evaluated
 abbrev pub is_false : (ℕ → Option Numbers) → Expression → Bool
 is_false numbers (Column c) = false
 is_false numbers (Literal v kind) = is_false_value v
@@ -284,17 +285,17 @@ is_false numbers (IsNull a) = false
 is_false numbers (IsNotNull a) = false
 is_false numbers (Case k a b c) = false
 
--- no row meets a condition, and none has a fault there
+-- no row meets a condition, and it has no fault over any of them
 abbrev pub is_unmet : (ℕ → Option Numbers) → Expression → Bool
 is_unmet numbers condition = (not (has_arithmetic condition) && is_never numbers condition) || is_false numbers condition
 
--- a condition, and FALSE in its place where no row meets it
+-- a condition, or FALSE in its place where no row meets it
 abbrev pub read_condition : Bool → Expression → Expression
 read_condition unmet condition = if unmet then Literal (TruthValue false) Truth else condition
 
 -- ---- plans
 
--- a plan without rows: a condition that no row meets, a Limit of none, and the steps above them, up to a Group
+-- a plan without rows: a condition that no row meets, a Limit of no rows, and the steps above these, up to a Group
 abbrev pub is_empty : List TableRule → PlanTree → Bool
 is_empty tables (Scan table columns) = false
 is_empty tables (Join condition left right) = is_empty tables right || is_empty tables left
@@ -310,7 +311,7 @@ abbrev pub condition_reads : Option Expression → List ℕ
 condition_reads None = []
 condition_reads (Some condition) = used condition
 
--- a plan of whose columns these are read
+-- the simpler plan of which only these columns are read
 abbrev pub narrowed : List TableRule → PlanTree → Read → PlanTree
 narrowed tables (Scan table columns) read = Scan table columns
 narrowed tables (Join condition left right) read = let more = and_also read (condition_reads condition) in Join condition (narrowed tables left more) (narrowed tables right (after (width left) more))

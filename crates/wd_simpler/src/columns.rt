@@ -17,7 +17,7 @@ use wd_plan::{Aggregate, Call, Class, Expr, GroupCall};
 use wd_sets::Set;
 use wd_value::{OutOfMemory, SortColumn};
 
-/// Puts a column into a set.
+/// Adds a column to a set.
 fn add_column(set: &mut Set, column: u16) -> Result<(), OutOfMemory>
     ensures { IfOk result (λ _. HasAlso set.old (column ∷ []) set.new) }
 {
@@ -25,7 +25,7 @@ fn add_column(set: &mut Set, column: u16) -> Result<(), OutOfMemory>
     Ok(())
 }
 
-/// Puts these columns into a set.
+/// Adds these columns to a set.
 fn add_columns(set: &mut Set, columns: &[u16]) -> Result<(), OutOfMemory>
     ensures { IfOk result (λ _. HasAlso set.old columns.now set.new) }
 {
@@ -35,7 +35,7 @@ fn add_columns(set: &mut Set, columns: &[u16]) -> Result<(), OutOfMemory>
     Ok(())
 }
 
-/// Puts the columns of sort keys into a set.
+/// Adds the columns of sort keys to a set.
 pub(crate) fn add_keys(set: &mut Set, keys: &[SortColumn]) -> Result<(), OutOfMemory>
     ensures { IfOk result (λ _. HasAlso set.old (key_columns keys.now) set.new) }
 {
@@ -45,7 +45,7 @@ pub(crate) fn add_keys(set: &mut Set, keys: &[SortColumn]) -> Result<(), OutOfMe
     Ok(())
 }
 
-/// Puts the columns of classes into a set.
+/// Adds the columns of classes to a set.
 pub(crate) fn add_classes(set: &mut Set, classes: &[Class]) -> Result<(), OutOfMemory>
     ensures { IfOk result (λ _. HasAlso set.old (flat_map class_columns (map class_of classes.now)) set.new) }
 {
@@ -56,7 +56,7 @@ pub(crate) fn add_classes(set: &mut Set, classes: &[Class]) -> Result<(), OutOfM
     Ok(())
 }
 
-/// Puts the arguments of calls into a set.
+/// Adds the arguments of calls to a set.
 pub(crate) fn add_arguments(set: &mut Set, calls: &[Call]) -> Result<(), OutOfMemory>
     ensures { IfOk result (λ _. HasAlso set.old (flat_map (λ (call : ACall). option_to_list (argument_of call.function)) calls.now) set.new) }
 {
@@ -68,7 +68,7 @@ pub(crate) fn add_arguments(set: &mut Set, calls: &[Call]) -> Result<(), OutOfMe
     Ok(())
 }
 
-/// Puts the first so many columns into a set.
+/// Adds the first `count` columns to a set.
 pub(crate) fn add_first(set: &mut Set, count: u16) -> Result<(), OutOfMemory>
     ensures { IfOk result (λ _. HasAlso set.old (positions count) set.new) }
 {
@@ -78,7 +78,7 @@ pub(crate) fn add_first(set: &mut Set, count: u16) -> Result<(), OutOfMemory>
     Ok(())
 }
 
-/// Puts the argument of a Group's call into a set.
+/// Adds the argument of a Group's call to a set.
 fn add_group_argument(set: &mut Set, call: &GroupCall) -> Result<(), OutOfMemory>
     ensures { IfOk result (λ _. HasAlso set.old (option_to_list (group_argument (group_call_of call.now))) set.new) }
 {
@@ -93,7 +93,7 @@ fn add_group_argument(set: &mut Set, call: &GroupCall) -> Result<(), OutOfMemory
     }
 }
 
-/// Puts the arguments of a Group's calls into a set.
+/// Adds the arguments of a Group's calls to a set.
 pub(crate) fn add_group_arguments(set: &mut Set, calls: &[GroupCall]) -> Result<(), OutOfMemory>
     ensures { IfOk result (λ _. HasAlso set.old (flat_map (λ call. option_to_list (group_argument call)) (map group_call_of calls.now)) set.new) }
 {
@@ -103,7 +103,7 @@ pub(crate) fn add_group_arguments(set: &mut Set, calls: &[GroupCall]) -> Result<
     Ok(())
 }
 
-/// Puts the columns that an expression uses into a set. The left operand comes last: a compiler makes a loop of that call.
+/// Adds the columns that an expression uses to a set. The left operand comes last, so that the compiler makes a loop of that call.
 pub(crate) fn add_used(set: &mut Set, expression: &Expr) -> Result<(), OutOfMemory>
     ensures { IfOk result (λ _. HasAlso set.old (used (expression_of expression.now)) set.new) }
 {
@@ -138,7 +138,7 @@ pub(crate) fn add_used(set: &mut Set, expression: &Expr) -> Result<(), OutOfMemo
     }
 }
 
-/// Puts the columns that expressions use into a set.
+/// Adds the columns that expressions use to a set.
 pub(crate) fn add_all_used(set: &mut Set, expressions: &[Expr]) -> Result<(), OutOfMemory>
     ensures { IfOk result (λ _. HasAlso set.old (flat_map used (map expression_of expressions.now)) set.new) }
 {

@@ -16,7 +16,7 @@ use wd_plan::{ArithmeticOp, Call, Class, Expr, Frame, FrameMode, Limit, Plan, Wi
 use wd_schema::Schema;
 use wd_value::{OutOfMemory, SortColumn, SortKey, Value};
 
-/// The Window, with the columns that its sort keys give back, where no frame goes by the distance of keys.
+/// The Window, with each sort key followed by the column that it is computed from, if no frame counts by the distance of keys.
 pub(crate) fn keyed_window(
     alloc: Global,
     schema: &Schema,
@@ -35,7 +35,7 @@ pub(crate) fn keyed_window(
     Ok(Window { classes, calls })
 }
 
-/// Whether a frame of some call goes by the distance of keys.
+/// Whether the frame of some call counts by the distance of keys.
 fn goes_by_distance(calls: &[Call]) -> bool
     ensures { result ≡ list_any (λ (call : ACall). spec.goes_by_distance call.frame) calls.now }
 {
@@ -74,7 +74,7 @@ fn keyed_classes(
     Ok(kept)
 }
 
-/// The Limit, with the columns that its sort keys give back.
+/// The Limit, with each sort key followed by the column that it is computed from.
 pub(crate) fn keyed_limit(
     alloc: Global,
     schema: &Schema,
@@ -99,7 +99,7 @@ pub(crate) fn keyed_limit(
     })
 }
 
-/// Sort keys, and after them the columns that they give back.
+/// Sort keys, followed by the columns that they determine.
 fn keyed(
     alloc: Global,
     schema: &Schema,
@@ -148,9 +148,9 @@ fn ascending(column: u16) -> SortColumn
     }
 }
 
-// ---- columns that others give back
+// ---- columns that others determine
 
-/// The column of a plan that another one of its columns gives back.
+/// The column of a plan from which another one of its columns is computed, so that it can be computed back.
 fn given_back(schema: &Schema, plan: &Plan, column: u16) -> Option<u16>
     requires { fits (schema_of schema.now) (plan_of plan.now) ≡ true }
     ensures { result ≡ spec.given_back (plan_of plan.now) column }
@@ -178,7 +178,7 @@ fn given_back(schema: &Schema, plan: &Plan, column: u16) -> Option<u16>
     }
 }
 
-/// The column from which an expression differs by a sign and by whole numbers that are added or subtracted.
+/// The column from which an expression differs only by a sign and by added or subtracted whole numbers.
 fn shifted(expression: &Expr) -> Option<u16>
     ensures { result ≡ spec.shifted (expression_of expression.now) }
 {
@@ -208,7 +208,7 @@ fn is_shift(op: ArithmeticOp) -> bool
     }
 }
 
-/// Whether an expression is a whole number.
+/// Whether an expression is a literal whole number.
 fn is_number(expression: &Expr) -> bool
     ensures { result ≡ spec.is_number (expression_of expression.now) }
 {

@@ -1,10 +1,10 @@
 //! Plans without what nothing reads.
 //!
-//! A column that no step reads can keep a plan from a certificate: by the rule `exchange` rows may stand in any order where a class
-//! gives all columns of the rows, and such a column is one of them. `plan` takes these columns out, and calls that nothing reads;
-//! `unmet` finds conditions that no row meets, by the `numbers` that columns have, `keyed` the columns that sort keys give back; `laws`
-//! says that nothing else changes: for the simpler plan the same choices are valid, and under each of them it has the same outcome. So
-//! what is certified of it holds of the plan.
+//! A column that no step reads can keep a plan from a certificate: the rule `exchange` needs a class that determines all columns of the
+//! rows, and such a column is one of them. `plan` takes these columns out, and calls that nothing reads; `unmet` finds conditions that no
+//! row meets, by the `numbers` that columns can have, and `keyed` adds the columns that sort keys determine. `laws` states that nothing
+//! else changes: for the simpler plan the same choices are valid, and it has the same outcome under each of them. So what is certified of
+//! the simpler plan holds of the plan.
 #![tactic(auto)]
 
 mod columns;

@@ -1,4 +1,4 @@
-//! The whole numbers that the columns of a plan have: those of their types, and of calls that count.
+//! The whole numbers that the columns of a plan can have: those of their types, and of calls that count.
 
 ghost use Rattle.std.specs.Prelude.{◌≡◌, map, not, option_and_then, slice_get, Some};
 ghost use Rattle.wd_plan.specs.Expressions.{expression_of};
@@ -11,7 +11,7 @@ use wd_plan::{Aggregate, Call, Expr, FrameFunction, Function, GroupCall, Plan};
 use wd_schema::Schema;
 use wd_value::ColumnType;
 
-/// Whole numbers from the least to the greatest one, where there is one; NULL may stand among them.
+/// Whole numbers from the least to the greatest, if there is a greatest; `null` says whether NULL may be among them.
 #[derive(Clone, Copy)]
 pub struct Numbers {
     pub least: i64,
@@ -19,7 +19,7 @@ pub struct Numbers {
     pub nullable: bool,
 }
 
-/// The numbers that a plan's column has alone, where they are known.
+/// The only numbers that a plan's column can have, if they are known.
 pub(crate) fn numbers_of(schema: &Schema, plan: &Plan, column: u16) -> Option<Numbers>
     ensures { result ≡ spec.numbers_of (schema_of schema.now) (plan_of plan.now) column }
 {
@@ -58,7 +58,7 @@ pub(crate) fn numbers_of(schema: &Schema, plan: &Plan, column: u16) -> Option<Nu
     }
 }
 
-/// The same numbers, among which NULL may stand.
+/// The numbers, with NULL allowed among them.
 fn with_null(numbers: Option<Numbers>) -> Option<Numbers>
     ensures { result ≡ spec.with_null numbers }
 {
@@ -70,7 +70,7 @@ fn with_null(numbers: Option<Numbers>) -> Option<Numbers>
     })
 }
 
-/// Numbers from this one on.
+/// The numbers from this one on.
 fn from_on(least: u8) -> Option<Numbers>
     ensures { result ≡ spec.from_on least }
 {
@@ -116,7 +116,7 @@ fn between(least: i64, greatest: i64, not_null: bool) -> Option<Numbers>
 
 // ---- columns of Maps
 
-/// The column that an output shows, where it shows one.
+/// The column that an output shows, if it shows one.
 fn copied(outputs: &[Expr], column: u16) -> Option<u16>
     ensures { result ≡ option_and_then column_shown_in (slice_get (map expression_of outputs.now) column) }
 {
@@ -143,7 +143,7 @@ fn numbers_of_call(calls: &[Call], number: u16) -> Option<Numbers>
     numbers_of_function(&call.function)
 }
 
-/// The numbers that a function gives, where it counts: ranks and buckets from 1.
+/// The numbers of a function that counts: ranks and buckets from 1.
 fn numbers_of_function(function: &Function) -> Option<Numbers>
     ensures { result ≡ spec.numbers_of_function function.now }
 {
@@ -155,7 +155,7 @@ fn numbers_of_function(function: &Function) -> Option<Numbers>
     }
 }
 
-/// The numbers that an aggregate gives, where it counts: from 0.
+/// The numbers of an aggregate that counts: from 0.
 fn numbers_of_aggregate(aggregate: Aggregate) -> Option<Numbers>
     ensures { result ≡ spec.numbers_of_aggregate aggregate }
 {

@@ -27,10 +27,11 @@ use wd_sets::Set;
 use wd_value::{OutOfMemory, Value};
 
 /// The plan with NULL for outputs, and COUNT(*) for calls, that no step above reads and that can't fault; with FALSE for conditions that
-/// no row meets, with Limits that go by no order where there are no rows, and with the column after each sort key that is computed from it.
+/// no row meets; with Limits that need no order where there are no rows; and with each sort key followed by the column that it is
+/// computed from.
 ///
-/// For both plans the same choices are valid, and under each of them they have the same outcome ([`crate::laws::simpler_is_alike`]).
-/// The plan has to fit the schema.
+/// For both plans the same choices are valid, and both have the same outcome under each of them ([`crate::laws::simpler_is_alike`]). The
+/// plan has to fit the schema.
 pub fn simpler(alloc: Global, schema: &Schema, plan: Plan) -> Result<Plan, OutOfMemory>
     requires { fits (schema_of schema.now) (plan_of plan) ≡ true }
     ensures { IfOk result (λ p. plan_of p ≡ spec.simpler (schema_of schema.now) (plan_of plan)) }
@@ -38,7 +39,7 @@ pub fn simpler(alloc: Global, schema: &Schema, plan: Plan) -> Result<Plan, OutOf
     narrowed(alloc, schema, plan, None)
 }
 
-/// The same of a plan of whose columns these are read.
+/// The simpler plan of which only these columns are read.
 fn narrowed(
     alloc: Global,
     schema: &Schema,
@@ -135,7 +136,7 @@ fn is_read(read: &Option<Set>, column: u16) -> bool
     }
 }
 
-/// What is read of rows of which a step keeps some, or none.
+/// What is read of rows of which a step keeps some; nothing where it keeps none.
 fn kept_reads(alloc: Global, is_none: bool, read: Option<Set>) -> Option<Set>
     ensures { (c : ℕ) → read_of result c ≡ spec.kept_reads is_none (read_of read) c }
 {
@@ -166,7 +167,7 @@ fn with_condition(read: Option<Set>, condition: &Option<Expr>) -> Result<Option<
     }
 }
 
-/// What is read of so many columns after the first so many.
+/// What is read of the right side of a Join, by the numbers of its own columns.
 fn right_of(
     alloc: Global,
     read: &Option<Set>,
@@ -266,7 +267,7 @@ fn read_output(is_read: bool, output: Expr) -> Expr
     }
 }
 
-/// Whether an expression has a value over every row, and no fault: a column or a literal.
+/// Whether an expression has a value over every row, and no fault: it is a column or a literal.
 fn is_plain(expression: &Expr) -> bool
     ensures { result ≡ spec.is_plain (expression_of expression.now) }
 {
@@ -338,8 +339,8 @@ fn is_total(aggregate: Aggregate) -> bool
     !matches!(aggregate, Aggregate::Sum(_))
 }
 
-/// The Window, with COUNT(*) for calls that are not read and can't fault, over an input of so many columns; for all calls, where that
-/// has no rows.
+/// The Window, with COUNT(*) for calls that are not read and can't fault, over an input of `columns` columns; with COUNT(*) for all calls
+/// where the input has no rows.
 fn read_window(
     alloc: Global,
     has_none: bool,
@@ -397,7 +398,7 @@ fn read_call(is_read: bool, call: Call) -> Call
     }
 }
 
-/// The call with its frame by peers.
+/// The call, with a frame by peers if its frame is the row's own place or empty.
 fn peer_call(call: Call) -> Call
     ensures { result ≡ spec.peer_call call }
 {
@@ -408,7 +409,7 @@ fn peer_call(call: Call) -> Call
     }
 }
 
-/// The frame, and one of peers in the place of one of the row's own place, or of one that holds nothing.
+/// The frame, or one by peers in place of a frame that is the row's own place or empty.
 fn peer_frame(frame: Frame) -> Frame
     ensures { result ≡ peers.peer_frame frame }
 {
@@ -506,7 +507,7 @@ fn read_limit(has_none: bool, limit: Limit) -> Limit
     }
 }
 
-/// The Limit; one of no rows goes by no offset, and where it has sort keys takes all that tie.
+/// The Limit; a Limit of no rows has no offset, and with sort keys it has ties.
 fn plain_limit(limit: Limit) -> Limit
     ensures { limit_of result ≡ spec.plain_limit (limit_of limit) }
 {

@@ -16,7 +16,7 @@ use wd_scalar::{has_arithmetic, is_true};
 use wd_schema::Schema;
 use wd_value::Value;
 
-/// Whether a plan has no row, whatever stands in the tables of the schema.
+/// Whether a plan has no row, whatever the rows of the tables are.
 pub(crate) fn is_empty(schema: &Schema, plan: &Plan) -> bool
     ensures { result ≡ spec.is_empty (schema_of schema.now) (plan_of plan.now) }
 {
@@ -42,7 +42,7 @@ pub(crate) fn takes_none(limit: &Limit) -> bool
 
 // ---- conditions
 
-/// Whether no row of a plan meets a condition, and none has a fault there.
+/// Whether no row of a plan meets a condition, and the condition has no fault over any of them.
 pub(crate) fn is_unmet(schema: &Schema, input: &Plan, condition: &Expr) -> bool
     ensures { result ≡ spec.is_unmet (numbers_in (schema_of schema.now) (plan_of input.now)) (expression_of condition.now) }
 {
@@ -50,7 +50,7 @@ pub(crate) fn is_unmet(schema: &Schema, input: &Plan, condition: &Expr) -> bool
         || is_false(schema, input, condition, false)
 }
 
-/// The condition, and FALSE in its place where no row meets it.
+/// The condition, or FALSE in its place where no row meets it.
 pub(crate) fn read_condition(unmet: bool, condition: Expr) -> Expr
     ensures { expression_of result ≡ spec.read_condition unmet (expression_of condition) }
 {
@@ -61,8 +61,8 @@ pub(crate) fn read_condition(unmet: bool, condition: Expr) -> Expr
     }
 }
 
-/// Whether a condition is FALSE of each row of a plan, without a fault; or no more than without a fault, where it is the left side of an
-/// AND whose right side is FALSE.
+/// Whether a condition is FALSE over each row of a plan, without a fault. On the left of an AND whose right side is FALSE (`right_is`) it
+/// suffices that the condition has no fault.
 fn is_false(schema: &Schema, input: &Plan, condition: &Expr, right_is: bool) -> bool
     ensures { result ≡ (spec.is_false (numbers_in (schema_of schema.now) (plan_of input.now)) (expression_of condition.now) || (right_is && not (arithmetic (expression_of condition.now)))) }
 {
@@ -87,7 +87,7 @@ fn is_false_value(value: &Value) -> bool
     matches!(value, Value::Bool(false))
 }
 
-/// Whether a condition is true of no row of a plan.
+/// Whether a condition is true over no row of a plan.
 fn is_never(schema: &Schema, input: &Plan, condition: &Expr) -> bool
     ensures { result ≡ spec.is_never (numbers_in (schema_of schema.now) (plan_of input.now)) (expression_of condition.now) }
 {
@@ -100,7 +100,7 @@ fn is_never(schema: &Schema, input: &Plan, condition: &Expr) -> bool
     }
 }
 
-/// Whether a comparison of a column with a literal, or of two literals, is never true; where NULL is not allowed, it is never NULL either.
+/// Whether a comparison of a column with a literal, or of two literals, is never true; where NULL is not allowed, also never NULL.
 fn never_compares(
     schema: &Schema,
     input: &Plan,
@@ -133,7 +133,7 @@ fn never_compares(
     }
 }
 
-/// The numbers of a plan's column, where NULL is allowed or does not stand there.
+/// The numbers of a plan's column, if NULL is allowed or is not among them.
 fn allowed(schema: &Schema, input: &Plan, null_allowed: bool, column: u16) -> Option<Numbers>
     ensures { result ≡ spec.allowing null_allowed (numbers_in (schema_of schema.now) (plan_of input.now) column) }
 {
@@ -145,7 +145,7 @@ fn allowed(schema: &Schema, input: &Plan, null_allowed: bool, column: u16) -> Op
     }
 }
 
-/// Whether no value of a column with these numbers compares so with a literal.
+/// Whether the comparison with the literal holds for none of the column's numbers.
 fn never_at(op: ComparisonOp, numbers: Option<Numbers>, literal: &Value) -> bool
     ensures { result ≡ spec.never_at op numbers literal.now }
 {
@@ -158,7 +158,7 @@ fn never_at(op: ComparisonOp, numbers: Option<Numbers>, literal: &Value) -> bool
     }
 }
 
-/// Whether none of the numbers compares so with this one.
+/// Whether the comparison with this number holds for none of the numbers.
 fn never(op: ComparisonOp, numbers: Numbers, number: i64) -> bool
     ensures { result ≡ spec.never op numbers number }
 {
@@ -192,7 +192,7 @@ fn all_below(greatest: Option<i64>, number: i64) -> bool
     }
 }
 
-/// Whether two literals are numbers that don't compare so.
+/// Whether two literals are numbers for which the comparison does not hold.
 fn never_fixed(op: ComparisonOp, first: &Value, second: &Value) -> bool
     ensures { result ≡ spec.never_fixed op first.now second.now }
 {
@@ -218,7 +218,7 @@ fn fails(op: ComparisonOp, m: i64, n: i64) -> bool
     }
 }
 
-/// The comparison with its sides in each other's place.
+/// The comparison with its sides exchanged.
 fn turned(op: ComparisonOp) -> ComparisonOp
     ensures { result ≡ spec.turned op }
 {

@@ -1,4 +1,4 @@
--- What a site says, in terms of the tokens of its text.
+-- Sites, in terms of the tokens of their text.
 use Rattle.std.specs.Prelude.{◌≡◌, ℕ, ◌<◌, ◌≤◌, List, IfSome, Option, Some, None, slice_get}
 use Rattle.wd_lex.specs.declared.token.Span.{Span}
 use Rattle.wd_lex.specs.declared.token.Token.{Token}
@@ -9,7 +9,7 @@ use Rattle.wd_sites.specs.declared.site.KeyPlace.{KeyPlace}
 use Rattle.wd_sites.specs.declared.site.PlanSite.{PlanSite}
 use Rattle.wd_sites.specs.declared.site.Site.{Site}
 
--- the bytes from the beginning of the token with one number to the end of that with another, which is none before it
+-- the bytes from the beginning of the token with one number to the end of the token with another, which does not come before it
 pub record IsStretch (tokens : List Token) (first last : ℕ) (span : Span) : Type 0 where
   pub ordered : first ≤ last
   pub first_token : Token
@@ -33,12 +33,12 @@ pub record BeginsToken (tokens : List Token) (place : ℕ) : Type 0 where
   pub is : slice_get tokens number ≡ Some token
   pub begins : place ≡ token.span.start
 
--- a key is added behind a token; where there is an ORDER BY, it begins with a token
+-- a key is added after a token; where there is an ORDER BY, it begins with a token
 pub record IsKeyPlace (tokens : List Token) (key : KeyPlace) : Type 0 where
   pub behind : EndsToken tokens key.at
   pub order : IfSome key.order (BeginsToken tokens)
 
--- a site is a stretch of whole tokens, and a key is added behind a token
+-- a site is a range of whole tokens, and a key is added after a token
 pub record IsSite (tokens : List Token) (site : Site) : Type 0 where
   pub first : ℕ
   pub last : ℕ

@@ -8,7 +8,7 @@ use wd_value::OutOfMemory;
 #[derive(Drop)]
 pub(crate) struct WindowNode {
     pub(crate) node: u64,
-    /// The numbers of the calls that the select list shows, in the order in which it shows them.
+    /// The numbers of the calls that the select list shows, in the order of the list.
     pub(crate) shown: Vec<u32>,
 }
 
@@ -29,7 +29,7 @@ pub(crate) fn plan_nodes(alloc: Global, plan: &Plan) -> Result<PlanNodes, OutOfM
     Ok(found)
 }
 
-/// Adds those of a plan whose nodes are numbered from one on; the number behind them.
+/// Adds the Windows and Limits of a plan whose nodes are numbered from `first` on; the result is the number after them.
 fn add(alloc: Global, plan: &Plan, first: u64, found: &mut PlanNodes) -> Result<u64, OutOfMemory> {
     let node = match plan {
         Plan::Scan { .. } => first,
@@ -55,7 +55,7 @@ fn add(alloc: Global, plan: &Plan, first: u64, found: &mut PlanNodes) -> Result<
     Ok(node.saturating_add(1))
 }
 
-/// Adds the Window that stands directly below a Map of these outputs, which has this number.
+/// Adds the Window directly below a Map of these outputs; the Window has this number.
 fn add_window(
     alloc: Global,
     input: &Plan,
@@ -85,7 +85,7 @@ fn width(plan: &Plan) -> usize {
     }
 }
 
-/// Adds the calls that an expression shows, from left to right: their columns stand behind the first so many.
+/// Adds the calls that an expression shows, from left to right: the columns from `width` on.
 fn add_shown(expression: &Expr, width: usize, shown: &mut Vec<u32>) -> Result<(), OutOfMemory> {
     match expression {
         Expr::Column(column) => {

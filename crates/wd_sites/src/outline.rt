@@ -1,4 +1,4 @@
-//! The selects of a query, and what stands in each, by its tokens.
+//! The selects of a query and their parts, by their tokens.
 
 ghost use Rattle.std.specs.Prelude.{IfSome};
 ghost use Rattle.wd_sites.specs.Sites.{IsTerminalAt};
@@ -13,7 +13,7 @@ use wd_value::OutOfMemory;
 pub(crate) struct Range {
     /// The number of its word SELECT.
     pub(crate) first: usize,
-    /// That of the token behind its last one.
+    /// The number of the token after its last one.
     pub(crate) end: usize,
 }
 
@@ -22,15 +22,15 @@ pub(crate) struct Range {
 pub(crate) struct NamedWindow {
     /// The number of the token that names it.
     pub(crate) name: usize,
-    /// That of its left bracket.
+    /// The number of its left bracket.
     pub(crate) open: usize,
 }
 
-/// What stands in a select itself, not in those of its FROM.
+/// The parts of a select itself, without those of the selects in its FROM.
 #[derive(Drop)]
 pub(crate) struct Outline {
     pub(crate) range: Range,
-    /// The numbers of the words OVER, in their order.
+    /// The numbers of the words OVER, in order.
     pub(crate) overs: Vec<usize>,
     pub(crate) windows: Vec<NamedWindow>,
     /// The number of the word ORDER of its own ORDER BY.
@@ -39,7 +39,7 @@ pub(crate) struct Outline {
     pub(crate) limits: Option<usize>,
 }
 
-/// A query's tokens, and the partners of its brackets.
+/// A query's tokens, and for each bracket the one that matches it.
 #[derive(Clone, Copy)]
 pub(crate) struct Brackets<'a> {
     pub(crate) tokens: &'a [Token],
@@ -47,7 +47,7 @@ pub(crate) struct Brackets<'a> {
 }
 
 impl<'a> Brackets<'a> {
-    /// The bracket that opens or closes the one with this number.
+    /// The number of the bracket that matches the one with this number.
     pub(crate) fn partner(self, number: usize) -> usize {
         self.partners.get(number).copied().unwrap_or(number)
     }
@@ -71,7 +71,7 @@ impl<'a> Brackets<'a> {
             )
     }
 
-    /// The selects of the query in the order in which they end, so that each comes after those of its FROM.
+    /// The selects of the query in the order in which they end, so that each comes after the selects in its FROM.
     fn selects(self, alloc: Global) -> Result<Vec<Range>, OutOfMemory> {
         let mut found = Vec::new(alloc);
         let mut last = self.tokens.len();
@@ -114,7 +114,7 @@ impl<'a> Brackets<'a> {
         Ok(found)
     }
 
-    /// What stands in a select.
+    /// The parts of a select.
     fn outline(self, alloc: Global, range: Range) -> Result<Outline, OutOfMemory> {
         let overs = self.overs(alloc, range)?;
         let mut outline = Outline {
@@ -155,7 +155,7 @@ impl<'a> Brackets<'a> {
         Ok(outline)
     }
 
-    /// The outlines of all selects, each after those of its FROM.
+    /// The outlines of all selects, each after those of the selects in its FROM.
     pub(crate) fn outlines(self, alloc: Global) -> Result<Vec<Outline>, OutOfMemory> {
         let selects = self.selects(alloc)?;
         let mut outlines = Vec::with_capacity(alloc, selects.len())?;

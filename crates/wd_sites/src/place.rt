@@ -1,4 +1,4 @@
-//! Tokens by their numbers: what stands there, and the stretch of the text that they take.
+//! Tokens by their numbers: what they are, and the bytes that they take.
 
 ghost use Rattle.std.specs.Prelude.{◌≡◌, IfSome};
 ghost use Rattle.wd_sites.specs.Sites.{EndsToken, IsStretch, IsTerminalAt};
@@ -7,7 +7,7 @@ use std::alloc::Global;
 use wd_lex::{Span, Terminal, Token, TokenKind};
 use wd_value::OutOfMemory;
 
-/// The terminal with this number, where the token is one.
+/// The terminal with this number, if the token is one.
 pub(crate) fn terminal_at(tokens: &[Token], number: usize) -> Option<Terminal>
     ensures { IfSome result (IsTerminalAt tokens.now number) }
 {
@@ -17,7 +17,7 @@ pub(crate) fn terminal_at(tokens: &[Token], number: usize) -> Option<Terminal>
     }
 }
 
-/// The name with this number, where the token is one.
+/// The name with this number, if the token is one.
 pub(crate) fn name_at(tokens: &[Token], number: usize) -> Option<&str> {
     match &tokens.get(number)?.kind {
         TokenKind::Word(name) | TokenKind::Quoted(name) => Some(name.as_str()),
@@ -25,7 +25,7 @@ pub(crate) fn name_at(tokens: &[Token], number: usize) -> Option<&str> {
     }
 }
 
-/// The bytes from the beginning of one token to the end of another, which is none before it.
+/// The bytes from the beginning of one token to the end of another, which does not come before it.
 pub(crate) fn stretch(tokens: &[Token], first: usize, last: usize) -> Option<Span>
     ensures { IfSome result (IsStretch tokens.now first last) }
 {
@@ -45,7 +45,7 @@ pub(crate) fn end_of(tokens: &[Token], number: usize) -> Option<u64>
     Some(token.span.end)
 }
 
-/// For each token its number, and for a bracket that of the bracket which opens or closes it.
+/// For each token its number, and for a bracket the number of the bracket that matches it.
 pub(crate) fn partners(alloc: Global, tokens: &[Token]) -> Result<Vec<usize>, OutOfMemory> {
     let mut partners = Vec::with_capacity(alloc, tokens.len())?;
     let mut open = Vec::new(alloc);
@@ -64,7 +64,7 @@ pub(crate) fn partners(alloc: Global, tokens: &[Token]) -> Result<Vec<usize>, Ou
     Ok(partners)
 }
 
-/// Makes two brackets partners.
+/// Makes two brackets match.
 fn pair(partners: &mut Vec<usize>, opening: usize, closing: usize) {
     if let Some(partner) = partners.get_mut(opening) {
         *partner = closing;

@@ -1,8 +1,8 @@
 //! The sites of a plan's window calls and limits.
 //!
-//! The syntax tree has no places. Selects in the order in which they end are those of the plan in postorder, and the calls that the
-//! Map above a Window shows, from left to right, are the words OVER of its select. Where the numbers differ, as for tokens of another
-//! query, there is no site.
+//! The syntax tree has no places. The selects in the order in which they end are those of the plan in postorder, and the calls that the
+//! Map above a Window shows, from left to right, belong to the words OVER of its select. Where the numbers differ, as for the tokens of
+//! another query, there is no site.
 
 ghost use Rattle.std.specs.Prelude.{IfOk, IfSome, IsTrue, All};
 ghost use Rattle.wd_sites.specs.Sites.{IsCallSite, IsKeyPlace, IsSite, IsSiteAt, IsSiteOf, IsTerminalAt};
@@ -16,16 +16,17 @@ use wd_lex::{Span, Terminal, Token};
 use wd_plan::Plan;
 use wd_value::OutOfMemory;
 
-/// Where a sort key can be added.
+/// The place where a sort key can be added.
 #[derive(Clone, Copy, PartialEq, Eq)]
 pub struct KeyPlace {
-    /// The byte at which it is put, behind a token.
+    /// The byte at which the key is added, after a token.
     pub at: u64,
-    /// The byte at which the ORDER BY begins whose keys stand before it, so that a comma comes first. None where there is none.
+    /// The byte at which the ORDER BY begins whose keys come before the added one, so that a comma comes first. `None` where there is
+    /// none.
     pub order: Option<u64>,
 }
 
-/// Where a window call, or an ORDER BY with its limits, stands, and where a sort key can be added to it.
+/// The place of a window call, or of an ORDER BY with its limits, and where a sort key can be added to it.
 #[derive(Clone, Copy)]
 pub struct Site {
     pub span: Span,
@@ -37,7 +38,7 @@ pub struct Site {
 pub struct PlanSite {
     /// The node's number in postorder.
     pub node: u64,
-    /// The call's number in its Window; none at a Limit.
+    /// The call's number in its Window; `None` for a Limit.
     pub call: Option<u32>,
     pub site: Site,
 }
@@ -60,7 +61,7 @@ pub fn sites(alloc: Global, tokens: &[Token], plan: &Plan) -> Result<Vec<PlanSit
     Ok(found)
 }
 
-/// Adds the sites of the calls of Windows: of the selects that have calls, in their order.
+/// Adds the sites of the calls of Windows, which are those of the selects with calls, in order.
 fn add_calls(
     brackets: Brackets<'_>,
     outlines: &[Outline],
@@ -107,7 +108,7 @@ fn add_shown(
     Ok(())
 }
 
-/// Adds the sites of the Limits: of the selects that sort or limit their rows, in their order.
+/// Adds the sites of the Limits, which are those of the selects that sort or limit their rows, in order.
 fn add_limits(
     brackets: Brackets<'_>,
     outlines: &[Outline],
@@ -131,7 +132,7 @@ fn add_limits(
     Ok(())
 }
 
-/// Adds a site, where there is one.
+/// Adds a site, if there is one.
 fn add_site(
     tokens: &[Token],
     node: u64,
@@ -197,7 +198,7 @@ fn window_named(brackets: Brackets<'_>, windows: &[NamedWindow], name: usize) ->
     None
 }
 
-/// Where a key can be added to the window that is opened by this bracket, or to the one that it copies its ORDER BY from.
+/// Where a key can be added to the window that this bracket opens, or to the window whose ORDER BY it copies.
 fn window_key(brackets: Brackets<'_>, windows: &[NamedWindow], open: usize) -> Option<KeyPlace>
     ensures { IfSome result (IsKeyPlace brackets.entry.tokens.now) }
 {
@@ -241,7 +242,7 @@ fn own_key(brackets: Brackets<'_>, open: usize) -> Option<KeyPlace>
     key_behind(brackets.tokens, order, end.checked_sub(1)?)
 }
 
-/// The place for a key behind a token, of the ORDER BY that begins at this one, where there is one.
+/// The place for a key after a token, and the beginning of its ORDER BY, if there is one.
 fn key_behind(tokens: &[Token], order: Option<usize>, last: usize) -> Option<KeyPlace>
     ensures { IfSome result (IsKeyPlace tokens.now) }
 {

@@ -1,4 +1,4 @@
--- Numbers in the place of all rows of a list.
+-- Numbers in place of all rows of a list.
 use Rattle.std.specs.Prelude.{◌≡◌, ℕ, ◌<◌, List, length, get_or}
 use Rattle.std.specs.Ordering.{nat_cmp}
 use Rattle.wd_value.specs.Rows.{Row}

@@ -9,11 +9,11 @@ use Rattle.wd_value.specs.declared.value.Value.TheVariants.{Null, Int, Text, Boo
 use Rattle.wd_sort.specs.declared.known.Known.{Known}
 use Rattle.wd_sort.specs.Ranks.{value_in}
 
--- a value stands at a place
+-- a value is at a place
 abbrev pub IsAt : Known → ℕ → Value → Type 0
 IsAt known place value = (place < length known.values.items) × (value_in known.values.items place ≡ value)
 
--- the place that is kept of a value: NULL and the truth values have the first ones
+-- the place that is stored for a value: NULL and the truth values have the first places
 abbrev pub place_in : Known → Value → Option ℕ
 place_in known Null = Some 0
 place_in known (Int n) = get_by (int_eq n) known.wholes
@@ -21,11 +21,11 @@ place_in known (Text text) = get_by (λ k. bytes_eq text k.now) known.texts
 place_in known (Truth false) = Some 1
 place_in known (Truth true) = Some 2
 
--- each value stands at the place that is kept of it
+-- each value is at the place that is stored for it
 abbrev pub AreKnown : Known → Type 0
 AreKnown known = (value : Value) (place : ℕ) → place_in known value ≡ Some place → IsAt known place value
 
--- the place of a value stays what it is
+-- no value changes its place
 abbrev pub Keeps : Known → Known → Type 0
 Keeps old new = (value : Value) (place : ℕ) → place_in old value ≡ Some place → place_in new value ≡ Some place
 

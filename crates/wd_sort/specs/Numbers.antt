@@ -1,4 +1,4 @@
--- Numbers that tell rows apart.
+-- Numbers for rows: different rows have different numbers.
 use Rattle.std.specs.Prelude.{◌≡◌, ℕ, ◌<◌, List, length, get_or, nat_eq}
 use Rattle.wd_value.specs.Rows.{Row, columns_of, row_at, same_row}
 

@@ -9,7 +9,7 @@ use Rattle.wd_value.specs.declared.value.Value.{Value}
 use Rattle.wd_value.specs.declared.value.Value.TheVariants.{Null}
 use Rattle.wd_sort.specs.declared.ranks.Entry.{Entry}
 
--- the value that a list of references has at a place, and NULL past the last
+-- the value at a place of a list of references, and NULL past the last
 abbrev pub value_in : List (Bor Value) → ℕ → Value
 value_in values place = get_or (map (λ v. v.now) values) place Null
 
@@ -19,30 +19,30 @@ pub record AreRanks (key : SortKey) (values : List (Bor Value)) (ranks : List �
   pub below : (k : ℕ) → k < length values → get_or ranks k 0 < length values
   pub alike : (i j : ℕ) → i < length values → j < length values → nat_cmp (get_or ranks i 0) (get_or ranks j 0) ≡ compare key (value_in values i) (value_in values j)
 
--- ---- values in their order
+-- ---- sorted values
 
--- entries compare as their values
+-- entries compare as their values do
 abbrev pub compare_entries : SortKey → Entry → Entry → Ordering
 compare_entries key a b = compare key a.value.now b.value.now
 
--- an entry of the value at its place
+-- an entry has the value at its place
 pub record IsEntry (values : List (Bor Value)) (entry : Entry) : Type 0 where
   pub within : entry.place < length values
   pub is : entry.value.now ≡ value_in values entry.place
 
--- the values in their order, each with its place
+-- the values sorted, each with its place
 pub record AreSortedEntries (key : SortKey) (values : List (Bor Value)) (entries : List Entry) : Type 0 where
   pub long : length entries ≡ length values
   pub each : All (IsEntry values) entries
   pub all : (p : ℕ) → p < length values → Contains (map (λ e. e.place) entries) p
   pub sorted : IsSorted (compare_entries key) entries
 
--- whether there is a step up to the value at a place from the one before: 1 or 0
+-- 1 where the value at a place is greater than the one before, else 0
 abbrev pub step_to : SortKey → List Value → ℕ → ℕ
 step_to key values zero = 0
 step_to key values (suc i) = if is_lt (compare key (get_or values i Null) (get_or values (suc i) Null)) then 1 else 0
 
--- the steps up to the values before a place
+-- how many such steps there are up to a place
 abbrev pub steps_before : SortKey → List Value → ℕ → ℕ
 steps_before key values zero = 0
 steps_before key values (suc i) = steps_before key values i + step_to key values i

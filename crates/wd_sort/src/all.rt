@@ -1,4 +1,4 @@
-//! Numbers for all rows of a list: these are coded once, and then sorted and compared by them.
+//! Numbers for all rows of a list, which are found once; the rows are then sorted and compared by them.
 
 ghost use Rattle.std.specs.Prelude.{◌≡◌, ℕ, ◌<◌, List, [], IfOk, IfSome, All, get_or, length, map};
 ghost use Rattle.wd_sort.specs.AllCodes.{AreCodesOfAll};
@@ -14,8 +14,8 @@ use std::alloc::Global;
 use wd_columns::RowSource;
 use wd_value::{OutOfMemory, SortColumn};
 
-/// A number for each row, by its position, that compares as the row does by the columns; none where
-/// a column has no codes or all columns together don't fit 64 bits.
+/// A number for each row, by its position, that compares as the row does by the columns; `None` where a column has no codes, or where the
+/// codes of all columns together don't fit 64 bits.
 pub fn row_coding(
     alloc: Global,
     rows: &RowSource,
@@ -38,7 +38,7 @@ pub fn row_coding(
     Ok(Some(coding))
 }
 
-/// One number for all rows, which tie where there is no column.
+/// One number for all rows, which all tie where there is no column.
 fn one_code(alloc: Global, rows: &RowSource) -> Result<Coding, OutOfMemory>
     ensures { IfOk result (λ c. AreCodesOfAll [] rows.now c.bound c.codes.items) }
 {

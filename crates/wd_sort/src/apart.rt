@@ -1,4 +1,4 @@
-//! Numbers that tell the values of a column apart.
+//! Numbers for the values of a column: different values have different numbers.
 
 ghost use Rattle.std.specs.Prelude.{◌≡◌, [], ◌∷◌, IfOk, IfSome, length};
 ghost use Rattle.wd_sort.specs.Known.{AreKnown};
@@ -15,9 +15,9 @@ use std::alloc::Global;
 use wd_columns::RowSource;
 use wd_value::{OutOfMemory, SortColumn, SortKey, Value};
 
-/// A number for each row, by its position. Two are equal exactly where the rows' values in the column
-/// are the same; they don't compare as the values do. The bound is at most three more than the number of
-/// rows. Takes time that goes with the number of rows: no two texts are compared in order.
+/// A number for each row, by its position. Two numbers are equal exactly where the rows' values in the column are the same; they don't
+/// compare as the values do. The bound is at most three more than the number of rows. Takes time linear in the number of rows: no two
+/// texts are compared in order.
 pub fn value_numbers(alloc: Global, rows: &RowSource, column: u16) -> Result<Coding, OutOfMemory>
     ensures { IfOk result (λ c. AreNumbersBy (column ∷ []) rows.now c.bound c.codes.items) }
 {
@@ -35,8 +35,7 @@ pub fn value_numbers(alloc: Global, rows: &RowSource, column: u16) -> Result<Cod
     }
 }
 
-/// Such numbers of a column whose values are whole numbers in a range that is no wider than the rows
-/// are many; otherwise none.
+/// The numbers of a column whose values are whole numbers in a range that is no wider than the number of rows; otherwise `None`.
 fn narrow_numbers(
     alloc: Global,
     rows: &RowSource,
@@ -58,8 +57,7 @@ fn narrow_numbers(
     }
 }
 
-/// Such numbers of a column: the places of its values among the distinct ones, from those that are
-/// known before any row is met.
+/// The numbers of a column as the places of its values among the distinct ones, beginning with the values already known.
 fn known_numbers<'a>(
     alloc: Global,
     rows: &'a RowSource<'_>,

@@ -9,9 +9,8 @@ ghost use Rattle.wd_value.specs.declared.order.SortColumn.{SortColumn};
 use std::alloc::Global;
 use wd_value::OutOfMemory;
 
-/// The positions in the order of their codes, each of which is below `bound`; those of one code stay
-/// as they were. Takes n log n comparisons of two numbers, of 64 bits where the bound times the count
-/// fits these, else of 128.
+/// The positions in the order of their codes, each of which is below `bound`; positions with equal codes keep their order. Takes n log n
+/// comparisons of two numbers, of 64 bits where the bound times the count fits these, else of 128.
 pub fn sorted_by_codes(
     alloc: Global,
     codes: Vec<u64>,
@@ -29,7 +28,7 @@ pub fn sorted_by_codes(
     }
 }
 
-/// In the codes' own memory.
+/// The sorted positions, in the codes' own memory.
 fn sorted_narrow(codes: Vec<u64>, bound: u64, positions: &[u64]) -> Vec<u64>
     requires long { length codes.items ≡ length positions.now }
     requires below { (k : ℕ) → k < length positions.now → get_or codes.items k 0 < bound }
@@ -41,7 +40,7 @@ fn sorted_narrow(codes: Vec<u64>, bound: u64, positions: &[u64]) -> Vec<u64>
     unpacked(numbers, positions)
 }
 
-/// Each code and its place in one number.
+/// Each code and its place as one number.
 fn packed(codes: Vec<u64>, bound: u64) -> Vec<u64>
     requires below { (k : ℕ) → k < length codes.items → get_or codes.items k 0 < bound }
     requires room { bound * length codes.items < 2 ^ 64 }
@@ -68,7 +67,7 @@ fn unpacked(numbers: Vec<u64>, positions: &[u64]) -> Vec<u64>
     order
 }
 
-/// With numbers of 128 bits, which hold any code and place.
+/// The sorted positions, by numbers of 128 bits, which hold any code and place.
 fn sorted_wide(alloc: Global, codes: Vec<u64>, positions: &[u64]) -> Result<Vec<u64>, OutOfMemory>
     requires { length codes.items ≡ length positions.now }
     ensures { IfOk result (λ v. (columns : List SortColumn) (rows : List Row) → IsCoding columns rows positions.now codes.items → IsStableSortOf columns rows positions.now v.items) }
@@ -90,7 +89,7 @@ fn packed_wide(alloc: Global, codes: &[u64]) -> Result<Vec<u128>, OutOfMemory>
     Ok(numbers)
 }
 
-/// In the memory of the codes.
+/// For each number the position at the place that it holds, in the memory of the codes.
 fn unpacked_wide(numbers: &[u128], positions: &[u64], codes: Vec<u64>) -> Vec<u64>
     requires numbers_long { length numbers.now ≡ length positions.now }
     requires codes_long { length codes.items ≡ length positions.now }

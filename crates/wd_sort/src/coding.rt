@@ -16,8 +16,7 @@ pub struct Coding {
     pub bound: u64,
 }
 
-/// Numbers that compare as the values of a column; none where all are whole numbers, too far
-/// apart.
+/// Numbers that compare as the values of a column; `None` where all values are whole numbers in a range that is too wide.
 pub fn column_coding(
     alloc: Global,
     rows: &RowSource,
@@ -35,8 +34,8 @@ pub fn column_coding(
     }
 }
 
-/// The numbers of a column and, where these tie, of the columns behind it, in the memory of the
-/// first; none where a pair does not fit 64 bits.
+/// The numbers of a column and, where these tie, of the columns after it, in the memory of the first; `None` where a pair does not fit 64
+/// bits.
 pub fn combined(first: Coding, others: &Coding) -> Option<Coding>
     requires long { length first.codes.items ≡ length others.now.codes.items }
     requires high { (k : ℕ) → k < length first.codes.items → get_or first.codes.items k 0 < first.bound }
@@ -47,7 +46,7 @@ pub fn combined(first: Coding, others: &Coding) -> Option<Coding>
     Some(paired(first, others))
 }
 
-/// Both numbers of each position in one, in the memory of the first.
+/// Both numbers of each position as one, in the memory of the first.
 pub fn paired(first: Coding, others: &Coding) -> Coding
     requires long { length first.codes.items ≡ length others.now.codes.items }
     requires high { (k : ℕ) → k < length first.codes.items → get_or first.codes.items k 0 < first.bound }

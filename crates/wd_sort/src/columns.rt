@@ -1,4 +1,4 @@
-//! The stable sort of positions by columns, by codes where these have them.
+//! The stable sort of positions by columns, by codes for the columns that have them.
 
 ghost use Rattle.std.specs.Prelude.{◌≡◌, ◌<◌, IfOk, IfSome, drop, length};
 ghost use Rattle.wd_sort.specs.Codes.{IsCodingBelow};
@@ -18,8 +18,8 @@ pub struct Last {
     pub coding: Coding,
 }
 
-/// As `sorted_from`: by the codes of as many of the last columns as fit one number, and then stably
-/// by the columns before them. Where a column has no codes, by rows.
+/// Sorts as `sorted_from` does: by the codes of as many of the last columns as fit one number, and then stably by the columns before
+/// them. Where a column has no codes, it sorts by rows.
 pub fn sorted_by_columns(
     alloc: Global,
     rows: &RowSource,
@@ -43,8 +43,7 @@ pub fn sorted_by_columns(
     Ok(order)
 }
 
-/// The codes by the last columns, as many as fit one number of 64 bits; none where the last one has
-/// none.
+/// The codes by the last columns, as many as fit one number of 64 bits; `None` where the last one has no codes.
 pub fn last_coding(
     alloc: Global,
     rows: &RowSource,

@@ -8,8 +8,7 @@ use std::alloc::Global;
 use std::collections::HashMap;
 use wd_value::{OutOfMemory, Value};
 
-/// NULL, the truth values, and then the texts and whole numbers in the order in which they are met,
-/// with the place of each.
+/// NULL, the truth values, and then the texts and whole numbers in order of first appearance, with the place of each.
 #[derive(Drop)]
 pub struct Known<'a> {
     pub values: Vec<&'a Value>,
@@ -18,7 +17,7 @@ pub struct Known<'a> {
 }
 
 impl<'a> Known<'a> {
-    /// No text and no whole number so far. The hashes of those to come begin with this seed.
+    /// No text and no whole number yet. The seed is that of the hashes.
     pub fn new(
         alloc: Global,
         seeded: Seeded,
@@ -39,7 +38,7 @@ impl<'a> Known<'a> {
         })
     }
 
-    /// The place of a value, which is known from then on.
+    /// The place of a value, which is added if it is new.
     pub fn number_of(&mut self, value: &'a Value) -> Result<u64, OutOfMemory>
         requires { AreKnown self.old }
         ensures known { OnOk result (AreKnown self.new) }

@@ -1,4 +1,9 @@
 //! The positions of rows, sorted by columns.
+//!
+//! `sort` is the way in. Few rows are sorted by comparing them (`rows`); of many, `coding` makes numbers that compare as the values of a
+//! column do, of whole numbers by `whole` and of others by `numbering` with `known` and `ranks`, and `columns` sorts by as many columns
+//! at once as fit one number (`codes`). `all` codes whole rows. `apart` has numbers that only tell equal values from different ones,
+//! which need no order of texts. Hash maps are seeded by the data (`seeded`).
 #![tactic(auto)]
 
 mod all;

@@ -29,7 +29,7 @@ pub fn value_codes(
     known_codes(alloc, rows, column, positions, &null, known)
 }
 
-/// The ranks that are known before any row is met.
+/// The ranks of the values, from the distinct values already known.
 fn known_codes<'a>(
     alloc: Global,
     rows: &'a RowSource<'_>,
@@ -50,7 +50,7 @@ fn known_codes<'a>(
     Ok(Coding { codes, bound })
 }
 
-/// For each position the place of its value among those known.
+/// For each position the place of its value among the known ones.
 pub fn numbers_of<'a>(
     alloc: Global,
     rows: &'a RowSource<'_>,

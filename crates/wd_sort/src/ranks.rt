@@ -14,7 +14,7 @@ struct Entry<'a> {
     place: usize,
 }
 
-/// For each value how many steps up lead to it from the least; equal values have one rank.
+/// For each value how many distinct values are less than it; equal values have one rank.
 pub fn ranks_of(alloc: Global, values: &[&Value], key: SortKey) -> Result<Vec<u64>, OutOfMemory>
     ensures { IfOk result (λ v. AreRanks key values.now v.items) }
 {
@@ -28,7 +28,7 @@ pub fn ranks_of(alloc: Global, values: &[&Value], key: SortKey) -> Result<Vec<u6
     Ok(ranks)
 }
 
-/// 1 where the entry at a place is greater than the one before, else 0.
+/// 1 where the entry at a place is greater than the entry before, else 0.
 fn step_to(entries: &[Entry], key: SortKey, i: usize) -> u64
     requires { i < length entries.now }
     ensures is { result ≡ spec.step_to key (map (λ e. e.value.now) entries.now) i }

@@ -9,14 +9,14 @@ use std::cmp::Ordering;
 use wd_columns::RowSource;
 use wd_value::{Row, SortColumn, Value, compare};
 
-/// The rows at two positions by the columns, the first one on which they differ.
+/// The order of the rows at two positions by the columns: the first column on which they differ decides.
 pub fn compare_rows_at(rows: &[Row], columns: &[SortColumn], p: u64, q: u64) -> Ordering
     ensures { result ≡ sorting.compare_rows_at columns.now (rows_of rows.now) p q }
 {
     compare_source_at(&RowSource::of_rows(rows), columns, p, q)
 }
 
-/// As `compare_rows_at`, of rows however they are kept.
+/// As `compare_rows_at`, for rows in any form.
 pub fn compare_source_at(rows: &RowSource, columns: &[SortColumn], p: u64, q: u64) -> Ordering
     ensures { result ≡ sorting.compare_rows_at columns.now rows.now p q }
 {

@@ -1,29 +1,28 @@
-//! Hash maps over values that a stranger may have chosen.
+//! Hash maps over values that an attacker may have chosen.
 //!
-//! std's maps begin each hash with one fixed seed, so values can be chosen whose hashes fall together, and a map of them takes
-//! time that goes with the square of their number. Here the seed is itself a hash (SipHash) of all the values that are to be
-//! looked up: whoever changes a value changes the seed. Random numbers from the machine would serve as well, but the calls that
-//! use these maps are handed no machine.
+//! std's maps start each hash from one fixed seed, so values can be chosen whose hashes collide, and a map of them takes time quadratic
+//! in their number. Here the seed is itself a hash (SipHash) of all the values that will be looked up: whoever changes a value changes
+//! the seed. Random numbers from the machine would do as well, but the functions that use these maps have no access to the machine.
 
 use std::hash::{BuildHasher, DefaultHasher, FoldHasher, Hash, Hasher};
 use wd_columns::RowSource;
 use wd_value::Value;
 
-/// Makes hashers that begin with a seed.
+/// Makes hashers with a seed.
 #[derive(Clone, Copy)]
 pub struct Seeded {
     initial: FoldHasher,
 }
 
 impl Seeded {
-    /// With the hash of all that was written to a hasher as its seed.
+    /// Takes the hash of everything that was written to a hasher as the seed.
     pub fn by(all: &DefaultHasher) -> Seeded {
         let mut initial = FoldHasher::default();
         initial.write_u64(all.finish());
         Seeded { initial }
     }
 
-    /// With a hash of the values that stand in a column at these positions as its seed.
+    /// Takes a hash of the values of a column at these positions as the seed.
     pub(crate) fn by_column(rows: &RowSource, column: u16, positions: &[u64]) -> Seeded {
         let mut all = DefaultHasher::new();
         for i in 0..positions.len() {

@@ -10,12 +10,11 @@ use std::alloc::Global;
 use wd_columns::RowSource;
 use wd_value::{OutOfMemory, Row, SortColumn};
 
-/// Fewer positions are sorted by their rows: to find codes for them would take longer.
+/// Fewer positions than these are sorted by their rows: finding codes for them would take longer.
 const FEW: usize = 32;
 
-/// The positions of the rows, sorted by the first column and, where rows tie, by the next one; rows
-/// that tie on all of them stay as they were (a stable sort). Takes n log n comparisons, and time
-/// that goes with n for rows that are sorted already.
+/// The positions of the rows, sorted by the first column and, where rows tie, by the next one; rows that tie on all columns keep their
+/// order (a stable sort). Takes n log n comparisons, and linear time for rows that are sorted already.
 pub fn sorted_positions(
     alloc: Global,
     rows: &[Row],
@@ -28,9 +27,9 @@ pub fn sorted_positions(
     Ok(order)
 }
 
-/// The given positions, each as often as it is given, sorted by the columns of their rows; positions
-/// whose rows tie on all columns stay in the order given (a stable sort). A position past the last
-/// row stands for the row without columns. Takes time as `sorted_positions` does.
+/// The given positions, each as often as it is given, sorted by the columns of their rows; positions whose rows tie on all columns keep
+/// the given order (a stable sort). A position past the last row counts as the row without columns. Takes time as `sorted_positions`
+/// does.
 pub fn sorted_from(
     alloc: Global,
     rows: &[Row],
@@ -42,7 +41,7 @@ pub fn sorted_from(
     sorted_in(alloc, &RowSource::of_rows(rows), columns, positions)
 }
 
-/// As `sorted_from`, of rows however they are kept.
+/// As `sorted_from`, for rows in any form.
 pub fn sorted_in(
     alloc: Global,
     rows: &RowSource,
@@ -72,8 +71,7 @@ pub fn sorted_by_rows(
     Ok(order)
 }
 
-/// Whether the positions stand in the order of the columns; those whose rows tie may stand in any
-/// order.
+/// Whether the positions are in the order of the columns; positions whose rows tie may appear in any order.
 pub fn is_sorted(rows: &[Row], columns: &[SortColumn], positions: &[u64]) -> bool
     ensures { IsTrue result ↔ IsSorted (sorting.compare_rows_at columns.now (rows_of rows.now)) positions.now }
 {
@@ -85,7 +83,7 @@ pub fn is_sorted(rows: &[Row], columns: &[SortColumn], positions: &[u64]) -> boo
     true
 }
 
-/// The positions of so many rows, from the first to the last.
+/// The positions of `count` rows, from the first to the last.
 #[tactic(auto, using(crate::proofs::Positions::positions_push))]
 pub fn all_positions(alloc: Global, count: usize) -> Result<Vec<u64>, OutOfMemory>
     ensures { IfOk result (λ v. v.items ≡ positions count) }

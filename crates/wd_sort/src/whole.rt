@@ -10,7 +10,7 @@ use std::alloc::Global;
 use wd_columns::RowSource;
 use wd_value::{OutOfMemory, SortColumn, SortKey, Value};
 
-/// The least and the greatest whole number.
+/// A range of whole numbers, by the least and the greatest.
 #[derive(Clone, Copy)]
 pub struct Range {
     least: i64,
@@ -18,7 +18,7 @@ pub struct Range {
 }
 
 impl Range {
-    /// How far the greatest is from the least.
+    /// The difference of the greatest and the least.
     pub fn width(self) -> u64
         ensures { result ≡ unsigned_abs (self.greatest -ℤ self.least) }
     {
@@ -26,8 +26,7 @@ impl Range {
     }
 }
 
-/// The range of the whole numbers of a column, or that of 0 where all is NULL; none where it has
-/// other values than these.
+/// The range of the whole numbers of a column, or that of 0 alone where all values are NULL; `None` where it has other values.
 pub fn whole_range(rows: &RowSource, column: u16, positions: &[u64]) -> Option<Range>
     ensures { IfSome result (λ r. AreWhole r.least r.greatest column rows.now positions.now) }
 {
@@ -62,7 +61,7 @@ fn widened(range: Range, rows: &RowSource, column: u16, position: u64) -> Option
     }
 }
 
-/// For each position how far its value is along the range; none where the range is too wide.
+/// For each position how far its value is along the range; `None` where the range is too wide.
 pub fn whole_codes(
     alloc: Global,
     rows: &RowSource,
@@ -96,8 +95,7 @@ fn whole_code_at(rows: &RowSource, column: SortColumn, position: u64, range: Ran
     )
 }
 
-/// How far a value is from the range's start, or under DESC from its end, with a place for NULL in
-/// front or behind.
+/// How far a value is from the range's start, or under DESC from its end; NULL comes before or after all numbers.
 fn whole_code(value: &Value, key: SortKey, range: Range) -> u64
     requires narrow { unsigned_abs (range.greatest -ℤ range.least) + 1 < 2 ^ 64 }
     requires whole { IsWhole range.least range.greatest value.now }

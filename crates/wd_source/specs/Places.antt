@@ -7,17 +7,17 @@ use Rattle.wd_source.specs.declared.place.Position.{Position}
 abbrev pub line_feed : ℕ
 line_feed = 10
 
--- a byte with which a character begins: none of those that go on with one in UTF-8
+-- a byte with which a character begins: not one that continues a character in UTF-8
 abbrev pub begins_character : ℕ → Bool
 begins_character b = not (nat_le 128 b && nat_lt b 192)
 
--- the line in which a byte stands begins there: behind a line feed or at the text's start, and no line feed stands between
+-- the line of a byte begins there: after a line feed or at the text's start, and no line feed is between
 pub record IsLineStart (text : List ℕ) (place start : ℕ) : Type 0 where
   pub before : start ≤ place
   pub whole : (k : ℕ) → start ≤ k → k < place → slice_index text k ≢ line_feed
   pub begins : (start ≡ 0) ⊎ ((0 < start) × (slice_index text (start - 1) ≡ line_feed))
 
--- it ends there: at a line feed or at the text's end, and no line feed stands between
+-- the line of a byte ends there: at a line feed or at the text's end, and no line feed is between
 pub record IsLineEnd (text : List ℕ) (place end : ℕ) : Type 0 where
   pub behind : place ≤ end
   pub whole : (k : ℕ) → place ≤ k → k < end → slice_index text k ≢ line_feed

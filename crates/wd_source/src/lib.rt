@@ -1,4 +1,4 @@
-//! Where things stand in a text of SQL: its statements, and the lines and columns of its bytes.
+//! Places in a text of SQL: its statements, and the lines and columns of its bytes.
 #![tactic(auto)]
 
 mod place;

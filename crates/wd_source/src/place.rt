@@ -20,7 +20,7 @@ fn begins_character(b: u8) -> bool
     !(128 <= b && b < 192)
 }
 
-/// Where the line begins in which a byte stands.
+/// The byte at which the line of a byte begins.
 fn line_start(text: &[u8], place: usize) -> usize
     requires { place ≤ length text.now }
     ensures { IsLineStart text.now place result }
@@ -32,7 +32,7 @@ fn line_start(text: &[u8], place: usize) -> usize
     start
 }
 
-/// Where the line ends in which a byte stands.
+/// The byte at which the line of a byte ends.
 fn line_end(text: &[u8], place: usize) -> usize
     requires { place ≤ length text.now }
     ensures { IsLineEnd text.now place result }
@@ -44,7 +44,7 @@ fn line_end(text: &[u8], place: usize) -> usize
     end
 }
 
-/// The line around a byte of a text, without its line feed. The text's length is the place behind its last byte.
+/// The line around a byte of a text, without its line feed. The text's length is a place too: the one after its last byte.
 pub fn line_around(text: &[u8], place: usize) -> Span
     requires { place ≤ length text.now }
     ensures { IsLine text.now place result }
@@ -55,7 +55,7 @@ pub fn line_around(text: &[u8], place: usize) -> Span
     }
 }
 
-/// The line and the column of a byte of a text. A line feed ends a line; a column is a character, whose first byte counts.
+/// The line and the column of a byte of a text. A line feed ends a line; a column is a character, whose first byte is counted.
 pub fn position_at(text: &[u8], place: usize) -> Position
     requires { place ≤ length text.now }
     ensures { IsPosition text.now place result }
@@ -67,7 +67,7 @@ pub fn position_at(text: &[u8], place: usize) -> Position
     }
 }
 
-/// How many line feeds there are.
+/// How many line feeds a text has.
 fn feeds(text: &[u8]) -> u64
     ensures counted { result ≡ count_by (λ b. b == line_feed) text.now }
     ensures within { result ≤ length text.now }
@@ -75,7 +75,7 @@ fn feeds(text: &[u8]) -> u64
     text.iter().filter(|b| **b == b'\n').count() as u64
 }
 
-/// How many characters begin.
+/// How many characters begin in a text.
 fn characters(text: &[u8]) -> u64
     ensures counted { result ≡ count_by spec.begins_character text.now }
     ensures within { result ≤ length text.now }

@@ -9,9 +9,9 @@ use std::alloc::Global;
 use wd_lex::{LexError, Span, Terminal, Token, TokenKind, lex};
 use wd_value::OutOfMemory;
 
-/// Where the statements of a text stand, in their order: each with the semicolon that ends it, and with the white space and the
-/// comments before it. White space and comments alone are no statement. Semicolons in comments and within quotes end none. A
-/// text that has no tokens, for a refusal of 101 to 107, is one statement.
+/// The places of the statements of a text, in order: each with the semicolon that ends it, and with the white space and the comments
+/// before it. White space and comments alone are no statement. Semicolons in comments and within quotes end no statement. A text without
+/// tokens, because of a refusal of 101 to 107, is one statement.
 pub fn statements(alloc: Global, text: &[u8]) -> Result<Vec<Span>, OutOfMemory>
     ensures are { IfOk result (λ found. AreStatements text.now found.items) }
     ensures order { IfOk result (λ found. StandInOrder 0 found.items (length text.now)) }
@@ -35,7 +35,7 @@ fn is_semicolon(kind: &TokenKind) -> bool
     matches!(kind, TokenKind::Terminal(Terminal::Semicolon))
 }
 
-/// Adds the stretch between two places, where something stands in it.
+/// Adds the range between two places, if a statement has begun in it.
 fn add_begun(found: &mut Vec<Span>, begun: bool, start: u64, end: u64) -> Result<(), OutOfMemory>
     requires { start ≤ end }
     ensures added { IfOk result (λ _. found.new.items ≡ found.old.items ++ if_begun begun (record { start = start; end = end }) []) }
@@ -47,7 +47,7 @@ fn add_begun(found: &mut Vec<Span>, begun: bool, start: u64, end: u64) -> Result
     Ok(())
 }
 
-/// The statements of the tokens of a text that ends there.
+/// The statements of the tokens of a text that ends at a byte.
 fn cut(alloc: Global, end: u64, tokens: &[Token]) -> Result<Vec<Span>, OutOfMemory>
     requires { AreInOrder 0 tokens.now end }
     ensures are { IfOk result (λ found. found.items ≡ statements_from end 0 false tokens.now) }

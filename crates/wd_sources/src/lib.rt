@@ -1,4 +1,7 @@
-//! Files and folders, which of them hold queries, and where these queries' schemas may be.
+//! Files and folders, which of them hold queries, and where the schemas of these queries may be.
+//!
+//! `sources` is the interface to files and folders, and `machine` the one of the computer; `paths` says which files of a folder are
+//! checked, and where their schemas are looked for. Everything else of wdreport takes any `Sources`.
 #![tactic(auto)]
 
 mod machine;

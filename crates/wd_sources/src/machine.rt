@@ -1,4 +1,4 @@
-//! The files and folders of the machine.
+//! The files and folders of the computer.
 
 use crate::paths::{beside, folder_and_name, joined};
 use crate::sources::{Entry, STANDARD_INPUT, SourceError, Sources};
@@ -9,7 +9,7 @@ use std::path::PathBuf;
 use std::rt::Files;
 use std::{fs, io};
 
-/// The files and folders of the machine.
+/// The files and folders of the computer.
 #[derive(Drop)]
 pub struct MachineSources<'a, R> {
     rt: &'a R,
@@ -46,8 +46,8 @@ impl<R: Files + Input + AllocGlobal + Clone + Drop> Sources for MachineSources<'
         }
     }
 
-    // The bytes are written to a file beside it, which then takes its name. A link to a file stays, and the file is replaced. What is
-    // no file, as a folder or a device, is left alone.
+    // The bytes are written to a new file beside the old one, which then takes its name. A link to a file is kept, and the file it leads
+    // to is replaced. Anything but a file, as a folder or a device, is left alone.
     fn replace(&mut self, alloc: Global, path: &str, bytes: &[u8]) -> Result<(), SourceError> {
         let path = canonical(self.rt, path)?;
         let new = beside(alloc, path.as_str())?;
@@ -69,8 +69,8 @@ impl<R: Files + Input + AllocGlobal + Clone + Drop> Sources for MachineSources<'
         ))
     }
 
-    // One that is not there is made in the same way. A link that leads nowhere is left alone. A terminal, a pipe or a device gets the
-    // bytes as they are.
+    // A missing file is created in the same way. A link that leads nowhere is left alone. A terminal, a pipe or a device gets the bytes
+    // as they are.
     fn write(&mut self, alloc: Global, path: &str, bytes: &[u8]) -> Result<(), SourceError> {
         if is_stream(self.rt, path) {
             return done(pour(self.rt, path, bytes));
@@ -112,7 +112,7 @@ fn canonical<R: Files + AllocGlobal>(rt: &R, path: &str) -> Result<PathBuf, Sour
     }
 }
 
-/// Whether a path is that of something which is neither a file nor a folder: a terminal, a pipe or a device.
+/// Whether a path is neither that of a file nor of a folder: a terminal, a pipe or a device.
 fn is_stream<R: Files + AllocGlobal>(rt: &R, path: &str) -> bool {
     match fs::metadata(rt, path) {
         Ok(metadata) => !metadata.is_file() && !metadata.is_dir(),
@@ -126,7 +126,7 @@ fn pour<R: Files>(rt: &R, path: &str, bytes: &[u8]) -> io::Result<()> {
     stream.write_all(bytes)
 }
 
-/// That something is done, or why not.
+/// The result of an operation, as an error of sources.
 fn done(ended: io::Result<()>) -> Result<(), SourceError> {
     match ended {
         Ok(()) => Ok(()),
@@ -134,8 +134,8 @@ fn done(ended: io::Result<()>) -> Result<(), SourceError> {
     }
 }
 
-/// Writes bytes to a new file, which then takes a name, and with it the place of the file that has it. After an error that one is
-/// as it was, and the new one is not there.
+/// Writes bytes to a new file, which then takes a name and replaces the file of that name. After an error the old file is unchanged, and
+/// the new one is removed.
 fn put<R: Files>(
     rt: &R,
     path: &str,
@@ -157,7 +157,7 @@ fn put<R: Files>(
     written
 }
 
-/// Writes bytes to a new file, and waits until they are kept.
+/// Writes bytes to a new file, and waits until they are on the disk.
 fn fill<F: Write + OpenFile + Drop>(
     mut file: F,
     permissions: Option<Permissions>,
@@ -170,7 +170,7 @@ fn fill<F: Write + OpenFile + Drop>(
     file.sync_all()
 }
 
-/// What a file holds, up to so many bytes.
+/// The contents of a file, up to the given number of bytes.
 fn read_some<F: Read + Drop>(alloc: Global, file: F, most: u64) -> Result<Vec<u8>, SourceError> {
     let mut bytes = Vec::new(alloc);
     match file.take(most).read_to_end(&mut bytes) {
@@ -206,7 +206,7 @@ fn members<R: Files + AllocGlobal + Clone + Drop>(
     Ok(found)
 }
 
-/// Why the system does not hand something over, or write it.
+/// Why the system does not read something, or write it.
 fn reason_of(error: io::Error) -> SourceError {
     match error.kind() {
         io::ErrorKind::NotFound => SourceError::Missing,

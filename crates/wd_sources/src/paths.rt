@@ -1,4 +1,4 @@
-//! Which files are judged, and where their schemas may be.
+//! Which files are checked, and where their schemas may be.
 
 use crate::sources::{Entry, SourceError, Sources};
 use std::alloc::{AllocError, Global};
@@ -6,21 +6,21 @@ use std::alloc::{AllocError, Global};
 /// The most members of folders that are looked at.
 const MOST_MEMBERS: u32 = 1_000_000;
 
-/// The most folders that a folder is within.
+/// The most folders around a folder.
 const MOST_DEEP: usize = 64;
 
 /// A path to be looked at.
 #[derive(Drop)]
 struct Waiting {
     path: String,
-    /// How many folders were gone through to it.
+    /// How many folders lead to the path.
     depth: usize,
     /// Whether it is known to be a file.
     is_file: bool,
 }
 
-/// The paths of the files that are judged: a path of a file itself, and the files `*.sql` of a folder and of the folders in it, in
-/// the order of their names, but for those that are named `schema.sql`.
+/// The paths of the files that are checked: the path of a file itself, and the files `*.sql` of a folder and of the folders within it, in
+/// the order of their names, except those named `schema.sql`.
 pub fn files_at<S: Sources>(
     alloc: Global,
     sources: &mut S,
@@ -46,7 +46,7 @@ pub fn files_at<S: Sources>(
     Ok(found)
 }
 
-/// Looks at a path: a file is found, and the members of a folder wait, the first on top.
+/// Looks at a path: a file is found; the members of a folder are added to those that wait, the first on top.
 fn look<S: Sources>(
     alloc: Global,
     sources: &mut S,
@@ -84,7 +84,7 @@ fn add_members(
     Ok(())
 }
 
-/// Whether a file of a folder is judged.
+/// Whether a file of a folder is checked.
 fn is_query(name: &str) -> bool {
     name.ends_with(".sql") && name != "schema.sql"
 }
@@ -99,7 +99,7 @@ pub(crate) fn joined(alloc: Global, folder: &str, name: &str) -> Result<String, 
     Ok(path)
 }
 
-/// The folder that a path is in; none above the topmost.
+/// The folder of a path; `None` for the topmost.
 fn folder_of(path: &str) -> Option<&str> {
     if path.is_empty() {
         return None;
@@ -112,7 +112,7 @@ fn folder_of(path: &str) -> Option<&str> {
     }
 }
 
-/// The paths of schemas for a query: beside it, and in the folders above, the nearest first.
+/// The paths of schemas for a query: in its folder, and in the folders above, the nearest first.
 pub fn schemas_for(alloc: Global, query: &str) -> Result<Vec<String>, AllocError> {
     let mut found = Vec::new(alloc);
     let mut path = query;
@@ -135,7 +135,7 @@ pub(crate) fn folder_and_name(path: &str) -> (&str, &str) {
     }
 }
 
-/// The path of the new file that is to take the place of a file: `.NAME.wdreport-new` beside it.
+/// The path of the new file that will replace a file: `.NAME.wdreport-new` beside it.
 pub(crate) fn beside(alloc: Global, path: &str) -> Result<String, AllocError> {
     let (folder, name) = folder_and_name(path);
     let mut hidden = String::from_str(alloc, ".")?;

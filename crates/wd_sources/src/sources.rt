@@ -1,15 +1,15 @@
-//! Where files and folders come from.
+//! The interface to files and folders.
 
 use std::alloc::{AllocError, AllocFailed, Global};
 
-/// Why a file or a folder is not handed over, or a file not replaced.
+/// Why a file or a folder is not read, or a file not replaced.
 #[derive(Clone, Copy, Debug, PartialEq, Eq)]
 pub enum SourceError {
-    /// There is none of that path.
+    /// There is nothing at that path.
     Missing,
-    /// It is there and can't be read, or can't be written.
+    /// It exists, but can't be read or written.
     Failed,
-    /// The name that the new file has until it takes the place of the old one is another file's.
+    /// Another file has the name that the new file has until it replaces the old one.
     Taken,
     OutOfMemory,
 }
@@ -23,31 +23,30 @@ pub struct Entry {
 
 /// Files and folders by their paths.
 pub trait Sources {
-    /// The bytes of a file, but no more than so many of them. The path `-` is standard input, of which what is left is read.
+    /// The bytes of a file, at most `most` of them. The path `-` is standard input, of which the rest is read.
     fn read(&mut self, alloc: Global, path: &str, most: u64) -> Result<Vec<u8>, SourceError>;
 
-    /// The members of a folder, in any order; None where the path is that of a file.
+    /// The members of a folder, in any order; `None` where the path is that of a file.
     fn list(&mut self, alloc: Global, path: &str) -> Result<Option<Vec<Entry>>, SourceError>;
 
-    /// Writes other bytes into a file that is there. After an error it has those that it had.
+    /// Writes other bytes into an existing file. After an error it is unchanged.
     fn replace(&mut self, alloc: Global, path: &str, bytes: &[u8]) -> Result<(), SourceError>;
 
-    /// Writes bytes into a file, which is made where it is not there. After an error a file that was there has those that it had,
-    /// and one that was not there is not there.
+    /// Writes bytes into a file, which is created if it does not exist. After an error an existing file is unchanged, and a new one is
+    /// not there.
     fn write(&mut self, alloc: Global, path: &str, bytes: &[u8]) -> Result<(), SourceError>;
 
-    /// Takes a file away.
+    /// Removes a file.
     fn remove(&mut self, alloc: Global, path: &str) -> Result<(), SourceError>;
 
-    /// The path of a file that is the same for all spellings by which it can be named. The file itself need not be there, but its
-    /// folder.
+    /// The path of a file that does not depend on the spelling. The file itself need not exist, but its folder has to.
     fn resolved(&mut self, alloc: Global, path: &str) -> Result<String, SourceError>;
 }
 
 /// The path that stands for standard input.
 pub const STANDARD_INPUT: &str = "-";
 
-/// The most bytes of a query or a schema that are read: one more than a text may have that is judged.
+/// The most bytes of a query or a schema that are read: one more than a text may have.
 pub const MOST_BYTES: u64 = 65537;
 
 impl From<AllocError> for SourceError {

@@ -31,7 +31,7 @@ comparison_word LessOrEqual = codes " <= "
 comparison_word Greater = codes " > "
 comparison_word GreaterOrEqual = codes " >= "
 
--- within a text in quotes, a quote stands twice
+-- within a text in quotes, a quote is doubled
 abbrev pub quoted_char : ℕ → List ℕ
 quoted_char c = if nat_eq c 39 then codes "''" else encode_utf8 c
 
@@ -42,7 +42,8 @@ literal_word (Text text) = codes "'" ++ flat_map quoted_char (chars text) ++ cod
 literal_word (Truth true) = codes "TRUE"
 literal_word (Truth false) = codes "FALSE"
 
--- ---- how closely operators bind (SQL, boolean value expression; PG, Operator Precedence): OR 1, what needs no brackets 8
+-- ---- how closely operators bind (SQL, boolean value expression; PG, Operator Precedence): from 1 for OR to 8 for operands that need no
+-- brackets
 
 abbrev pub arithmetic_level : ArithmeticOp → ℕ
 arithmetic_level Add = 5
@@ -73,16 +74,16 @@ level (Case branch a b c) = 8
 
 -- ---- expressions
 
--- the words of an operand, in brackets where it binds less closely than its place asks
+-- the words of an operand, in brackets if it binds less closely than its place requires
 abbrev pub within : (asked : ℕ) → Expression → List (List ℕ) → List (List ℕ)
 within asked e words = if nat_lt (level e) asked then codes "(" ∷ (words ++ codes ")" ∷ []) else words
 
--- a further branch of a CASE goes on with it
+-- the word of a first branch of a CASE, and that of a further one
 abbrev pub branch_word : Branch → List ℕ
 branch_word First = codes "CASE WHEN "
 branch_word Later = codes " WHEN "
 
--- before and behind what stands behind a branch, where that is no further branch
+-- the words before and after the rest of a CASE, if that is no further branch
 abbrev pub else_word : Expression → List ℕ
 else_word (Case Later a b c) = []
 else_word e = codes " ELSE "
@@ -91,7 +92,7 @@ abbrev pub end_word : Expression → List ℕ
 end_word (Case Later a b c) = []
 end_word e = codes " END"
 
--- the words of an expression over columns of these names; an operator stands between its operands, with a blank on either side
+-- the words of an expression over columns of these names; an operator is between its operands, with a blank on either side
 abbrev pub spelled : (names : List (List ℕ)) → Expression → List (List ℕ)
 spelled names (Column c) = get_or names c (codes "?") ∷ []
 spelled names (Literal v kind) = literal_word v ∷ []
@@ -105,7 +106,7 @@ spelled names (IsNull a) = within 5 a (spelled names a) ++ codes " IS NULL" ∷ 
 spelled names (IsNotNull a) = within 5 a (spelled names a) ++ codes " IS NOT NULL" ∷ []
 spelled names (Case branch a b c) = branch_word branch ∷ (spelled names a ++ codes " THEN " ∷ (spelled names b ++ else_word c ∷ (spelled names c ++ end_word c ∷ [])))
 
--- words as long as they fit into so many bytes, and `..` in the place of the first that doesn't
+-- words as long as they fit into the given number of bytes, and `..` in place of the first that doesn't fit
 abbrev pub fitting : (room : ℕ) → List (List ℕ) → List ℕ
 fitting room [] = []
 fitting room (word ∷ words) = if nat_le (length word) room then word ++ fitting (room - length word) words else codes ".."
@@ -118,7 +119,7 @@ item_words names (item.Name c) = get_or names c (codes "?") ∷ []
 item_words names (item.Literal v) = literal_word v.now ∷ []
 item_words names (item.Operand asked e) = within asked (expression_of e.now) (spelled names (expression_of e.now))
 
--- the single word that an item is, where it is no operand
+-- the single word of an item other than an operand
 abbrev pub IsWordOf : (names : List (List ℕ)) → Item → List ℕ → Type 0
 IsWordOf names (item.Word word) text = text ≡ word.now
 IsWordOf names (item.Name c) text = text ≡ get_or names c (codes "?")

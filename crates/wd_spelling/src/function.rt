@@ -45,7 +45,7 @@ pub fn call_text(
     Ok(text)
 }
 
-/// A name between the brackets of a call, without its own; or dots in the place of one that has grown long, as the call of a call
+/// A name between the brackets of a call, without its own brackets; or dots in place of one that has grown long, as the call of a call
 /// does.
 fn short(name: &str) -> &str {
     if name.len() > MOST {
@@ -57,7 +57,7 @@ fn short(name: &str) -> &str {
     }
 }
 
-/// Adds the arguments of a call that are no column.
+/// Adds the arguments of a call that are not columns.
 fn add_others(alloc: Global, text: &mut String, function: &Function) -> Result<(), OutOfMemory> {
     match function {
         Function::Ranking(Ranking::Ntile(buckets)) => Ok(write!(text, "{buckets}")?),
@@ -70,7 +70,7 @@ fn add_others(alloc: Global, text: &mut String, function: &Function) -> Result<(
     }
 }
 
-/// Adds how many rows away a value stands, and what is given where there is none, but for one row and NULL.
+/// Adds how many rows away a value is, and the default; both only where they are not one row and NULL.
 fn add_shift(alloc: Global, text: &mut String, shift: &Shift) -> Result<(), OutOfMemory> {
     let offset = shift.offset;
     match (offset, &shift.default) {

@@ -1,7 +1,7 @@
 //! The expressions of a plan as a person reads them: in SQL, over the names of columns.
 //!
-//! `spell` goes over an expression by a loop, however deep it is, and stops where a line is full; `operator` and `literal` have the
-//! words. `names` gives a column of a plan's rows its name, with the words of `function` for calls.
+//! `spell` goes over an expression of any depth by a loop, and stops where a line is full; `operator` and `literal` have the words.
+//! `names` names the columns of a plan's rows, with the words of `function` for calls.
 #![tactic(auto)]
 
 mod function;

@@ -22,7 +22,7 @@ pub(crate) fn literal(alloc: Global, value: &Value) -> Result<String, OutOfMemor
     }
 }
 
-/// A text in which each quote stands twice.
+/// A text with each quote in it doubled.
 fn doubled(alloc: Global, text: &str) -> Result<String, OutOfMemory>
     ensures { IfOk result (λ s. string_bytes s ≡ flat_map spec.quoted_char (chars text.now)) }
 {
@@ -33,7 +33,7 @@ fn doubled(alloc: Global, text: &str) -> Result<String, OutOfMemory>
     Ok(inner)
 }
 
-/// Adds a character, a quote twice.
+/// Adds a character; a quote is doubled.
 fn add_char(inner: &mut String, c: char) -> Result<(), OutOfMemory>
     ensures { OnOk result (string_bytes inner.new ≡ string_bytes inner.old ++ spec.quoted_char c) }
 {

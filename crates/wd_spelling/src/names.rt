@@ -1,8 +1,8 @@
 //! The names of columns.
 //!
-//! A table's column has its own name, and the table's before it where a plan reads several; a table that is read several times has
-//! a number there: `orders#2.id`. A call has its words, and what a select list computes its own, in brackets where it is short, or
-//! else the column's number.
+//! A table's column has its own name, with the table's before it where a plan reads several tables; a table that is read several times
+//! has a number: `orders#2.id`. A call has its words; a column that a select list computes has its expression in brackets if that is
+//! short, or else the column's number.
 
 use crate::function::call_text;
 use crate::spell::spelled;
@@ -12,10 +12,10 @@ use wd_plan::{Expr, FrameFunction, Function, Group, GroupCall, Plan, Window};
 use wd_schema::Schema;
 use wd_value::{OutOfMemory, Text};
 
-/// The most bytes of an expression that serves as a name.
+/// The most bytes of an expression that is used as a name.
 const SHORT: usize = 80;
 
-/// What each table is called that a plan reads, from left to right.
+/// The name of each table that a plan reads, from left to right.
 pub fn table_names(alloc: Global, schema: &Schema, plan: &Plan) -> Result<Vec<Text>, OutOfMemory> {
     let mut scans = Vec::new(alloc);
     add_scans(&mut scans, plan)?;
@@ -50,7 +50,7 @@ fn add_scans(scans: &mut Vec<u16>, plan: &Plan) -> Result<(), OutOfMemory> {
     }
 }
 
-/// So many zeros.
+/// The given number of zeros.
 fn zeros(alloc: Global, count: usize) -> Result<Vec<u64>, OutOfMemory> {
     let mut counts = Vec::new(alloc);
     for _ in 0..count {
@@ -59,7 +59,7 @@ fn zeros(alloc: Global, count: usize) -> Result<Vec<u64>, OutOfMemory> {
     Ok(counts)
 }
 
-/// Counts a table once more; how often it is counted then.
+/// Counts a table once more; the result is its count.
 fn counted(counts: &mut Vec<u64>, table: u16) -> u64 {
     match counts.get_mut(usize::from(table)) {
         Some(count) => {
@@ -70,7 +70,7 @@ fn counted(counts: &mut Vec<u64>, table: u16) -> u64 {
     }
 }
 
-/// What a table is called, with its number where it is read more than once.
+/// The name of a table, with its number if it is read more than once.
 fn table_name(
     alloc: Global,
     schema: &Schema,
@@ -115,7 +115,7 @@ fn is_word(name: &[u8]) -> bool {
     }
 }
 
-/// The names of a table's columns, behind what the table is called where that tells them apart.
+/// The names of a table's columns, after the table's name where several tables are read.
 pub fn scan_names(
     alloc: Global,
     schema: &Schema,
@@ -132,7 +132,7 @@ pub fn scan_names(
     Ok(names)
 }
 
-/// A column's name behind its table's.
+/// A column's name, after its table's if that is given.
 fn qualified(alloc: Global, called: Option<&str>, own: String) -> Result<Text, OutOfMemory> {
     match called {
         None => Ok(Text::new(alloc, own)?),
@@ -143,7 +143,7 @@ fn qualified(alloc: Global, called: Option<&str>, own: String) -> Result<Text, O
     }
 }
 
-/// The names of what a select list gives over columns of these names.
+/// The names of the outputs of a select list over columns of these names.
 pub fn output_names(
     alloc: Global,
     names: &[Text],
@@ -156,7 +156,7 @@ pub fn output_names(
     Ok(given)
 }
 
-/// The name of an output, which has this number from 0.
+/// The name of an output with this number, from 0.
 fn output_name(
     alloc: Global,
     names: &[Text],
@@ -217,7 +217,7 @@ fn grouping_text(alloc: Global, names: &[Text], columns: &[u16]) -> Result<Strin
     Ok(text)
 }
 
-/// The names of a Window's columns: those of its input, and behind them its calls.
+/// The names of a Window's columns: those of its input, followed by those of its calls.
 pub fn window_names(
     alloc: Global,
     names: &[Text],

@@ -81,7 +81,7 @@ pub(crate) fn branch_word(branch: Branch) -> &'static str
     }
 }
 
-/// What stands before the rest of a CASE behind a branch.
+/// The words between a branch of a CASE and the rest.
 pub(crate) fn else_word(rest: &Expr) -> &'static str
     ensures { result.now ≡ spec.else_word (expression_of rest.now) }
 {
@@ -91,7 +91,7 @@ pub(crate) fn else_word(rest: &Expr) -> &'static str
     }
 }
 
-/// What stands behind it.
+/// The words after the rest of a CASE.
 pub(crate) fn end_word(rest: &Expr) -> &'static str
     ensures { result.now ≡ spec.end_word (expression_of rest.now) }
 {

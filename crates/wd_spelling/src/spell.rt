@@ -1,5 +1,4 @@
-//! Expressions, word by word. What is still to be written stands on the heap, and takes nothing of the stack however deep an
-//! expression is.
+//! Expressions, word by word. The words still to be written wait on the heap, so the depth of the expression takes no stack.
 
 ghost use Rattle.std.specs.Prelude.{◌≡◌, ℕ, ◌+◌, ◌*◌, ◌≤◌, ◌++◌, [], ◌∷◌, List, get_or, codes, string_bytes, IfOk, OnOk, if◌then◌else◌};
 ghost use Rattle.std.specs.List.{sum_by};
@@ -16,7 +15,7 @@ use std::alloc::Global;
 use wd_plan::{Branch, Expr};
 use wd_value::{OutOfMemory, Text, Value};
 
-/// How many bytes of an expression are written.
+/// The most bytes of an expression that are written.
 const ROOM: usize = 200;
 
 /// What is still to be written.
@@ -26,12 +25,12 @@ enum Item<'e> {
     /// The name of a column.
     Name(u16),
     Literal(&'e Value),
-    /// An operand, in brackets where it binds less closely than that.
+    /// An operand, in brackets if it binds less closely than this.
     Operand(u8, &'e Expr),
 }
 
-/// An expression as it is written in SQL, over columns of these names: its words as long as they fit into 200 bytes, and `..` in
-/// the place of the first that doesn't.
+/// An expression as SQL, over columns of these names: its words as long as they fit into 200 bytes, and `..` in place of the first that
+/// doesn't fit.
 #[tactic(auto, using(crate::proofs::Waiting::waiting_push))]
 pub fn spelled(alloc: Global, names: &[Text], expression: &Expr) -> Result<String, OutOfMemory>
     ensures { IfOk result (λ s. string_bytes s ≡ fitting ROOM (spec.spelled names.now (expression_of expression.now))) }
@@ -53,7 +52,7 @@ pub fn spelled(alloc: Global, names: &[Text], expression: &Expr) -> Result<Strin
     Ok(text)
 }
 
-/// Adds a word where there is room for it, and else `..`; whether there is.
+/// Adds a word if there is room for it, or else `..`; the result is whether there was room.
 fn add_word(text: &mut String, room: &mut usize, word: &str) -> Result<bool, OutOfMemory>
     ensures { IfOk result (λ fits. (rest : List (List ℕ)) → string_bytes text.old ++ fitting room.old (word.now ∷ rest) ≡ string_bytes text.new ++ (if fits then fitting room.new rest else [])) }
 {
@@ -66,7 +65,7 @@ fn add_word(text: &mut String, room: &mut usize, word: &str) -> Result<bool, Out
     Ok(true)
 }
 
-/// A word, a name or a literal; an operand is none of them.
+/// The word of a word, a name or a literal; an operand has none.
 fn word_of<'e>(alloc: Global, names: &[Text], item: Item<'e>) -> Result<String, OutOfMemory>
     ensures { IfOk result (λ s. IsWordOf names.now item.entry (string_bytes s)) }
 {
@@ -88,7 +87,7 @@ pub(crate) fn name_of(names: &[Text], column: u16) -> &str
     }
 }
 
-/// Puts an item before all that waits.
+/// Adds an item before all that wait.
 #[tactic(auto, using(crate::proofs::Waiting::waiting_push))]
 fn push<'e>(waiting: &mut Vec<Item<'e>>, item: Item<'e>) -> Result<(), OutOfMemory>
     ensures words { OnOk result ((names : List (List ℕ)) → waiting_words names waiting.new.items ≡ item_words names item.entry ++ waiting_words names waiting.old.items) }
@@ -97,7 +96,7 @@ fn push<'e>(waiting: &mut Vec<Item<'e>>, item: Item<'e>) -> Result<(), OutOfMemo
     Ok(waiting.push(item)?)
 }
 
-/// Puts the words of an operand before all that waits.
+/// Adds the words of an operand before all that wait.
 fn add_operand<'e>(
     waiting: &mut Vec<Item<'e>>,
     asked: u8,
@@ -115,7 +114,7 @@ fn add_operand<'e>(
     }
 }
 
-/// Puts the words of an expression before all that waits, without brackets.
+/// Adds the words of an expression before all that wait, without brackets.
 fn add_parts<'e>(waiting: &mut Vec<Item<'e>>, expression: &'e Expr) -> Result<(), OutOfMemory>
     ensures words { OnOk result ((names : List (List ℕ)) → waiting_words names waiting.new.items ≡ spec.spelled names (expression_of expression.now) ++ waiting_words names waiting.old.items) }
     ensures weight { OnOk result (sum_by item_weight waiting.new.items + 3 ≤ sum_by item_weight waiting.old.items + 4 * steps (expression_of expression.now)) }
@@ -138,7 +137,7 @@ fn add_parts<'e>(waiting: &mut Vec<Item<'e>>, expression: &'e Expr) -> Result<()
     }
 }
 
-/// Puts a word and the operand behind it before all that waits.
+/// Adds a word and the operand after it before all that wait.
 fn add_prefixed<'e>(
     waiting: &mut Vec<Item<'e>>,
     word: &'static str,
@@ -152,7 +151,7 @@ fn add_prefixed<'e>(
     push(waiting, Item::Word(word))
 }
 
-/// Puts an operand and the test behind it before all that waits.
+/// Adds an operand and the test after it before all that wait.
 fn add_tested<'e>(
     waiting: &mut Vec<Item<'e>>,
     a: &'e Expr,
@@ -165,7 +164,7 @@ fn add_tested<'e>(
     push(waiting, Item::Operand(5, a))
 }
 
-/// Puts two operands with a word between them before all that waits.
+/// Adds two operands with a word between them before all that wait.
 fn add_two<'e>(
     waiting: &mut Vec<Item<'e>>,
     first: u8,
@@ -182,7 +181,7 @@ fn add_two<'e>(
     push(waiting, Item::Operand(first, a))
 }
 
-/// Puts a branch of a CASE, and the rest behind it, before all that waits.
+/// Adds a branch of a CASE, and the rest after it, before all that wait.
 fn add_branch<'e>(
     waiting: &mut Vec<Item<'e>>,
     branch: Branch,

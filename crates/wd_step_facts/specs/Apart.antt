@@ -1,19 +1,19 @@
--- The marks by which sets of columns are told apart.
+-- The marks by which sets of columns are distinguished.
 use Rattle.std.specs.Prelude.{ℕ, Bool, true, false, not, ◌&&◌, ◌||◌, if◌then◌else◌, List, [], ◌∷◌, ◌++◌, map, Vec}
 use Rattle.std.specs.Global.{Global}
 use Rattle.std.specs.List.{list_all}
 use Rattle.wd_plan.specs.Plans.{has}
 
--- a list, and then those of the columns that it has not, each once
+-- a list, followed by the columns that it does not have, each once
 abbrev pub with_new : List ℕ → List ℕ → List ℕ
 with_new [] list = list
 with_new (c ∷ columns) list = with_new columns (if has list c then list else list ++ c ∷ [])
 
--- for each of the columns whether a set has it
+-- for each of the columns, whether a set has it
 abbrev pub marks : List ℕ → List ℕ → List Bool
 marks columns set = map (has set) columns
 
--- rows of marks that differ at a place which both have
+-- rows of marks that differ at a place that both have
 abbrev pub differ : List Bool → List Bool → Bool
 differ (a ∷ xs) (b ∷ ys) = (if a then not b else b) || differ xs ys
 differ xs ys = false

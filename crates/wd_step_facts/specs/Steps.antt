@@ -25,7 +25,7 @@ use Rattle.wd_step_facts.specs.Facts.{Fact, columns_named, is_column, is_plain, 
 
 -- ---- expressions
 
--- what an expression is, for facts: a column, a literal, or another one
+-- what an expression is, for facts: a column, a literal, or anything else
 pub data Side : Type 0 where
   Plain : ℕ → Side
   Fixed : Value → Side
@@ -84,13 +84,13 @@ fixed_fact c = record { from = []; to = member.Column c ∷ [] }
 abbrev pub column_fact : ℕ → ℕ → Fact
 column_fact c d = record { from = member.Column c ∷ []; to = member.Column d ∷ [] }
 
--- what equals column c: `c = d` is that c gives d, then that d gives c; `c = literal` that nothing gives c
+-- from `c = d`: c determines d, and d determines c; from `c = literal`: the empty set determines c
 abbrev pub facts_of_equal : ℕ → Side → List Fact
 facts_of_equal c (Plain d) = column_fact c d ∷ column_fact d c ∷ []
 facts_of_equal c (Fixed v) = fixed_fact c ∷ []
 facts_of_equal c Other = []
 
--- what equals a literal
+-- from `literal = c`: the empty set determines c
 abbrev pub facts_of_fixed : Side → List Fact
 facts_of_fixed (Plain d) = fixed_fact d ∷ []
 facts_of_fixed (Fixed w) = []
@@ -109,7 +109,7 @@ comparison_facts op.LessOrEqual a b = []
 comparison_facts op.Greater a b = []
 comparison_facts op.GreaterOrEqual a b = []
 
--- `c IS NULL`: nothing gives c
+-- from `c IS NULL`: the empty set determines c
 abbrev pub null_facts : Side → List Fact
 null_facts (Plain c) = fixed_fact c ∷ []
 null_facts (Fixed v) = []
@@ -136,7 +136,7 @@ is_side c (Plain d) = nat_eq c d
 is_side c (Fixed v) = false
 is_side c Other = false
 
--- a column is no NULL where it is a side of a comparison that is true, or IS NOT NULL is
+-- a column is not NULL where it is a side of a true comparison, or of a true IS NOT NULL
 abbrev pub rules_out_null : ℕ → Expression → Bool
 rules_out_null c (Column d) = false
 rules_out_null c (Literal v kind) = false
@@ -175,7 +175,7 @@ both_copied None rest = None
 both_copied (Some d) None = None
 both_copied (Some d) (Some Y) = Some (d ∷ Y)
 
--- the columns by their copies, if each has one
+-- the copies of the columns, if each has one
 abbrev pub copies : List Expression → List ℕ → Option (List ℕ)
 copies outputs [] = Some []
 copies outputs (c ∷ X) = both_copied (copy_from 0 outputs c) (copies outputs X)
@@ -188,11 +188,11 @@ abbrev pub copied_keys : List Expression → List (List ℕ) → List (List ℕ)
 copied_keys outputs [] = []
 copied_keys outputs (X ∷ keys) = if_copied (copies outputs X) (copied_keys outputs keys)
 
--- the inputs that output j uses give it; input c is column m + c
+-- the inputs that output j uses determine it; input c has the number m + c
 abbrev pub used_fact : ℕ → ℕ → Expression → Fact
 used_fact m j e = record { from = columns_named (map (λ c. m + c) (used e)); to = member.Column j ∷ [] }
 
--- a plain column gives the input that it copies
+-- an output that is a column determines the input that it copies
 abbrev pub copy_facts : ℕ → ℕ → Side → List Fact
 copy_facts m j (Plain c) = column_fact j (m + c) ∷ []
 copy_facts m j (Fixed v) = []
@@ -212,7 +212,7 @@ abbrev pub is_call_not_null : Option Call → Bool
 is_call_not_null None = false
 is_call_not_null (Some call) = not (signature (name_of call.function)).nullable
 
--- the frame keeps a row's peers all or none
+-- the frame has either all of a row's peers or none
 abbrev pub keeps_peers_whole : Exclusion → Bool
 keeps_peers_whole exclude.NoOthers = true
 keeps_peers_whole exclude.CurrentRow = false
@@ -222,11 +222,11 @@ keeps_peers_whole exclude.Ties = false
 abbrev pub goes_by_key : Frame → Bool
 goes_by_key frame = is_stable frame && keeps_peers_whole frame.exclusion
 
--- of a call with column w: its class's columns give w
+-- of a call with column w: the columns of its class determine w
 abbrev pub value_fact : ClassRule → ℕ → Fact
 value_fact class w = record { from = columns_named (class_columns class); to = member.Column w ∷ [] }
 
--- partition and w give the order columns
+-- the partition and w determine the order columns
 abbrev pub rank_fact : ClassRule → ℕ → Fact
 rank_fact class w = record { from = columns_named (class.partition ++ w ∷ []); to = columns_named (order_columns class) }
 
@@ -257,7 +257,7 @@ calls_facts rule w (call ∷ calls) = call_facts (class_at rule call.class) call
 abbrev pub all_columns : ℕ → List ℕ
 all_columns n = range_with_len 0 n
 
--- one of two sets has the column, and the other one has not
+-- exactly one of two sets has the column
 abbrev pub differ_in : List ℕ → List ℕ → ℕ → Bool
 differ_in set other c = if has set c then not (has other c) else has other c
 
@@ -275,24 +275,24 @@ grouping_columns w [] = []
 grouping_columns w (OfRows a ∷ calls) = grouping_columns (w + 1) calls
 grouping_columns w (Grouping arguments ∷ calls) = w ∷ grouping_columns (w + 1) calls
 
--- every two sets differ in one of the columns: a repeated set never does
+-- every two sets differ in one of the columns; a repeated set differs from its copy in none
 abbrev pub are_told_apart : List ℕ → List (List ℕ) → Bool
 are_told_apart columns [] = true
 are_told_apart columns (set ∷ sets) = list_all (λ other. list_any (differ_in set other) columns) sets && are_told_apart columns sets
 
--- the grouping columns, and with several sets the GROUPING columns
+-- the grouping columns, and with several sets also the GROUPING columns
 abbrev pub group_key : GroupRule → List ℕ
 group_key g = all_columns g.columns ++ (if nat_lt 1 (length g.sets) then grouping_columns g.columns g.calls else [])
 
--- they give the row where every two sets differ in an argument of GROUPING, as where there is one set
+-- the key determines the row where every two sets differ in an argument of GROUPING, as with one set
 abbrev pub group_key_facts : GroupRule → List Fact
 group_key_facts g = if are_told_apart (grouping_arguments g.calls) g.sets then key_fact member.Row (group_key g) ∷ [] else []
 
--- of a fact whose left side is of the first so many columns, the targets that are such columns or the row
+-- from a fact whose left side is among the first columns, its targets that are such columns or the row
 abbrev pub cut_fact : ℕ → Fact → List Fact
 cut_fact columns fact = if list_all (is_column columns) fact.from then record { from = fact.from; to = filter (is_plain columns) fact.to } ∷ [] else []
 
--- with one set, what the child keeps of the grouping columns
+-- with one set, the facts of the grouping columns that the child keeps
 abbrev pub facts_of_group : GroupRule → List Fact → List Fact
 facts_of_group g kept = if nat_eq (length g.sets) 1 then flat_map (cut_fact g.columns) kept else []
 

@@ -1,5 +1,5 @@
-//! Whether the calls of GROUPING tell the sets of a Group apart. Each column is looked up once in each set; then sets are compared by
-//! the marks of their columns.
+//! Whether the calls of GROUPING distinguish the sets of a Group. Each column is looked up once in each set; then the sets are compared
+//! by the marks of their columns.
 
 ghost use Rattle.std.specs.Prelude.{◌≡◌, [], map, IfOk};
 ghost use Rattle.std.specs.List.{list_all};
@@ -25,7 +25,7 @@ pub fn are_told_apart(
     Ok(are_apart(&marked))
 }
 
-/// The columns that stand as arguments of GROUPING, each once.
+/// The columns that are arguments of GROUPING, each once.
 fn arguments(alloc: Global, calls: &[GroupCall]) -> Result<Vec<u16>, OutOfMemory>
     ensures { IfOk result (λ v. v.items ≡ with_new (spec.grouping_arguments (map group_call_of calls.now)) []) }
 {
@@ -36,7 +36,7 @@ fn arguments(alloc: Global, calls: &[GroupCall]) -> Result<Vec<u16>, OutOfMemory
     Ok(list)
 }
 
-/// Appends those of a call's arguments that the list has not.
+/// Appends the arguments of a call that the list does not have.
 fn add_arguments(call: &GroupCall, list: &mut Vec<u16>) -> Result<(), OutOfMemory>
     ensures { IfOk result (λ _. list.new.items ≡ with_new (spec.grouping_arguments_of (group_call_of call.now)) list.old.items) }
 {
@@ -46,7 +46,7 @@ fn add_arguments(call: &GroupCall, list: &mut Vec<u16>) -> Result<(), OutOfMemor
     }
 }
 
-/// Appends those of the columns that the list has not.
+/// Appends the columns that the list does not have.
 fn add_new(columns: &[u16], list: &mut Vec<u16>) -> Result<(), OutOfMemory>
     ensures { IfOk result (λ _. list.new.items ≡ with_new columns.now list.old.items) }
 {
@@ -73,7 +73,7 @@ fn all_marks(
     Ok(marked)
 }
 
-/// For each of the columns whether the set has it.
+/// For each of the columns, whether the set has it.
 fn marks_of(alloc: Global, set: &[u16], columns: &[u16]) -> Result<Vec<bool>, OutOfMemory>
     ensures { IfOk result (λ v. v.items ≡ marks columns.now set.now) }
 {
@@ -96,7 +96,7 @@ fn are_apart(marked: &[Vec<bool>]) -> bool
     true
 }
 
-/// Whether a row of marks differs from each of others.
+/// Whether a row of marks differs from each of the others.
 fn differs_from_each(marks: &[bool], others: &[Vec<bool>]) -> bool
     ensures { result ≡ list_all (differ marks.now) (marked_sets others.now) }
 {

@@ -23,7 +23,7 @@ fn keeps_peers_whole(exclusion: Exclusion) -> bool
     }
 }
 
-/// Whether peers see one frame.
+/// Whether peers have one frame.
 fn goes_by_key(frame: Frame) -> bool
     ensures { result ≡ spec.goes_by_key frame }
 {
@@ -52,7 +52,7 @@ fn class_columns(alloc: Global, class: &Class) -> Result<Vec<u16>, OutOfMemory>
     Ok(columns)
 }
 
-/// That the class's columns give the call's.
+/// The fact that the class's columns determine the call's column.
 fn value_fact(alloc: Global, class: &Class, column: u16) -> Result<Given, OutOfMemory>
     ensures { IfOk result (λ g. fact_of g ≡ spec.value_fact (class_of class.now) column) }
 {
@@ -62,7 +62,7 @@ fn value_fact(alloc: Global, class: &Class, column: u16) -> Result<Given, OutOfM
     Ok(Given { from, to })
 }
 
-/// The partition's columns and the call's, as members.
+/// The partition's columns and the call's column, as members.
 fn partition_and(alloc: Global, class: &Class, column: u16) -> Result<Vec<Member>, OutOfMemory>
     ensures { IfOk result (λ v. v.items ≡ columns_named ((class_of class.now).partition ++ column ∷ [])) }
 {
@@ -72,7 +72,7 @@ fn partition_and(alloc: Global, class: &Class, column: u16) -> Result<Vec<Member
     Ok(list)
 }
 
-/// That the partition's columns and the call's give the row.
+/// The fact that the partition's columns and the call's column determine the row.
 fn number_fact(alloc: Global, class: &Class, column: u16) -> Result<Given, OutOfMemory>
     ensures { IfOk result (λ g. fact_of g ≡ key_fact member.Row ((class_of class.now).partition ++ column ∷ [])) }
 {
@@ -81,7 +81,7 @@ fn number_fact(alloc: Global, class: &Class, column: u16) -> Result<Given, OutOf
     Ok(Given { from, to })
 }
 
-/// That the partition's columns and the call's give the sort keys'.
+/// The fact that the partition's columns and the call's column determine the sort keys' columns.
 fn rank_fact(alloc: Global, class: &Class, column: u16) -> Result<Given, OutOfMemory>
     ensures { IfOk result (λ g. fact_of g ≡ spec.rank_fact (class_of class.now) column) }
 {
@@ -91,7 +91,7 @@ fn rank_fact(alloc: Global, class: &Class, column: u16) -> Result<Given, OutOfMe
     Ok(Given { from, to })
 }
 
-/// Appends that the class's columns give a call's over a frame that peers share.
+/// Appends that the class's columns determine the call's column, where peers have one frame.
 fn add_over_frame(
     alloc: Global,
     class: &Class,
@@ -108,7 +108,7 @@ fn add_over_frame(
     Ok(())
 }
 
-/// Appends that the class's columns give a rank, and what a rank gives.
+/// Appends that the class's columns determine a rank, and what a rank determines.
 fn add_rank(
     alloc: Global,
     class: &Class,
@@ -124,7 +124,7 @@ fn add_rank(
     Ok(())
 }
 
-/// Appends the facts of a ranking function with this column.
+/// Appends the facts of a ranking function whose call has this column.
 fn add_ranking(
     alloc: Global,
     class: &Class,
@@ -148,7 +148,7 @@ fn add_ranking(
     }
 }
 
-/// Appends the facts of a call with this column.
+/// Appends the facts of a call that has this column.
 fn add_call(
     alloc: Global,
     class: &Class,
@@ -188,7 +188,7 @@ fn add_call_of(
     Ok(())
 }
 
-/// The facts of a Window's calls, whose columns begin with this one.
+/// The facts of a Window's calls; the first call has the column `first`.
 #[tactic(auto, using(crate::proofs::Added::calls_next))]
 fn calls_facts(alloc: Global, window: &Window, first: u16) -> Result<Vec<Given>, OutOfMemory>
     requires named { NamesClasses (window_of window.now) }
@@ -204,10 +204,10 @@ fn calls_facts(alloc: Global, window: &Window, first: u16) -> Result<Vec<Given>,
     Ok(list)
 }
 
-/// Appends the facts of a Window's calls, whose columns begin with this one.
+/// Appends the facts of a Window's calls; the first call has the column `first`.
 ///
 /// # Errors
-/// Where memory runs out; the list is then as it was.
+/// Where memory runs out; the list is then unchanged.
 pub fn add_calls(
     alloc: Global,
     window: &Window,

@@ -11,7 +11,7 @@ use std::alloc::Global;
 use wd_plan::{ComparisonOp, Expr};
 use wd_value::OutOfMemory;
 
-/// Appends what it says that the other side equals this column.
+/// Appends what follows where the other side equals this column.
 fn add_equal(
     alloc: Global,
     column: u16,
@@ -34,7 +34,7 @@ fn add_equal(
     }
 }
 
-/// Appends what it says that the other side equals a literal.
+/// Appends what follows where the other side equals a literal.
 fn add_equal_to_literal(
     alloc: Global,
     other: &Expr,
@@ -85,7 +85,7 @@ fn add_comparison(
     }
 }
 
-/// Appends what it says that the side is NULL.
+/// Appends what follows where the side is NULL.
 fn add_null(alloc: Global, a: &Expr, list: &mut Vec<Given>) -> Result<(), OutOfMemory>
     ensures { IfOk result (λ _. map fact_of list.new.items ≡ map fact_of list.old.items ++ spec.null_facts (spec.side_of (expression_of a.now))) }
 {
@@ -114,7 +114,7 @@ fn add_conjunct(alloc: Global, conjunct: &Expr, list: &mut Vec<Given>) -> Result
     }
 }
 
-/// Appends the facts of a condition's conjuncts to what is gathered.
+/// Appends the facts of a condition's conjuncts to those gathered before.
 #[tactic(auto, using(crate::proofs::Appended::conjuncts_append))]
 fn gather_conjuncts(
     alloc: Global,
@@ -139,7 +139,7 @@ fn gather_conjuncts(
 /// Appends the facts of a condition's conjuncts.
 ///
 /// # Errors
-/// Where memory runs out; the list is then as it was.
+/// Where memory runs out; the list is then unchanged.
 pub fn add_conjuncts(
     alloc: Global,
     condition: &Expr,
@@ -156,7 +156,7 @@ pub fn add_conjuncts(
 /// Appends the facts of the conjuncts of a Join's condition, if it has one.
 ///
 /// # Errors
-/// Where memory runs out; the list is then as it was.
+/// Where memory runs out; the list is then unchanged.
 pub fn add_join_conjuncts(
     alloc: Global,
     condition: &Option<Expr>,

@@ -34,7 +34,7 @@ fn add_grouping_columns(
     Ok(())
 }
 
-/// The grouping columns, and with several sets the GROUPING columns.
+/// The grouping columns, and with several sets also the GROUPING columns.
 fn group_key(alloc: Global, group: &Group) -> Result<Vec<u16>, OutOfMemory>
     requires { group.now.columns + length group.now.calls.items < 65536 }
     ensures { IfOk result (λ v. v.items ≡ spec.group_key (grouping_of group.now)) }
@@ -46,7 +46,7 @@ fn group_key(alloc: Global, group: &Group) -> Result<Vec<u16>, OutOfMemory>
     Ok(key)
 }
 
-/// Appends that these columns give the row, where GROUPING tells the sets apart.
+/// Appends that these columns determine the row, where GROUPING distinguishes the sets.
 fn add_group_key(alloc: Global, group: &Group, list: &mut Vec<Given>) -> Result<(), OutOfMemory>
     requires { group.now.columns + length group.now.calls.items < 65536 }
     ensures { IfOk result (λ _. map fact_of list.new.items ≡ map fact_of list.old.items ++ spec.group_key_facts (grouping_of group.now)) }
@@ -58,7 +58,7 @@ fn add_group_key(alloc: Global, group: &Group, list: &mut Vec<Given>) -> Result<
     Ok(())
 }
 
-/// Whether a member is one of the first so many columns.
+/// Whether a member is one of the first `columns` columns.
 fn is_column(columns: u16, member: Member) -> bool
     ensures { result ≡ facts_spec.is_column columns member }
 {
@@ -68,7 +68,7 @@ fn is_column(columns: u16, member: Member) -> bool
     }
 }
 
-/// Whether it is one of them or the row.
+/// Whether a member is one of the first `columns` columns or the row.
 fn is_plain(columns: u16, member: Member) -> bool
     ensures { result ≡ facts_spec.is_plain columns member }
 {
@@ -90,7 +90,7 @@ fn are_columns(columns: u16, list: &[Member]) -> bool
     true
 }
 
-/// Those of the members that are one of the first so many columns or the row.
+/// The members that are one of the first `columns` columns or the row.
 pub fn cut_members(alloc: Global, columns: u16, list: &[Member]) -> Result<Vec<Member>, OutOfMemory>
     ensures { IfOk result (λ v. v.items ≡ filter (facts_spec.is_plain columns) list.now) }
 {
@@ -103,7 +103,7 @@ pub fn cut_members(alloc: Global, columns: u16, list: &[Member]) -> Result<Vec<M
     Ok(cut)
 }
 
-/// Appends a fact of the first so many columns, with the targets that are such columns or the row.
+/// Appends a fact over the first `columns` columns, with the targets that are such columns or the row.
 fn add_cut_fact(
     alloc: Global,
     columns: u16,
@@ -120,7 +120,7 @@ fn add_cut_fact(
     Ok(())
 }
 
-/// Appends what one set keeps of the input's facts.
+/// Appends what a Group with one set keeps of the input's facts.
 #[tactic(auto, using(crate::proofs::GroupsAdded::cut_next))]
 fn add_facts_of_group(
     alloc: Global,
@@ -138,7 +138,7 @@ fn add_facts_of_group(
     Ok(())
 }
 
-/// The facts of a Group: what tells its rows apart, and with one set what that keeps of the input's facts.
+/// The facts of a Group: what determines its rows, and with one set what it keeps of the input's facts.
 pub fn group_facts(alloc: Global, group: &Group, kept: &[Given]) -> Result<Vec<Given>, OutOfMemory>
     requires { group.now.columns + length group.now.calls.items < 65536 }
     ensures { IfOk result (λ v. map fact_of v.items ≡ spec.group_key_facts (grouping_of group.now) ++ spec.facts_of_group (grouping_of group.now) (map fact_of kept.now)) }

@@ -1,4 +1,8 @@
 //! Facts, and those that the steps of a plan give: conditions, the outputs of a Map, the calls of a Window, and Groups.
+//!
+//! `facts` has their types. `conditions`, `maps`, `calls` and `groups` append the facts of one step each, made with `members`; `apart`
+//! says whether GROUPING distinguishes the sets of a Group, and `moved` renumbers the facts of an input. Each public function appends all
+//! of its facts or, where memory runs out, none. Facts are read off a step's form alone: no rows are looked at.
 #![tactic(auto)]
 
 mod apart;

@@ -90,7 +90,7 @@ fn inputs(alloc: Global, by: u16, columns: &[u16]) -> Result<Vec<Member>, OutOfM
     Ok(list)
 }
 
-/// The lowest of the outputs that copies a column.
+/// The number of the first output that copies a column.
 pub fn copy_of(outputs: &[Expr], column: u16) -> Option<u16>
     requires { length outputs.now < 65536 }
     ensures { result ≡ spec.copy_from 0 (map expression_of outputs.now) column }
@@ -103,7 +103,7 @@ pub fn copy_of(outputs: &[Expr], column: u16) -> Option<u16>
     None
 }
 
-/// That the inputs that an output uses give it.
+/// The fact that the inputs that an output uses determine it.
 fn used_fact(alloc: Global, by: u16, number: u16, output: &Expr) -> Result<Given, OutOfMemory>
     requires { list_all (λ c. nat_lt c (65536 - by)) (spec.used (expression_of output.now)) ≡ true }
     ensures { IfOk result (λ g. fact_of g ≡ spec.used_fact by number (expression_of output.now)) }
@@ -115,7 +115,7 @@ fn used_fact(alloc: Global, by: u16, number: u16, output: &Expr) -> Result<Given
     Ok(Given { from, to })
 }
 
-/// Appends that an output that is a column gives the input that it copies.
+/// Appends, for an output that is a column, that it determines the input that it copies.
 fn add_copy(
     alloc: Global,
     by: u16,
@@ -171,7 +171,7 @@ fn outputs_facts(alloc: Global, by: u16, outputs: &[Expr]) -> Result<Vec<Given>,
 /// Appends the facts of a Map's outputs, where input columns are renumbered.
 ///
 /// # Errors
-/// Where memory runs out; the list is then as it was.
+/// Where memory runs out; the list is then unchanged.
 pub fn add_outputs(
     alloc: Global,
     by: u16,

@@ -19,7 +19,7 @@ pub fn members(alloc: Global, columns: &[u16]) -> Result<Vec<Member>, OutOfMemor
     Ok(list)
 }
 
-/// That the columns give the row, or a side.
+/// The fact that the columns determine the row, or a side.
 fn key_fact_of(alloc: Global, row: Member, columns: &[u16]) -> Result<Given, OutOfMemory>
     ensures { IfOk result (λ g. fact_of g ≡ key_fact row columns.now) }
 {
@@ -28,10 +28,10 @@ fn key_fact_of(alloc: Global, row: Member, columns: &[u16]) -> Result<Given, Out
     Ok(Given { from, to })
 }
 
-/// Appends that the columns give the row, or a side.
+/// Appends that the columns determine the row, or a side.
 ///
 /// # Errors
-/// Where memory runs out; the list is then as it was.
+/// Where memory runs out; the list is then unchanged.
 pub fn add_key(
     alloc: Global,
     row: Member,
@@ -46,7 +46,7 @@ pub fn add_key(
     Ok(())
 }
 
-/// Appends facts that were gathered, all or none of them.
+/// Appends the gathered facts, all of them or none.
 pub fn add_all(mut more: Vec<Given>, list: &mut Vec<Given>) -> Result<(), OutOfMemory>
     ensures added { OnOk result (map fact_of list.new.items ≡ map fact_of list.old.items ++ map fact_of more.items) }
     ensures kept { OnErr result (list.new.items ≡ list.old.items) }
@@ -55,7 +55,7 @@ pub fn add_all(mut more: Vec<Given>, list: &mut Vec<Given>) -> Result<(), OutOfM
     Ok(())
 }
 
-/// Appends that nothing gives the column.
+/// Appends that the empty set determines the column.
 pub fn add_fixed(alloc: Global, column: u16, list: &mut Vec<Given>) -> Result<(), OutOfMemory>
     ensures { IfOk result (λ _. map fact_of list.new.items ≡ map fact_of list.old.items ++ (spec.fixed_fact column ∷ [])) }
 {
@@ -65,7 +65,7 @@ pub fn add_fixed(alloc: Global, column: u16, list: &mut Vec<Given>) -> Result<()
     Ok(())
 }
 
-/// Appends that one column gives another.
+/// Appends that one column determines another.
 pub fn add_column_fact(
     alloc: Global,
     column: u16,
@@ -89,7 +89,7 @@ fn copied(alloc: Global, fact: &Given) -> Result<Given, OutOfMemory>
     Ok(Given { from, to })
 }
 
-/// A copy of facts.
+/// Copies of facts.
 pub fn copied_facts(alloc: Global, facts: &[Given]) -> Result<Vec<Given>, OutOfMemory>
     ensures { IfOk result (λ v. map fact_of v.items ≡ map fact_of facts.now) }
 {
@@ -100,7 +100,7 @@ pub fn copied_facts(alloc: Global, facts: &[Given]) -> Result<Vec<Given>, OutOfM
     Ok(list)
 }
 
-/// The first columns, so many of them.
+/// The first `count` columns.
 #[tactic(auto, using(crate::proofs::Added::columns_more))]
 pub fn first_columns(alloc: Global, count: u16) -> Result<Vec<u16>, OutOfMemory>
     ensures { IfOk result (λ v. v.items ≡ spec.all_columns count) }

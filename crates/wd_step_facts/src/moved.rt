@@ -10,7 +10,7 @@ use crate::members::add_all;
 use std::alloc::Global;
 use wd_value::OutOfMemory;
 
-/// A member with its column renumbered, the row as the member that stands for it.
+/// A member with its column renumbered, and the given member in place of the row.
 pub fn moved_member(by: u16, row: Member, member: Member) -> Member
     requires { is_plain (65536 - by) member ≡ true }
     ensures { result ≡ moved (λ c. by + c) row member }
@@ -48,7 +48,7 @@ fn moved_fact(alloc: Global, by: u16, row: Member, fact: &Given) -> Result<Given
     Ok(Given { from, to })
 }
 
-/// The facts renumbered.
+/// The facts, renumbered.
 fn moved_facts(
     alloc: Global,
     by: u16,
@@ -65,10 +65,10 @@ fn moved_facts(
     Ok(list)
 }
 
-/// Appends the facts renumbered.
+/// Appends the facts, renumbered.
 ///
 /// # Errors
-/// Where memory runs out; the list is then as it was.
+/// Where memory runs out; the list is then unchanged.
 pub fn add_moved_facts(
     alloc: Global,
     by: u16,

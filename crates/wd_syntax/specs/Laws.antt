@@ -5,7 +5,7 @@ use Rattle.wd_syntax.specs.Tree.{QueryTree}
 use Rattle.wd_syntax.specs.Spelling.{spell}
 use Rattle.wd_syntax.specs.Levels.{IsWellLevelled}
 
--- A query is spelled by the tokens, and is well-levelled.
+-- The tokens spell the query, and the query is well-levelled.
 abbrev pub IsTreeOf : Kinds → QueryTree → Type 0
 IsTreeOf ts q = IsWellLevelled q × (spell q ≡ ts)
 

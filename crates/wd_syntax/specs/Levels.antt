@@ -1,4 +1,4 @@
--- Well-levelled trees: each operand binds at least as tightly as its place asks, and no list that needs a member is empty.
+-- Well-levelled trees: each operand binds at least as tightly as its place requires, and no list that needs a member is empty.
 use Rattle.std.specs.Prelude.{ℕ, ◌≤◌, ◌<◌, ◌==◌, if◌then◌else◌, List, [], ◌∷◌, Option, Some, None}
 use Rattle.wd_syntax.specs.declared.expression.Operator.{Operator}
 use Rattle.wd_syntax.specs.declared.expression.Height.{Height}
@@ -18,7 +18,7 @@ height_of _ = h.Primary
 abbrev pub height : Tree → ℕ
 height a = rank (height_of a)
 
--- the loosest that may stand on the left: a chain goes on, a comparison does not
+-- the loosest height of a left operand: a chain may continue its own height, a comparison may not
 abbrev pub left_height : Operator → ℕ
 left_height o = if operator_height o == rank h.Comparison then rank h.Sum else operator_height o
 
@@ -84,12 +84,12 @@ abbrev pub IsSome : {A : Type 0} → List A → Type 0
 IsSome [] = ⊥
 IsSome (a ∷ xs) = Unit {0}
 
--- it has a column
+-- the set has a column
 abbrev pub HasColumn : SetTree → Type 0
 HasColumn (one_column c) = Unit {0}
 HasColumn (columns cs) = IsSome cs
 
--- what may stand between the brackets of such a word: no empty set where sets are made of it
+-- what may appear between the brackets of the word: no empty set where sets are made of the sets
 abbrev pub MayStandIn : GroupingWord → SetTree → Type 0
 MayStandIn Rollup s = HasColumn s
 MayStandIn Cube s = HasColumn s

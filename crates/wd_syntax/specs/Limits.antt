@@ -11,7 +11,7 @@ use Rattle.wd_syntax.specs.Tree.{Tree, Constant, Column, Qualified, CallAll, Cal
 use Rattle.wd_syntax.specs.Spelling.{frame_onto, direction_onto, nulls_onto, not_onto, onto, list_onto, more_onto, arms_onto, else_onto, over_onto, window_onto, order_onto, more_keys_onto, given_onto, alias_onto, more_items_onto, commas_onto, members_onto, set_onto, group_item_onto, having_onto, grouping_onto, more_windows_onto, windows_onto, limits_onto, tail_onto, table_onto, joins_onto, end_onto, spell}
 use Rattle.wd_syntax.specs.Levels.{IsWellLevelled}
 
--- What limits ask of a token: it opens the level of that number, or is the operator of that number in its chain, both from 1.
+-- What limits count of a token: the number of the level that it opens, or its number as an operator of its chain, both from 1.
 pub data Weight : Type 0 where
   level : ℕ → Weight
   operator : ℕ → Weight
@@ -21,7 +21,7 @@ pub record Mark : Type 0 where
   pub weight : Weight
   pub from : Kinds
 
--- a token that opens a level where so many are open, and those within
+-- a token that opens a level within the given number of open ones, and the marks within that level
 abbrev pub opened : ℕ → Kinds → (ℕ → List Mark) → List Mark
 opened n from within = record { weight = level (suc n); from = from } ∷ within (suc n)
 
@@ -36,7 +36,7 @@ abbrev pub linked : ℕ → Tree → Kinds → Mark
 linked h a from = record { weight = operator (operators h a); from = from }
 
 abbrev mutual
-  -- the tokens of a tree that have a weight, from left to right, where so many levels are open and these tokens follow
+  -- the tokens of a tree that have a weight, from left to right, where the given number of levels are open and these tokens follow
   pub marks : ℕ → Tree → Kinds → List Mark
   marks n (Constant l) ts = []
   marks n (Column a) ts = []
@@ -94,7 +94,7 @@ abbrev pub set_marks : ℕ → SetTree → Kinds → List Mark
 set_marks n (one_column c) ts = []
 set_marks n (columns cs) ts = opened n (set_onto (columns cs) ts) (λ k. [])
 
--- those of a list with commas between its members, which are spelled so and have these
+-- the marks of a list with commas between its members, by how a member is spelled and marked
 abbrev pub members_marks : {A : Type 0} → (A → Kinds → Kinds) → (A → Kinds → List Mark) → List A → Kinds → List Mark
 members_marks one of [] ts = []
 members_marks one of (a ∷ xs) ts = of a (commas_onto one xs ts) ++ members_marks one of xs ts
@@ -165,11 +165,11 @@ IsPast (operator n) = n ≡ suc most_operators
 abbrev pub KeepsLimits : QueryTree → Type 0
 KeepsLimits q = Each (λ (mark : Mark). IsWithin mark.weight) (query_marks q)
 
--- the token at the front of these is past a limit
+-- the first of these tokens is past a limit
 abbrev pub IsPastAt : Kinds → Mark → Type 0
 IsPastAt rest mark = IsPast mark.weight × (mark.from ≡ rest)
 
--- At that place of the tokens a limit is passed: a well-levelled query begins with the same tokens, up to and with the one
--- at the place, and in it this token opens a 33rd level or is the 201st operator of its chain.
+-- A limit is passed at that place of the tokens: a well-levelled query begins with the same tokens, up to and including the one at the
+-- place, and in it this token opens a 33rd level or is the 201st operator of its chain.
 abbrev pub PassesLimitAt : Kinds → ℕ → Type 0
 PassesLimitAt ts place = (front : Kinds) × (token : TokenKind) × (more : Kinds) × (tree : QueryTree) × (behind : Kinds) × (length front ≡ place) × (ts ≡ front ++ token ∷ more) × (spell tree ≡ front ++ token ∷ behind) × IsWellLevelled tree × One (IsPastAt (token ∷ behind)) (query_marks tree)

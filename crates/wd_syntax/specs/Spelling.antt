@@ -1,4 +1,4 @@
--- What a query is spelled by: the tokens of a tree, and those after it.
+-- How a query is spelled: the tokens of a tree, and those after it.
 use Rattle.std.specs.Prelude.{ℕ, Bool, true, false, List, [], ◌∷◌, Option, Some, None}
 use Rattle.wd_lex.specs.declared.token.Terminal.TheVariants as m
 use Rattle.wd_lex.specs.declared.token.TokenKind.TheVariants as t
@@ -177,7 +177,7 @@ abbrev pub filter_onto : Option Tree → Kinds → Kinds
 filter_onto None ts = ts
 filter_onto (Some a) ts = m.Where ▸ onto a ts
 
--- the rest of a list, with a comma before each
+-- the rest of a list, with a comma before each member
 abbrev pub commas_onto : {A : Type 0} → (A → Kinds → Kinds) → List A → Kinds → Kinds
 commas_onto one [] ts = ts
 commas_onto one (a ∷ xs) ts = m.Comma ▸ one a (commas_onto one xs ts)

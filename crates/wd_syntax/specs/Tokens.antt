@@ -41,7 +41,7 @@ sign_terminal s.Minus = m.Minus
 
 -- ---- how loosely expressions bind
 
--- heights as numbers: the lower, the tighter
+-- heights as numbers; tighter is lower
 abbrev pub rank : Height → ℕ
 rank h.Primary = 0
 rank h.Sign = 1

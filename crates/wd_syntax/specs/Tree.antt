@@ -1,4 +1,4 @@
--- Queries as pure data, without where they lie in memory.
+-- Queries as pure data, regardless of memory.
 use Rattle.std.specs.Prelude.{◌⊎◌, List, [], ◌∷◌, Bool, Option}
 use Rattle.wd_read_cursor.specs.declared.name.Name.{Name}
 use Rattle.wd_syntax.specs.declared.frame.Frame.{Frame}
@@ -87,7 +87,7 @@ pub record Tail : Type 0 where
   pub order : Keys
   pub limits : Option Limits
 
--- a select but for its FROM
+-- a select without its FROM
 pub record Parts : Type 0 where
   pub quantifier : Option Quantifier
   pub items : List ItemTree
@@ -114,7 +114,7 @@ mutual
 pub data QueryTree : Type 0 where
   query : SelectTree → Bool → QueryTree
 
--- rows of one kind
+-- lists of one kind
 abbrev pub Key : Type 0
 Key = Tree × Option SortDirection × Option NullsPlace
 
@@ -134,12 +134,12 @@ abbrev pub joins_of : List JoinTree → Joins
 joins_of [] = no_joins
 joins_of (a ∷ xs) = more_joins a (joins_of xs)
 
--- what holds of each
+-- a property of each element
 abbrev pub Each : {A : Type 0} → (A → Type 0) → List A → Type 0
 Each P [] = Unit {0}
 Each P (a ∷ xs) = P a × Each P xs
 
--- what holds of one
+-- a property of at least one element
 abbrev pub One : {A : Type 0} → (A → Type 0) → List A → Type 0
 One P [] = ⊥
 One P (a ∷ xs) = P a ⊎ One P xs

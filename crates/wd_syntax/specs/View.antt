@@ -54,7 +54,7 @@ abbrev mutual
   view (e.Tests' p a nots not) = IsNull (tested (view a) nots.items) not
   view (e.Not' p a) = Negated (view a)
 
-  -- operators and their right operands, on what stands left of them
+  -- operators and their right operands, over what is to their left
   pub view_links : {m : _} → Tree → Row_of-Link m → Tree
   view_links a end_of-Link = a
   view_links a (more_of-Link o b row) = view_links (Binary o a (view b)) row
@@ -126,7 +126,7 @@ view_grouping g = record { items = map view_group_item g.items.items; having = v
 abbrev pub view_named_window : NamedWindow → Name × WindowTree
 view_named_window w = (w.name, view_window w.window)
 
--- what the parts of a select show, but for its FROM
+-- what the parts of a select show, without its FROM
 abbrev pub parts_of : Option Quantifier → List Item → Option Expr → Grouping → List NamedWindow → List SortKey → Option Limits → Parts
 parts_of quantifier items filter grouping windows order limits =
     record { quantifier = quantifier; items = map view_item items; tail = record { filter = view_option filter; grouping = view_grouping grouping; windows = map view_named_window windows; order = keys_of (map view_key order); limits = limits } }

@@ -22,10 +22,10 @@ pub enum Operator {
     Remainder,
 }
 
-/// How loosely an expression binds, from the tightest on.
+/// How loosely an expression binds, the tightest first.
 #[derive(Clone, Copy)]
 pub enum Height {
-    /// A literal, a name, a call, a CASE, or what stands between brackets.
+    /// A literal, a name, a call, a CASE, or what is between brackets.
     Primary,
     Sign,
     /// `* / %`
@@ -72,8 +72,8 @@ pub enum NullsPlace {
     Last,
 }
 
-/// An expression. Brackets are nodes of the tree. A chain of operators of one precedence is one node, read from the left, so
-/// that no tree is much deeper than its brackets.
+/// An expression. Brackets are nodes of the tree. A chain of operators of one precedence is one node, read from the left, so that no tree
+/// is much deeper than its brackets.
 #[cycle(tree)]
 #[derive(Drop)]
 pub enum Expr {
@@ -92,8 +92,8 @@ pub enum Expr {
     Signed(Sign, Box<Expr>),
     /// A comparison.
     Compare(Operator, Box<Expr>, Box<Expr>),
-    /// Operators of one precedence, each with its right operand: the ones before the last, and the last. What stands left of one is
-    /// its left operand.
+    /// Operators of one precedence, each with its right operand: the ones before the last, and the last. The left operand of each is
+    /// everything before it.
     Chain(Box<Expr>, Vec<Link>, Box<Link>),
     /// Tests for NULL, one after another: the ones before the last, and the last. Each is `IS NULL`, or `IS NOT NULL` where true.
     Tests(Box<Expr>, Vec<bool>, bool),
@@ -116,7 +116,7 @@ pub struct Arm {
     pub gives: Expr,
 }
 
-/// What stands after `OVER`.
+/// What follows `OVER`.
 #[cycle(tree)]
 #[derive(Drop)]
 pub enum Over {
@@ -128,7 +128,7 @@ pub enum Over {
 #[cycle(tree)]
 #[derive(Drop)]
 pub struct Window {
-    /// The window that it copies.
+    /// The window that this one copies.
     pub base: Option<Name>,
     /// Empty where `PARTITION BY` is not written.
     pub partition: Vec<Expr>,
@@ -137,7 +137,7 @@ pub struct Window {
     pub frame: Option<Frame>,
 }
 
-/// An expression to sort by. What is not written is `None`.
+/// An expression to sort by. Parts that are not written are `None`.
 #[cycle(tree)]
 #[derive(Drop)]
 pub struct SortKey {

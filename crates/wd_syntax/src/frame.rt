@@ -23,7 +23,7 @@ pub enum Extent {
     Between(Bound, Bound),
 }
 
-/// What `EXCLUDE` takes out of a frame.
+/// The rows that `EXCLUDE` takes out of a frame.
 #[derive(Clone, Copy, Debug, PartialEq, Eq)]
 pub enum Exclusion {
     CurrentRow,

@@ -1,4 +1,7 @@
 //! The trees of queries, and how they are spelled.
+//!
+//! `query` has selects, `expression` expressions and windows, and `frame` frames. A tree keeps what is written: brackets, optional words,
+//! and names not yet looked up; the tokens that spell a tree are a definition of `specs/`.
 #![tactic(auto)]
 
 mod expression;

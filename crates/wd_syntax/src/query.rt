@@ -30,7 +30,7 @@ pub enum Quantifier {
 /// `name` or `name . name`: a column that rows are grouped by.
 #[derive(Drop)]
 pub struct GroupColumn {
-    /// The name of its table, where one is written.
+    /// The name of its table, if one is written.
     pub table: Option<Name>,
     pub name: Name,
 }
@@ -43,7 +43,7 @@ pub enum GroupingSet {
     Columns(Vec<GroupColumn>),
 }
 
-/// What makes several sets of those between its brackets.
+/// What makes several sets of the sets between its brackets.
 #[derive(Clone, Copy, Debug, PartialEq, Eq)]
 pub enum GroupingWord {
     /// `ROLLUP`
@@ -127,7 +127,7 @@ pub enum Table {
     Derived(Box<Select>, Alias),
 }
 
-/// A table, and how it is joined to what stands before it. Joins bind more tightly than the comma.
+/// A table, and how it is joined to the tables before it. Joins bind more tightly than the comma.
 #[cycle(select)]
 #[derive(Drop)]
 pub enum Joined {
@@ -147,7 +147,7 @@ pub struct From {
     pub joined: Vec<Joined>,
 }
 
-/// A select, up to its limits. What is not written is `None` or empty.
+/// A select, up to its limits. Parts that are not written are `None` or empty.
 #[cycle(select)]
 #[derive(Drop)]
 pub struct Select {

@@ -22,7 +22,7 @@ value_text (Truth false) = codes "false"
 abbrev pub answer_text : List (List ℕ) → List Row → List ℕ
 answer_text names rows = flat_map (row_text default_writer) (names ∷ map (map value_text) rows)
 
--- a writer with the default settings, but for records of any lengths, that has written this text and stands between records
+-- a writer with the default settings, except that records may have any lengths, that has written this text and is between records
 abbrev pub HasWritten : Writer (Vec ℕ Global) → List ℕ → Type 0
 HasWritten writer text = (text_written (λ v. Some v.items) writer ≡ Some text) × (writer_setup writer ≡ with_flexible default_writer true)
     × (fields_written writer ≡ 0) × (has_written writer ≡ false)

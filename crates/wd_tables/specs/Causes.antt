@@ -13,7 +13,7 @@ use Rattle.wd_tables.specs.declared.error.DataError.TheVariants.{Header, Value, 
 abbrev pub IsWellFormed : List ℕ → ℕ → Type 0
 IsWellFormed text n = AllText (record_at text n) × (length (record_at text n) ≡ length (header_of text))
 
--- the record is accepted: the header names each column once; one under it is within the limit, and none of its fields is refused
+-- the record is accepted: as the header it names each column once; a later record is within the limit, and none of its fields is refused
 abbrev pub IsAccepted : TableRule → List ℕ → ℕ → Type 0
 IsAccepted table text zero = IsWellFormed text 0 × NamesEachOnce table.columns (header_of text)
 IsAccepted table text (suc n) = IsWellFormed text (suc n) × (suc n ≤ most_records) × All (λ column. ¬ (IsRefusedIn (header_of text) (record_at text (suc n)) column)) table.columns
@@ -32,7 +32,7 @@ RefusesAt table text n (NullValue m) = IsWellFormed text n × (0 < n) × (n ≤ 
 RefusesAt table text n (Key m) = ⊥
 RefusesAt table text n OutOfMemory = ⊥
 
--- the first record that is not accepted is refused so
+-- the first record that is not accepted has this refusal
 pub record IsFirstRefused (table : TableRule) (text : List ℕ) (e : DataError) : Type 0 where
   pub number : ℕ
   pub within : number < length (records_of text)
@@ -43,11 +43,11 @@ pub record IsFirstRefused (table : TableRule) (text : List ℕ) (e : DataError) 
 abbrev pub RepeatsIn : KeyRule → List Row → ℕ → Type 0
 RepeatsIn key rows q = (q < length rows) × (p : ℕ) × (p < q) × (violates key (row_at rows p) (row_at rows q) ≡ true)
 
--- it repeats an earlier one in some key
+-- the row at a position repeats an earlier one in some key
 abbrev pub Repeats : List KeyRule → List Row → ℕ → Type 0
 Repeats keys rows q = Any (λ key. RepeatsIn key rows q) keys
 
--- the least number that has a property, if there is one
+-- the least number with a property, if there is one
 abbrev pub IsLeast : (ℕ → Type 0) → Option ℕ → Type 0
 IsLeast P None = (n : ℕ) → ¬ (P n)
 IsLeast P (Some n) = P n × ((m : ℕ) → m < n → ¬ (P m))
@@ -56,7 +56,7 @@ IsLeast P (Some n) = P n × ((m : ℕ) → m < n → ¬ (P m))
 abbrev pub IsFirstRepeat : TableRule → List ℕ → ℕ → Type 0
 IsFirstRepeat table text n = (rows : List Row) × HoldsRows table text rows × All (λ row. fits_columns table.columns row ≡ true) rows × (q : ℕ) × (n ≡ q + 1) × IsLeast (Repeats table.keys rows) (Some q)
 
--- what stands in the text where the error is answered: records are judged in order, the header first, and the keys after all of them
+-- the cause of an error in a text: records are checked in order, the header first, and the keys after all of them
 abbrev pub HasCause : TableRule → List ℕ → DataError → Type 0
 HasCause table text Header = (records_of text ≡ []) ⊎ IsFirstRefused table text Header
 HasCause table text (Value n) = IsFirstRefused table text (Value n)
@@ -66,7 +66,7 @@ HasCause table text TooManyRecords = IsFirstRefused table text TooManyRecords
 HasCause table text (Key n) = IsFirstRepeat table text n
 HasCause table text OutOfMemory = ⊤
 
--- the number of a refusal, and none where memory runs out
+-- the number of a refusal; none where memory ran out
 abbrev pub number_of : DataError → Option ℕ
 number_of Header = Some 701
 number_of (Value n) = Some 702

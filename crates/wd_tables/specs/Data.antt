@@ -11,7 +11,7 @@ use Rattle.wd_schema.specs.declared.table.Column.{Column}
 use Rattle.wd_schema.specs.Tables.{TableRule}
 use Rattle.wd_tables.specs.Fields.{field_value}
 
--- the records that `csv` defines for the bytes with its default settings, a leading byte order mark taken off
+-- the records that `csv` defines for the bytes with its default settings, without a leading byte order mark
 abbrev pub records_of : List ℕ → List (List (List ℕ))
 records_of text = records default_config (strip_bom text)
 
@@ -26,16 +26,16 @@ header_of text = record_at text 0
 abbrev pub data_of : List ℕ → List (List (List ℕ))
 data_of text = drop 1 (records_of text)
 
--- at most so many records may follow the header
+-- the most records that may follow the header
 abbrev pub most_records : ℕ
 most_records = 1000000
 
--- each column's name stands once in the header, and nothing else stands there
+-- each column's name appears once in the header, and nothing else is there
 pub record NamesEachOnce (columns : List Column) (header : List (List ℕ)) : Type 0 where
   pub each : All (λ column. times bytes_eq column.name header ≡ 1) columns
   pub others : length header ≡ length columns
 
--- the place of a name in the header, and the header's length where it doesn't stand there
+-- the place of a name in the header, and the header's length where it isn't there
 abbrev pub field_place : List (List ℕ) → List ℕ → ℕ
 field_place header name = position_or_len (bytes_eq name) header
 
@@ -43,7 +43,7 @@ field_place header name = position_or_len (bytes_eq name) header
 abbrev pub field_under : List (List ℕ) → List (List ℕ) → List ℕ → List ℕ
 field_under header fields name = slice_index_or fields (field_place header name) []
 
--- the value of a record in a column, if the field under the column's name denotes one
+-- the value of a record in a column, if the field under the column's name has one
 abbrev pub value_in : List (List ℕ) → List (List ℕ) → Column → Option Value
 value_in header fields column = field_value column (field_under header fields column.name)
 
@@ -51,7 +51,7 @@ value_in header fields column = field_value column (field_under header fields co
 abbrev pub values_in : List Column → List (List ℕ) → List (List ℕ) → List (Option Value)
 values_in columns header fields = map (value_in header fields) columns
 
--- the text is a header that names the table's columns and, under it, these rows
+-- the text is a header that names the table's columns, followed by records of these rows
 pub record HoldsRows (table : TableRule) (text : List ℕ) (rows : List Row) : Type 0 where
   pub headed : 0 < length (records_of text)
   pub names : NamesEachOnce table.columns (header_of text)

@@ -1,4 +1,4 @@
--- What a field of a CSV text denotes in a column of a table.
+-- The value of a field of a CSV text in a column of a table.
 use Rattle.std.specs.Prelude.{ℕ, ◌&&◌, ◌||◌, Bool, true, false, List, [], ◌∷◌, drop, Option, Some, None, option_map, option_and_then, ℤ, pos, neg_ℤ, codes, if◌then◌else◌}
 use Rattle.std.specs.Str.{all_ascii_digits, str_eq_ignore_ascii_case}
 use Rattle.std.specs.Str.Parse.{digits_value, starts_with_minus}
@@ -9,7 +9,7 @@ use Rattle.wd_value.specs.declared.value.ColumnType.TheVariants.{SmallInt, Integ
 use Rattle.wd_schema.specs.declared.table.Column.{Column}
 use Rattle.wd_schema.specs.Meets.{is_of_type}
 
--- the number that one ASCII digit or more write
+-- the number that one or more ASCII digits write
 abbrev pub numeral_value : List ℕ → Option ℕ
 numeral_value [] = None
 numeral_value (d ∷ ds) = if all_ascii_digits (d ∷ ds) then Some (digits_value 10 (d ∷ ds)) else None
@@ -31,7 +31,7 @@ truth_value bytes =
 abbrev pub number_in : ColumnType → ℤ → Option Value
 number_in kind n = if is_of_type kind (Int n) then Some (Int n) else None
 
--- the value of the type that a field of some bytes denotes, if it denotes one
+-- the value of the type that a field of some bytes stands for, if there is one
 abbrev pub value_of_type : ColumnType → List ℕ → Option Value
 value_of_type TextType bytes = Some (Text bytes)
 value_of_type Boolean bytes = option_map Truth (truth_value bytes)
@@ -46,7 +46,7 @@ is_text Integer = false
 is_text BigInt = false
 is_text Boolean = false
 
--- the value that a field denotes in a column: an empty field is NULL, and in a NOT NULL column of texts the empty text
+-- the value of a field in a column: an empty field is NULL, and in a NOT NULL column of texts the empty text
 abbrev pub field_value : Column → List ℕ → Option Value
 field_value column [] = Some (if column.not_null && is_text column.kind then Text [] else Null)
 field_value column (b ∷ bs) = value_of_type column.kind (b ∷ bs)

@@ -1,4 +1,4 @@
--- Where a reader stands in a CSV text.
+-- The state of a reader of a CSV text.
 use Rattle.std.specs.Prelude.{◌≡◌, ℕ, zero, suc, ◌+◌, ◌<◌, ◌≤◌, true, false, List, [], length, map, Option, Some, None, ⊤}
 use Rattle.std.specs.Borrow.{Bor}
 use Rattle.csv.specs.Reading.{Reached, Ready, default_config, expected_len, is_flexible, reader_config, reader_state, reader_trim, source_of, strip_bom}
@@ -16,12 +16,12 @@ use Rattle.wd_schema.specs.declared.table.Column.{Column}
 use Rattle.wd_schema.specs.Meets.{fits_columns}
 use Rattle.wd_tables.specs.Data.{NamesEachOnce, header_of, field_place, record_at, records_of, values_in}
 
--- after the first record each further one must have its length
+-- after the first record each further record has to have its length
 abbrev pub length_after : List ℕ → ℕ → Option ℕ
 length_after text zero = None
 length_after text (suc n) = Some (length (header_of text))
 
--- the reader has read so many records of the text, and reads on with the default settings
+-- the reader has read the first n records of the text, and continues with the default settings
 pub record HasRead (text : List ℕ) (n : ℕ) (reader : Reader (Bor (List ℕ))) : Type 0 where
   pub config : reader_config reader ≡ default_config
   pub trim : reader_trim reader ≡ trim.None
@@ -41,7 +41,7 @@ pub record IsRecord (text : List ℕ) (n : ℕ) (fields : List (List ℕ)) : Typ
   pub encoded : AllText fields
   pub even : length fields ≡ length (header_of text)
 
--- how a failed read of a slice is answered: by 705 for its records, and else as out of memory, since a slice can't fail
+-- the refusal of a failed read of a slice: 705 for its records, or else out of memory, since a slice can't fail
 abbrev pub refusal_of : ErrorKind → DataError
 refusal_of (kind.UnequalLengths pos expected len) = Malformed
 refusal_of (kind.Utf8 pos err) = Malformed
@@ -50,7 +50,7 @@ refusal_of kind.OutOfMemory = OutOfMemory
 refusal_of (kind.Serialize text) = OutOfMemory
 refusal_of (kind.Deserialize pos err) = OutOfMemory
 
--- the next record of the text, which has this number, is refused: it is not well-formed
+-- the next record of the text, which has this number, is refused because it is malformed
 abbrev pub RefusesRead : List ℕ → ℕ → DataError → Type 0
 RefusesRead text n Malformed = (n < length (records_of text)) × ¬ (IsWellFormed text n)
 RefusesRead text n OutOfMemory = ⊤
@@ -60,7 +60,7 @@ RefusesRead text n (NullValue m) = ⊥
 RefusesRead text n (Key m) = ⊥
 RefusesRead text n TooManyRecords = ⊥
 
--- where a number is given, the record with it is not well-formed
+-- where a number is given, the record with that number is malformed
 abbrev pub IsMalformedAt : List ℕ → Option ℕ → Type 0
 IsMalformedAt text None = ⊤
 IsMalformedAt text (Some n) = RefusesRead text n Malformed
@@ -84,14 +84,14 @@ pub record HoldsRecord (columns : List Column) (text : List ℕ) (n : ℕ) (row 
   pub values : values_in columns (header_of text) fields ≡ map (λ v. Some v) row
   pub fits : fits_columns columns row ≡ true
 
--- where the reader has read so many records of some text, and the columns have these places in its header: this of the text
+-- a property of each text of which the reader has read n records, where the columns have these places in the header
 abbrev pub WhereRead : List Column → ℕ → Reader (Bor (List ℕ)) → List ℕ → (List ℕ → Type 0) → Type 0
 WhereRead columns n reader places P = (text : List ℕ) → HasRead text n reader → HasPlaces columns text places → P text
 
--- where it has read the header of some text, which names each column once: this of the text
+-- a property of each text of which the reader has read the header, which names each column once
 abbrev pub WhereHeaded : List Column → Reader (Bor (List ℕ)) → List ℕ → (List ℕ → Type 0) → Type 0
 WhereHeaded columns reader places P = WhereRead columns 1 reader places (λ text. HoldsFirst columns text 0 [] → P text)
 
--- where the columns have these places in some header: this of the header
+-- a property of each header in which the columns have these places
 abbrev pub WherePlaced : List Column → List ℕ → (List (List ℕ) → Type 0) → Type 0
 WherePlaced columns places P = (header : List (List ℕ)) → places ≡ map (λ column. field_place header column.name) columns → P header

@@ -1,4 +1,4 @@
--- Why a header, a field or a record is refused, whatever text it stands in.
+-- Why a header, a field or a record is refused, in any text.
 use Rattle.std.specs.Prelude.{◌≡◌, ◌⊎◌, ◌<◌, ℕ, true, List, Some, None, All, Any, ⊤}
 use Rattle.wd_value.specs.declared.value.Value.TheVariants.{Null}
 use Rattle.wd_schema.specs.declared.table.Column.{Column}
@@ -27,11 +27,11 @@ RefusesField column bytes number (Key n) = ⊥
 RefusesField column bytes number Malformed = ⊥
 RefusesField column bytes number TooManyRecords = ⊥
 
--- the field of a record under the column's name denotes no value of the column
+-- the field of a record under the column's name is no value of the column
 abbrev pub LacksValue : List (List ℕ) → List (List ℕ) → Column → Type 0
 LacksValue header fields column = value_in header fields column ≡ None
 
--- it denotes NULL, and the column is NOT NULL
+-- the field is NULL, and the column is NOT NULL
 abbrev pub HasNull : List (List ℕ) → List (List ℕ) → Column → Type 0
 HasNull header fields column = (column.not_null ≡ true) × (value_in header fields column ≡ Some Null)
 
@@ -39,11 +39,11 @@ HasNull header fields column = (column.not_null ≡ true) × (value_in header fi
 abbrev pub IsRefusedIn : List (List ℕ) → List (List ℕ) → Column → Type 0
 IsRefusedIn header fields column = LacksValue header fields column ⊎ HasNull header fields column
 
--- no field that stands before the column's own in the record is refused
+-- no field before the column's own in the record is refused
 abbrev pub IsFirstIn : List Column → List (List ℕ) → List (List ℕ) → Column → Type 0
 IsFirstIn columns header fields column = All (λ other. field_place header other.name < field_place header column.name → ¬ (IsRefusedIn header fields other)) columns
 
--- why a record is refused: for the first of its fields that is refused
+-- why a record is refused: for the first of its refused fields
 abbrev pub RefusesRecord : List Column → List (List ℕ) → List (List ℕ) → ℕ → DataError → Type 0
 RefusesRecord columns header fields number (Value n) = (n ≡ number) × Any (λ column. LacksValue header fields column × IsFirstIn columns header fields column) columns
 RefusesRecord columns header fields number (NullValue n) = (n ≡ number) × Any (λ column. HasNull header fields column × IsFirstIn columns header fields column) columns

@@ -12,7 +12,7 @@ use Rattle.wd_tables.specs.declared.wide.Effect.TheVariants.{Passes, JoinsField,
 use Rattle.wd_tables.specs.declared.wide.Place.{Place}
 use Rattle.wd_tables.specs.declared.wide.Place.TheVariants.{RecordStart, FieldStart, InField, InQuotes, AfterQuote, AfterReturn}
 
--- the text has a record with this number, of more than so many fields
+-- the text has a record with this number, with more than the given number of fields
 abbrev pub IsWide : List ℕ → ℕ → ℕ → Type 0
 IsWide text most n = (n < length (records_of text)) × (most < length (record_at text n))
 
@@ -25,13 +25,13 @@ state_at InQuotes = st.InQuoted
 state_at AfterQuote = st.AfterQuote
 state_at AfterReturn = st.AfterCr
 
--- the action of `csv` that is an effect
+-- the action of `csv` that an effect stands for
 abbrev pub action_of : Effect → Action
 action_of Passes = act.Skip
 action_of JoinsField = act.Copy
 action_of EndsField = act.EndField
 action_of EndsRecord = act.EndRecord
 
--- from a place a byte leads to the next one with this effect, as `csv` steps with its default settings
+-- a byte leads from one place to the next with this effect, as `csv` steps with its default settings
 abbrev pub IsStep : Place → ℕ → Place → Effect → Type 0
 IsStep place byte next effect = (state_at next ≡ (step default_config (state_at place) byte).0) × (action_of effect ≡ (step default_config (state_at place) byte).1)

@@ -18,7 +18,7 @@ pub fn answer_text(alloc: Global, names: &[Text], rows: &[Row]) -> Result<Vec<u8
     answer_text_from(alloc, names, &RowSource::of_rows(rows))
 }
 
-/// As `answer_text`, of rows however they are kept.
+/// As `answer_text`, for rows in any form.
 pub fn answer_text_from(
     alloc: Global,
     names: &[Text],
@@ -26,7 +26,7 @@ pub fn answer_text_from(
 ) -> Result<Vec<u8>, OutOfMemory>
     ensures { IfOk result (λ v. v.items ≡ spec.answer_text names.now rows.now) }
 {
-    // A flexible writer refuses no length of a record.
+    // A flexible writer accepts records of any lengths.
     let mut writer = WriterBuilder::new()
         .flexible(true)
         .from_writer(Vec::new(alloc));
@@ -43,7 +43,7 @@ pub fn answer_text_from(
     }
 }
 
-// Writes a record. A `Vec` refuses a write only where memory runs out.
+// Writes a record. A write to a `Vec` fails only where memory runs out.
 fn write(writer: &mut Writer<Vec<u8>>, fields: &ByteRecord) -> Result<(), OutOfMemory>
     ensures { (text : List ℕ) → spec.HasWritten writer.old text → OnOk result (spec.HasWritten writer.new (text ++ row_text default_writer (fields_of fields.now))) }
 {

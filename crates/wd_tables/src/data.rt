@@ -23,12 +23,10 @@ use wd_value::{OutOfMemory, Row};
 /// The most records that may follow the header.
 const MOST_RECORDS: u64 = 1_000_000;
 
-/// The rows of a table, from CSV text whose first record names each column of the table once, in
-/// any order. A leading byte order mark is passed over. A whole number is digits, with or without
-/// a minus before them, within the range of the column's type; a truth value is `t`, `f`, `true`
-/// or `false` in any ASCII case; an empty field is NULL, and in a NOT NULL column of texts the
-/// empty text. Records are judged in order, fields in the header's order, and the keys last (this
-/// project's choice).
+/// The rows of a table, from CSV text whose first record names each column of the table once, in any order. A leading byte order mark is
+/// ignored. A whole number is digits, with or without a minus before them, within the range of the column's type; a truth value is `t`,
+/// `f`, `true` or `false` in any ASCII case; an empty field is NULL, and in a NOT NULL column of texts the empty text. Records are
+/// checked in order, fields in the header's order, and the keys last (this project's choice).
 pub fn load(alloc: Global, table: &Table, text: &[u8]) -> Result<Vec<Row>, DataError>
     ensures holds { IfOk result (λ v. HoldsRows (table_of table.now) text.now (rows_of v.items)) }
     ensures meets { IfOk result (λ v. MeetsTable (table_of table.now) (rows_of v.items)) }
@@ -54,7 +52,7 @@ pub fn load_columns(alloc: Global, table: &Table, text: &[u8]) -> Result<Columns
     }
 }
 
-// The rows of a table, which may repeat a key.
+// The rows of a table, whose keys are not checked.
 fn read_rows(alloc: Global, table: &Table, text: &[u8]) -> Result<Columns, DataError>
     ensures holds { IfOk result (λ v. HoldsRows (table_of table.now) text.now v) }
     ensures fits { IfOk result (λ v. All (λ row. fits_columns table.now.columns.items row ≡ true) v) }
@@ -82,7 +80,7 @@ fn wide_header(alloc: Global, text: &[u8]) -> Result<DataError, OutOfMemory>
     }
 }
 
-// The rows, where a record may be known to be wider than the table.
+// The rows; a record that is known to be wider than the table is not read.
 fn read_all(
     alloc: Global,
     table: &Table,
@@ -103,7 +101,7 @@ fn read_all(
     Ok(rows)
 }
 
-// The rows of the records that follow the header. One of them may be known not to be well-formed.
+// The rows of the records that follow the header; one of them may be known to be malformed.
 fn read_data(
     alloc: Global,
     table: &Table,
@@ -141,7 +139,7 @@ fn read_data(
     Ok(Columns::new(columns, MOST_RECORDS as usize))
 }
 
-// The row of the next record, if there is one. The number is its own.
+// The row of the next record, which has this number, if there is one.
 fn next_row(
     alloc: Global,
     table: &Table,

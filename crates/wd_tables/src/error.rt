@@ -6,16 +6,16 @@ use std::alloc::{AllocError, AllocFailed};
 use thiserror::Error;
 use wd_value::OutOfMemory;
 
-/// Why the data of a table is refused. Records are counted from 1, the header not among them.
+/// Why the data of a table is refused. Records are counted from 1, without the header.
 #[derive(Debug, Drop, Error)]
 pub enum DataError {
-    /// 701: there is no header, or it doesn't name each column of the table once.
+    /// 701: there is no header, or it doesn't name each column of the table exactly once.
     #[error("the header doesn't name each column once")]
     Header,
-    /// 702: a field denotes no value of its column's type.
+    /// 702: a field is no value of its column's type.
     #[error("record {record} has a value that is not of its column's type")]
     Value { record: u64 },
-    /// 703: a field denotes NULL in a column that is NOT NULL.
+    /// 703: a field is NULL in a column that is NOT NULL.
     #[error("record {record} has NULL in a column that is NOT NULL")]
     Null { record: u64 },
     /// 704: the first record that repeats an earlier one in a key.
@@ -27,13 +27,13 @@ pub enum DataError {
     /// 706: more than 1,000,000 records follow the header.
     #[error("more than 1000000 records")]
     TooManyRecords,
-    /// The allocator refused a growth.
+    /// The allocator refused to allocate.
     #[error("out of memory")]
     OutOfMemory,
 }
 
 impl DataError {
-    /// The refusal's number, and None where memory runs out.
+    /// The refusal's number, or `None` where memory ran out.
     pub fn number(&self) -> Option<u32>
         ensures { result ≡ number_of self.now }
     {

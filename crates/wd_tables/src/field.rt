@@ -6,8 +6,7 @@ use std::alloc::Global;
 use wd_schema::{Column, is_of_type};
 use wd_value::{ColumnType, OutOfMemory, Text, Value};
 
-/// The value that a field denotes in a column, if it denotes one. Its text shares the bytes of an equal
-/// one that was read lately.
+/// The value that a field stands for in a column, if there is one. A text shares the bytes of an equal text that was read recently.
 pub fn field_value(
     alloc: Global,
     column: &Column,
@@ -27,7 +26,7 @@ pub fn field_value(
     Ok(value)
 }
 
-// NULL, and in a NOT NULL column of texts the empty text.
+// The value of an empty field: NULL, or the empty text in a NOT NULL column of texts.
 fn empty_value(alloc: Global, column: &Column) -> Result<Value, OutOfMemory>
     ensures { IfOk result (λ v. Some v ≡ spec.field_value column.now []) }
 {
@@ -38,7 +37,7 @@ fn empty_value(alloc: Global, column: &Column) -> Result<Value, OutOfMemory>
     }
 }
 
-// `t`, `f`, `true` or `false` in any ASCII case.
+// The truth value of `t`, `f`, `true` or `false` in any ASCII case.
 fn truth_value(field: &str) -> Option<bool>
     ensures { result ≡ spec.truth_value field.now }
 {
@@ -51,7 +50,7 @@ fn truth_value(field: &str) -> Option<bool>
     }
 }
 
-// Digits, with or without a minus before them, that write a number in the type's range.
+// The number of digits with or without a minus before them, if it is in the type's range.
 fn number_value(kind: ColumnType, field: &str) -> Option<Value>
     ensures { result ≡ option_and_then (spec.number_in kind) (spec.whole_number field.now) }
 {

@@ -56,7 +56,7 @@ fn count_of(names: &[Text], name: &[u8]) -> usize
         .count()
 }
 
-// The first place of a name, and the number of names where it isn't one of them.
+// The first place of a name, and the number of names where it is not among them.
 fn field_place(names: &[Text], name: &[u8]) -> usize
     ensures { result ≡ spec.field_place names.now name.now }
 {

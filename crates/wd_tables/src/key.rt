@@ -35,7 +35,7 @@ fn least(a: Option<u64>, b: Option<u64>) -> Option<u64>
     }
 }
 
-// Rows that are the same on the key stand side by side once they are sorted by it.
+// Rows that are the same on the key are next to one another once they are sorted by it.
 fn first_repeat_in(alloc: Global, key: &Key, rows: &Columns) -> Result<Option<u64>, OutOfMemory>
     ensures { IfOk result (λ o. IsLeast (RepeatsIn (key_of key.now) rows.now) o) }
 {
@@ -61,8 +61,8 @@ fn sort_columns(alloc: Global, columns: &[u16]) -> Result<Vec<SortColumn>, OutOf
     Ok(sorted)
 }
 
-// The positions of the rows, sorted by columns; rows that tie on all of them stay as they were. Rows
-// that stand in that order already, as a table is mostly exported, take one look at each.
+// The positions of the rows, sorted by columns; rows that tie on all of them keep their order. Rows that are already sorted, as in most
+// exports, take one pass.
 fn sorted_by(alloc: Global, rows: &Columns, columns: &[SortColumn]) -> Result<Vec<u64>, OutOfMemory>
     ensures { IfOk result (λ v. IsSortOf columns.now rows.now v.items) }
 {
@@ -76,7 +76,7 @@ fn sorted_by(alloc: Global, rows: &Columns, columns: &[SortColumn]) -> Result<Ve
     }
 }
 
-// Whether the rows stand in the order of the columns.
+// Whether the rows are in the order of the columns.
 fn are_in_order(rows: &RowSource, columns: &[SortColumn]) -> bool
     ensures { IsTrue result ↔ spec.AreInOrder columns.now rows.now }
 {
@@ -101,7 +101,7 @@ fn first_violation(key: &Key, rows: &Columns, order: &[u64]) -> Option<u64>
     first
 }
 
-// Whether the rows at two positions may not both stand in a table with the key.
+// Whether the key forbids the rows at two positions in one table.
 fn violates(key: &Key, rows: &Columns, p: u64, q: u64) -> bool
     ensures { result ≡ meets.violates (key_of key.now) (row_at rows.now p) (row_at rows.now q) }
 {

@@ -2,12 +2,12 @@
 
 ghost use Rattle.wd_tables.specs.Laws.{HasOneRefusal, HasRowsOrRefusal};
 
-/// A text has at most one refusal, out of memory aside.
+/// A text has at most one refusal, except that memory runs out.
 pub fn one_refusal()
     ensures { HasOneRefusal }
 {}
 
-/// No refusal's cause stands in a text that holds rows which meet the table.
+/// A text that holds rows which meet the table contains no cause of a refusal.
 pub fn rows_or_refusal()
     ensures { HasRowsOrRefusal }
 {}

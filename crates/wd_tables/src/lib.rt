@@ -1,4 +1,9 @@
 //! The rows of a table from CSV text, and an answer's rows as CSV text.
+//!
+//! `data` reads a text: `record` reads its records by the crate `csv`, `header` finds the columns, `row` makes a row of each record by
+//! the values of `field`, and `key` finds the first repeated key. `recent` lets equal texts share their bytes, and `wide` finds records
+//! that would take too much memory before they are read. `answer` writes an answer, and `laws` states that a text holds rows or has one
+//! refusal.
 #![tactic(auto)]
 
 mod answer;

@@ -3,13 +3,13 @@ ghost use Rattle.std.specs.Prelude.{◌≡◌, IfOk};
 use std::alloc::Global;
 use wd_value::{OutOfMemory, Text};
 
-/// How many texts are remembered: the number of places that 16 bits name.
+/// How many texts are remembered: one for each number of 16 bits.
 const PLACES: usize = 65_536;
 
 /// An odd number whose products spread over their high bits: 2^64 over the golden ratio.
 const SPREADING: u64 = 0x9E37_79B9_7F4A_7C15;
 
-/// Texts that were read before, one at each place. An equal text that is read later shares its bytes.
+/// Texts that were read before, one at each place. An equal text that is read later shares the bytes.
 #[derive(Drop)]
 pub struct RecentTexts {
     texts: Vec<Text>,
@@ -26,7 +26,7 @@ impl RecentTexts {
         Ok(RecentTexts { texts })
     }
 
-    /// The text of a field: that of its place where this is equal, and else one that takes the place.
+    /// The text of a field: the one at its place if that is equal, or else a new one, which takes the place.
     pub fn text_of(&mut self, alloc: Global, field: &str) -> Result<Text, OutOfMemory>
         ensures { IfOk result (λ t. t ≡ field.now) }
     {
@@ -42,8 +42,8 @@ impl RecentTexts {
     }
 }
 
-// The place of a text, by its last eight bytes, which mostly tell texts of a column apart, and of a
-// shorter one by its length too.
+// The place of a text, by its last eight bytes, which usually differ between the texts of a column, and for a shorter text also by its
+// length.
 fn place_of(text: &[u8]) -> usize {
     let mut end = text.len() as u64;
     for byte in text.iter().rev().take(8) {

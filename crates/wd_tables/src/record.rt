@@ -7,7 +7,7 @@ ghost use Rattle.wd_tables.specs.Reading.{HasRead, IsMalformedAt, IsRecord, Refu
 use crate::error::DataError;
 use csv::{ErrorKind, Reader, StringRecord};
 
-/// Reads the next record of a text in place of the one before, and says whether there was one.
+/// Reads the next record of a text in place of the one before; the result is whether there was one.
 pub fn next_record(reader: &mut Reader<&[u8]>, fields: &mut StringRecord) -> Result<bool, DataError>
     ensures read { (text : List ℕ) (n : ℕ) → HasRead text n reader.old → IfOk result (λ found. MatchBool found (HasRead text (n + 1) reader.new × IsRecord text n (fields_of fields.new)) (length (records_of text) ≡ n)) }
     ensures refused { (text : List ℕ) (n : ℕ) → HasRead text n reader.old → IfErr result (λ e. RefusesRead text n e) }
@@ -18,8 +18,8 @@ pub fn next_record(reader: &mut Reader<&[u8]>, fields: &mut StringRecord) -> Res
     }
 }
 
-/// Reads the record with a number in place of the one before, and says whether there was one; the one that is known not to be
-/// well-formed is not read.
+/// Reads the record with a number in place of the one before; the result is whether there was one. The record that is known to be
+/// malformed is not read.
 pub fn next_unless(
     reader: &mut Reader<&[u8]>,
     fields: &mut StringRecord,
@@ -35,7 +35,7 @@ pub fn next_unless(
     next_record(reader, fields)
 }
 
-// A read of a slice fails for its records, else only where memory runs out.
+// The refusal of a failed read: of a malformed record, or else out of memory, since a slice can't fail.
 fn refusal(kind: ErrorKind) -> DataError
     ensures { result ≡ refusal_of kind }
 {
@@ -48,7 +48,7 @@ fn refusal(kind: ErrorKind) -> DataError
     }
 }
 
-/// The field at a place, and the empty one past the last.
+/// The field at a place, and the empty field past the last.
 pub fn field_at(fields: &StringRecord, place: usize) -> &str
     ensures { result.now ≡ slice_index_or (fields_of fields.now) place [] }
 {

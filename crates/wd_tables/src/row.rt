@@ -16,7 +16,7 @@ use std::alloc::Global;
 use wd_schema::{Column, is_null};
 use wd_value::{Row, Value};
 
-/// The row of a record, whose field for each column stands at the column's place.
+/// The row of a record, by the place of each column's field.
 pub fn row_of(
     alloc: Global,
     columns: &[Column],
@@ -49,14 +49,14 @@ pub fn row_of(
     Ok(row)
 }
 
-// A field that is refused, and its place in the record.
+// A refused field, and its place in the record.
 #[derive(Drop)]
 struct Refused {
     place: usize,
     refusal: DataError,
 }
 
-// Refuses a record for the first of its fields that is refused, if there is one.
+// Refuses a record for the first of its refused fields, if there is one.
 fn refuse_first(
     alloc: Global,
     columns: &[Column],
@@ -83,7 +83,7 @@ fn refuse_first(
     }
 }
 
-// The one of two refused fields that stands further left.
+// The refused field that is further left.
 fn leftmost(first: Option<Refused>, other: Refused) -> Refused
     ensures { result ≡ leftmost_of first other }
 {

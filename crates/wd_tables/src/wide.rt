@@ -1,6 +1,6 @@
-//! Records that have more fields than the table has columns, found before they are read: a reader
-//! keeps the end of each field of a record, in eight bytes, before it says how many there are. As a header such a record is 701
-//! where its fields are UTF-8 and else 705; as a later record it is 705 when its turn comes, as reading would refuse it.
+//! Records with more fields than the table has columns, found before they are read: a reader keeps the end of each field of a record, in
+//! eight bytes, before it says how many fields there are. Such a record is refused as a header by 701 where its fields are UTF-8, else by
+//! 705; as a later record by 705 in its turn, as reading would refuse it.
 
 ghost use Rattle.std.specs.Prelude.{◌≡◌, ◌↔◌, ◌<◌, true, length, IfOk, IfSome, IsUtf8};
 ghost use Rattle.csv.specs.Reading.{strip_bom};
@@ -13,11 +13,10 @@ ghost use Rattle.wd_tables.specs.declared.wide.Place.TheVariants as places;
 use std::alloc::Global;
 use wd_value::OutOfMemory;
 
-/// A text with fewer commas is not looked through: the ends of a record's fields take less than a
-/// gigabyte there.
+/// A text with fewer commas is not searched: the ends of a record's fields take less than a gigabyte there.
 const MANY_COMMAS: usize = 33_554_432;
 
-/// Where a scan stands between two bytes of a text.
+/// The state of a scan between two bytes of a text.
 #[derive(Clone, Copy)]
 enum Place {
     RecordStart,
@@ -28,7 +27,7 @@ enum Place {
     AfterReturn,
 }
 
-/// What a byte does to a record.
+/// The effect of a byte on a record.
 #[derive(Clone, Copy)]
 enum Effect {
     Passes,
@@ -37,8 +36,7 @@ enum Effect {
     EndsRecord,
 }
 
-/// The number of a record that has more than so many fields, if one is found. In a text with few
-/// commas none is looked for.
+/// The number of a record that has more than `most` fields, if one is found. A text with few commas is not searched.
 pub fn wide_record(text: &[u8], most: usize) -> Option<u64>
     ensures { IfSome result (λ n. IsWide text.now most n) }
 {
@@ -52,7 +50,7 @@ fn commas(text: &[u8]) -> usize {
     text.iter().filter(|byte| **byte == b',').count()
 }
 
-// The first such record.
+// The number of the first record with more than `most` fields.
 fn first_wide(text: &[u8], most: usize) -> Option<u64>
     ensures { IfSome result (λ n. IsWide text.now most n) }
 {
@@ -79,8 +77,7 @@ fn first_wide(text: &[u8], most: usize) -> Option<u64>
     None
 }
 
-/// Whether each field of a text's first record is in UTF-8. Of a text without records it says
-/// nothing.
+/// Whether each field of a text's first record is in UTF-8; unspecified for a text without records.
 pub fn has_text_header(alloc: Global, text: &[u8]) -> Result<bool, OutOfMemory>
     ensures { IfOk result (λ is_text. 0 < length (records_of text.now) → (is_text ≡ true) ↔ AllText (header_of text.now)) }
 {
@@ -110,7 +107,7 @@ fn is_text(bytes: &[u8]) -> bool
     std::str::from_utf8(bytes).is_ok()
 }
 
-// The text behind a byte order mark at its start.
+// The text without a byte order mark at its start.
 fn without_mark(text: &[u8]) -> &[u8]
     ensures { result.now ≡ strip_bom text.now }
 {
@@ -121,7 +118,7 @@ fn without_mark(text: &[u8]) -> &[u8]
     }
 }
 
-// Where a byte leads, and what it does.
+// The next state of a scan, and the effect of the byte.
 fn step(place: Place, byte: u8) -> (Place, Effect)
     ensures step { IsStep place byte result.0 result.1 }
     ensures opens { result.1 ≡ effects.EndsField → result.0 ≡ places.FieldStart }

@@ -1,4 +1,4 @@
--- The columns of tables by which rows tie that two choices put into other places.
+-- The columns of tables on which rows tie that two choices order differently.
 use Rattle.std.specs.Prelude.{◌≡◌, ℕ, ◌&&◌, Bool, List, [], flat_map, nat_eq, option_to_list, slice_get, take, Option, Some, None}
 use Rattle.std.specs.List.{list_any}
 use Rattle.wd_plan.specs.Plans.{PlanTree}
@@ -20,8 +20,8 @@ abbrev pub copied_in : Option NodeColumns → List TableColumn
 copied_in None = []
 copied_in (Some o) = copied o
 
--- those by which a plan's first ordering goes in which two choices differ: the rows below it are the same under both, so rows that
--- change places tie, and are alike in these columns
+-- the table columns of a plan's first ordering in which two choices differ: the rows below it are the same under both, so rows that
+-- change places tie, and are equal in these columns
 abbrev pub AreTies : PlanTree → List (List ℕ) → List (List ℕ) → List TableColumn → Type 0
 AreTies plan first second ties = (n : ℕ) × IsFirstDifference first second n × (ties ≡ copied_in (slice_get (orderings plan) n))
 

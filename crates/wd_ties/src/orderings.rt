@@ -8,7 +8,7 @@ ghost use Rattle.wd_ties.specs.Orderings as spec;
 use wd_plan::{Class, Plan};
 use wd_value::{OutOfMemory, SortColumn};
 
-/// The columns by which an ordering orders the rows of a node: those of a partition, and of sort keys.
+/// The columns by which an ordering sorts the rows of a node: those of a partition, and of sort keys.
 #[derive(Clone, Copy)]
 pub(crate) struct Ordered<'p> {
     pub node: &'p Plan,
@@ -16,7 +16,7 @@ pub(crate) struct Ordered<'p> {
     pub keys: &'p [SortColumn],
 }
 
-/// Appends the orderings of a plan, in the order in which a choice has them.
+/// Appends the orderings of a plan, in the order of a choice.
 pub(crate) fn add_orderings<'p>(
     plan: &'p Plan,
     found: &mut Vec<Ordered<'p>>,
@@ -49,7 +49,7 @@ pub(crate) fn add_orderings<'p>(
     }
 }
 
-/// Appends those of classes over the rows of a node.
+/// Appends the orderings of classes over the rows of a node.
 fn add_classes<'p>(
     node: &'p Plan,
     classes: &'p [Class],

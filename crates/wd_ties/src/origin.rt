@@ -7,7 +7,7 @@ ghost use Rattle.wd_plan.specs.Plans.{Scan, plan_of};
 use wd_candidates::TableColumn;
 use wd_plan::{Expr, Plan};
 
-/// The column of a table that a column of a node copies, through plain columns alone; None where there is none.
+/// The column of a table that a column of a node copies, through plain columns only; `None` where it copies none.
 pub(crate) fn origin_of(node: &Plan, column: u16) -> Option<TableColumn>
     ensures { result ≡ origin (plan_of node.now) column }
 {
@@ -45,7 +45,7 @@ pub(crate) fn origin_of(node: &Plan, column: u16) -> Option<TableColumn>
     }
 }
 
-/// The column of a table with so many columns, if it has that one.
+/// The column of a table, if it is below the table's number of columns.
 fn table_column(table: u16, columns: u16, column: u16) -> Option<TableColumn>
     ensures { result ≡ origin (Scan table columns) column }
 {

@@ -1,4 +1,4 @@
-//! The columns of tables by which rows tie.
+//! The columns of tables on which rows tie.
 
 ghost use Rattle.std.specs.Prelude.{◌≡◌, ◌++◌, ◌↔◌, true, flat_map, option_to_list, IfOk};
 ghost use Rattle.wd_candidates.specs.Origins.{origin};
@@ -16,8 +16,8 @@ use wd_candidates::TableColumn;
 use wd_plan::{Choice, Plan};
 use wd_value::{OutOfMemory, SortColumn};
 
-/// The columns of tables by which rows tie that change places between two choices: those that the columns copy by which the first
-/// ordering goes in which the choices differ. None where that goes by no copy, or where the choices do not differ.
+/// The columns of tables on which rows tie that change places between two choices: those that are copied by the columns of the first
+/// ordering in which the choices differ. Empty where these copy none, or where the choices do not differ.
 pub fn tied_columns(
     alloc: Global,
     plan: &Plan,
@@ -55,7 +55,7 @@ fn is_same(one: &[u64], other: &[u64]) -> bool
     one == other
 }
 
-/// The table columns that the columns copy by which an ordering goes.
+/// The table columns that the columns of an ordering copy.
 fn copied_columns(alloc: Global, ordered: Ordered<'_>) -> Result<Vec<TableColumn>, OutOfMemory>
     ensures { IfOk result (λ v. v.items ≡ copied (node_columns ordered.entry)) }
 {

@@ -1,11 +1,10 @@
--- Tokens that can be written as a text, so that the lexer reads just these.
+-- Tokens that can be written as a text in which the lexer reads just these.
 use Rattle.std.specs.Prelude.{ℕ, ◌≤◌, List, length, All}
 use Rattle.wd_lex.specs.declared.token.Token.{Token}
 use Rattle.wd_lex.specs.Lexed.{IsLexed, kinds_of, most_bytes}
 use Rattle.wd_print.specs.Printed.{IsPrintable, printed}
 
--- a token that has a spelling: not a word with a capital letter or one that is reserved, no name that is empty, and no number
--- beyond those that the lexer reads
+-- a token that has a spelling: no word with a capital letter, no reserved word, no empty name, and no number that the lexer does not read
 abbrev pub IsSpellable : Token → Type 0
 IsSpellable token = IsPrintable token.kind
 
@@ -13,7 +12,7 @@ IsSpellable token = IsPrintable token.kind
 abbrev pub text_of : List Token → List ℕ
 text_of tokens = printed (kinds_of tokens)
 
--- tokens that can be written: each has a spelling, and their text is no longer than what the lexer reads
+-- tokens that can be written: each has a spelling, and their text is not longer than what the lexer reads
 pub record AreWritable (tokens : List Token) : Type 0 where
   pub each : All IsSpellable tokens
   pub short : length (text_of tokens) ≤ most_bytes

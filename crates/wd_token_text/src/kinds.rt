@@ -1,11 +1,11 @@
-//! Tokens that say the same.
+//! Tokens that are equal but for their places.
 
 ghost use Rattle.std.specs.Prelude.{◌≡◌, true};
 ghost use Rattle.wd_lex.specs.Lexed.{kinds_of};
 
 use wd_lex::{Token, TokenKind};
 
-/// Whether tokens say the same, one by one, wherever they stand.
+/// Whether tokens are equal one by one, whatever their places.
 pub fn say_the_same(tokens: &[Token], others: &[Token]) -> bool
     ensures same { result ≡ true → kinds_of tokens.now ≡ kinds_of others.now }
     ensures other { kinds_of tokens.now ≡ kinds_of others.now → result ≡ true }
@@ -21,7 +21,7 @@ pub fn say_the_same(tokens: &[Token], others: &[Token]) -> bool
     true
 }
 
-/// Whether two tokens say the same.
+/// Whether two tokens are equal, whatever their places.
 fn is_same(kind: &TokenKind, other: &TokenKind) -> bool
     ensures same { result ≡ true → kind.now ≡ other.now }
     ensures other { kind.now ≡ other.now → result ≡ true }

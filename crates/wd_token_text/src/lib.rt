@@ -1,7 +1,7 @@
-//! Tokens as a text that the profile's lexer reads as just these.
+//! Tokens as a text in which the profile's lexer reads just these.
 //!
-//! `text` prints tokens, each in its own spelling, and has the lexer read them; `kinds` compares what it reads with what was to be
-//! written; `laws` says which tokens have a spelling.
+//! `text` prints tokens, each in its own spelling, and has the lexer read them; `kinds` compares the result with the tokens; `laws` says
+//! which tokens have a spelling.
 #![tactic(auto)]
 
 mod kinds;

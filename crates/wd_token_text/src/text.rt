@@ -12,7 +12,7 @@ use wd_lex::{LexError, Token, TokenKind, lex};
 use wd_print::{push_literal, push_name, push_number, push_terminal, push_word};
 use wd_value::OutOfMemory;
 
-/// The text of tokens, each in its own spelling and with white space after it, in which the lexer reads just these. None where one of
+/// The text of tokens, each in its own spelling and with white space after it, in which the lexer reads just these. `None` where one of
 /// them has no spelling, or the text would be longer than what the lexer reads.
 pub fn token_text(alloc: Global, tokens: &[Token]) -> Result<Option<String>, OutOfMemory>
     // The lexer reads just these tokens in the text.
@@ -21,7 +21,7 @@ pub fn token_text(alloc: Global, tokens: &[Token]) -> Result<Option<String>, Out
     // The text is the tokens, one after the other.
     ensures text { IfOk result (λ o. IfSome o (λ text. string_bytes text ≡ text_of tokens.now)) }
 
-    // There is one just where each token has a spelling and the text is short enough.
+    // There is a text exactly where each token has a spelling and the text is short enough.
     ensures some { IfOk result (λ o. IsSome o ↔ AreWritable tokens.now) }
 {
     let text = printed_tokens(alloc, tokens)?;

@@ -43,11 +43,11 @@ schema =
     ∷ table (codes "c") (column (codes "n") ∷ column (codes "k") ∷ [])
     ∷ []
 
--- tokens that say this, all at one place
+-- these tokens, all at one place
 abbrev pub all_at : Span → List TokenKind → List Token
 all_at at kinds = map (λ kind. let token : Token = record { kind = kind; span = at } in token) kinds
 
--- tokens that say the first are written as tokens that say the second
+-- the first tokens are respelled as the second
 abbrev pub Becomes : List TokenKind → List TokenKind → Type 0
 Becomes left right = (at : Span) → respelled schema (all_at at left) ≡ Ok (all_at at right)
 

@@ -1,6 +1,6 @@
--- The tables of a FROM clause in which tables are joined by [INNER] JOIN, each ON a condition or USING columns. A table is a
--- declared one, or a derived one with an alias, each of whose items has a name. No other FROM clause is read: none with another
--- kind of join, or a comma between tables, or a select in a condition.
+-- The tables of a FROM clause in which tables are joined by [INNER] JOIN, each ON a condition or USING columns. A table is a declared
+-- one, or a derived one with an alias, each of whose items has a name. A FROM clause with another kind of join, a comma between tables,
+-- or a select in a condition is not read.
 use Rattle.std.specs.Prelude.{ℕ, zero, suc, ◌+◌, ◌==◌, ◌||◌, ◌&&◌, not, if◌then◌else◌, Bool, true, false, List, [], ◌∷◌, map, take, drop, Option, Some, None}
 use Rattle.wd_lex.specs.declared.token.TokenKind.{TokenKind}
 use Rattle.wd_lex.specs.declared.token.TokenKind.TheVariants as t
@@ -21,12 +21,12 @@ use Rattle.wd_using.specs.Kinds.{begins_select, begins_table, has, is_inner, is_
 use Rattle.wd_using.specs.Pieces.{distinct_count}
 use Rattle.wd_using.specs.Reach.{reach}
 
--- how many tokens a table and its alias are, and the name by which its columns are called
+-- how many tokens a table and its alias take, and the name before its columns
 pub record Alias : Type 0 where
   pub count : ℕ
   pub name : Token
 
--- the columns of USING, the word USING, and what stands behind them; without USING no columns
+-- the columns of USING, the word USING, and the tokens after them; without USING no columns
 pub record Condition : Type 0 where
   pub word : Token
   pub names : List Token
@@ -44,7 +44,7 @@ abbrev pub alias_behind_as : Token → List Token → Alias
 alias_behind_as name [] = record { count = 1; name = name }
 alias_behind_as name (alias ∷ tokens) = if is_name alias.kind then record { count = 3; name = alias } else record { count = 1; name = name }
 
--- [[AS] alias] behind a table's name
+-- [[AS] alias] after a table's name
 abbrev pub alias_at : Token → List Token → Alias
 alias_at name [] = record { count = 1; name = name }
 alias_at name (next ∷ tokens) =
@@ -80,12 +80,12 @@ abbrev pub with_names : Token → List Token → Option (List Token) → Option 
 with_names word rest None = None
 with_names word rest (Some names) = if ends rest then Some (record { word = word; names = names; rest = rest }) else None
 
--- the columns up to the bracket that closes
+-- the columns up to the closing bracket
 abbrev pub names_up_to : Token → List Token → Option ℕ → Option Condition
 names_up_to word tokens None = None
 names_up_to word tokens (Some place) = with_names word (drop (place + 1) tokens) (parts (take place tokens) >>= names_of)
 
--- ( columns ) behind USING
+-- ( columns ) after USING
 abbrev pub using_at : Token → List Token → Option Condition
 using_at word [] = None
 using_at word (bracket ∷ tokens) = if opens bracket.kind then names_up_to word tokens (closing tokens) else None
@@ -130,7 +130,7 @@ derived_columns (select ∷ tokens) =
     let list = drop (distinct_count tokens) tokens in
     if is_select select.kind then parts (take (reach_items From list) list) >>= item_names else None
 
--- the columns of a table, how many tokens it is with its alias, and its alias
+-- the columns of a table, how many tokens it takes with its alias, and its alias
 pub record Source : Type 0 where
   pub columns : List (List ℕ)
   pub alias : Alias
@@ -146,7 +146,7 @@ abbrev pub with_columns : ℕ → Alias → Option (List (List ℕ)) → Option 
 with_columns place alias None = None
 with_columns place alias (Some columns) = Some (record { columns = columns; alias = record { count = place + 1 + alias.count; name = alias.name } })
 
--- a query in brackets, of which the place of the second is this, and its alias, which it must have
+-- a query in brackets, whose closing bracket is at this place, and its alias, which is required
 abbrev pub derived_source : Token → List Token → Option ℕ → Option Source
 derived_source bracket tokens None = None
 derived_source bracket tokens (Some place) =
@@ -170,7 +170,7 @@ abbrev pub with_behind : List Token → Option JoinedTable → Option (JoinedTab
 with_behind behind None = None
 with_behind behind (Some table) = Some (table, behind)
 
--- FROM or JOIN, a table with its condition, and what follows
+-- FROM or JOIN, a table with its condition, and the tokens after it
 unfoldable pub table_at : List TableRule → List Token → Option (JoinedTable × List Token)
 table_at tables [] = None
 table_at tables (join ∷ tokens) = if begins_table join.kind then with_behind (drop (reach Table tokens) tokens) (joined_at tables join (take (reach Table tokens) tokens)) else None
@@ -190,7 +190,7 @@ abbrev pub with_further : (List Token → Option (List JoinedTable)) → Option 
 with_further further None = None
 with_further further (Some found) = with_next further found.0 found.1
 
--- FROM table {JOIN table}, and nothing else, with at most so many tables
+-- FROM table {JOIN table}, and nothing else, with at most the given number of tables
 unfoldable pub joined_tables : List TableRule → ℕ → List Token → Option (List JoinedTable)
 joined_tables tables zero tokens = None
 joined_tables tables (suc more) tokens = with_further (joined_tables tables more) (table_at tables tokens)

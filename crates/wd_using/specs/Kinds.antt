@@ -18,13 +18,13 @@ abbrev pub is_star : TokenKind → Bool
 is_star (t.Terminal m.Star) = true
 is_star _ = false
 
--- FROM or JOIN stands before a table
+-- FROM or JOIN, after which a table begins
 abbrev pub begins_table : TokenKind → Bool
 begins_table (t.Terminal m.From) = true
 begins_table (t.Terminal m.Join) = true
 begins_table _ = false
 
--- what stands behind a table and its condition, in a FROM clause
+-- what may follow a table and its condition in a FROM clause
 abbrev pub ends_table : TokenKind → Bool
 ends_table (t.Terminal m.Join) = true
 ends_table (t.Terminal m.Comma) = true
@@ -45,18 +45,18 @@ abbrev pub is_and : TokenKind → Bool
 is_and (t.Terminal m.And) = true
 is_and _ = false
 
--- OR, and CASE, in which AND and OR may stand without brackets
+-- OR, and CASE, in which AND and OR may appear without brackets
 abbrev pub is_choice : TokenKind → Bool
 is_choice (t.Terminal m.Or) = true
 is_choice (t.Terminal m.Case) = true
 is_choice _ = false
 
--- the AND behind it is its own
+-- a word with an AND of its own after it
 abbrev pub is_between : TokenKind → Bool
 is_between (t.Word text) = bytes_eq text (codes "between")
 is_between _ = false
 
--- what may take rows away by their order begins there
+-- a word that begins a clause that may remove rows by their order
 abbrev pub begins_limit : TokenKind → Bool
 begins_limit (t.Terminal m.Order) = true
 begins_limit (t.Terminal m.Limit) = true
@@ -64,7 +64,7 @@ begins_limit (t.Terminal m.Offset) = true
 begins_limit (t.Terminal m.Fetch) = true
 begins_limit _ = false
 
--- a star behind it stands for columns: it begins an item, or it is a dot
+-- a token after which a star stands for columns: an item begins after it, or it is a dot
 abbrev pub begins_columns : TokenKind → Bool
 begins_columns (t.Terminal m.Select) = true
 begins_columns (t.Terminal m.Distinct) = true
@@ -73,7 +73,7 @@ begins_columns (t.Terminal m.Comma) = true
 begins_columns (t.Terminal m.Dot) = true
 begins_columns _ = false
 
--- a value may end there, or it is AS: a name behind it would name an item
+-- a token after which a name would name an item: a value may end with it, or it is AS
 abbrev pub ends_value : TokenKind → Bool
 ends_value (t.Terminal m.As) = true
 ends_value (t.Terminal m.RightBracket) = true
@@ -84,7 +84,7 @@ ends_value (t.Terminal m.False) = true
 ends_value (t.Terminal terminal) = false
 ends_value _ = true
 
--- behind AS a name is a new one, and behind a dot it is a certain table's
+-- a token after which a name is not a column alone: after AS a name is new, and after a dot it is a certain table's
 abbrev pub is_taken : TokenKind → Bool
 is_taken (t.Terminal m.As) = true
 is_taken (t.Terminal m.Dot) = true

@@ -1,5 +1,5 @@
--- The columns that USING merges, and the table to which each is ascribed. Of the tables that have such a column each but the
--- first is joined USING it, and no other table is: so on the left of each USING just one column has the name, merged or not.
+-- The columns that USING merges, and the table that each is attributed to. Of the tables that have such a column each one but the first
+-- is joined USING it, and no other table is: so to the left of each USING exactly one column has the name, merged or not.
 use Rattle.std.specs.Prelude.{ℕ, not, if◌then◌else◌, Bool, true, false, List, [], ◌∷◌, ◌++◌, Option, Some, None}
 use Rattle.wd_lex.specs.declared.token.TokenKind.{TokenKind}
 use Rattle.wd_lex.specs.declared.token.Token.{Token}
@@ -20,7 +20,7 @@ abbrev pub has_name : TokenKind → List Token → Bool
 has_name name [] = false
 has_name name (other ∷ names) = if is_same_name other.kind name then true else has_name name names
 
--- a table is joined USING a column just if it has it
+-- a table is joined USING a column exactly if it has the column
 abbrev pub is_joined_by : TokenKind → JoinedTable → Bool
 is_joined_by name table = if has_column name table.columns then has_name name table.condition.names else not (has_name name table.condition.names)
 
@@ -28,7 +28,7 @@ abbrev pub are_joined_by : TokenKind → List JoinedTable → Bool
 are_joined_by name [] = true
 are_joined_by name (table ∷ tables) = if is_joined_by name table then are_joined_by name tables else false
 
--- the first table that has the column, if that is clear
+-- the first table that has the column, if it is clear which one that is
 abbrev pub first_with : TokenKind → List JoinedTable → Option Token
 first_with name [] = None
 first_with name (table ∷ tables) =

@@ -1,4 +1,4 @@
--- Parts of a select as they are read, without where they lie in memory.
+-- Parts of a select as they are read, as pure data.
 use Rattle.std.specs.Prelude.{map}
 use Rattle.wd_using.specs.declared.source.Alias.{Alias}
 use Rattle.wd_using.specs.declared.join.Condition.{Condition}

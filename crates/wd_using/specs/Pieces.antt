@@ -1,4 +1,4 @@
--- The pieces of SELECT [DISTINCT] items FROM .. clauses, and what follows it. DISTINCT ON may not stand in it.
+-- The pieces of SELECT [DISTINCT] items FROM .. clauses, and the tokens after it. It may not have DISTINCT ON.
 use Rattle.std.specs.Prelude.{ℕ, ◌||◌, if◌then◌else◌, List, [], ◌∷◌, take, drop, Option, Some, None}
 use Rattle.wd_lex.specs.declared.token.Token.{Token}
 use Rattle.wd_clauses.specs.declared.level.Stop.TheVariants.{Clause, From}
@@ -20,18 +20,18 @@ pub record Pieces : Type 0 where
 abbrev pub distinct_count : List Token → ℕ
 distinct_count tokens = if begins is_distinct tokens then 1 else 0
 
--- with the FROM clause and the clauses behind it
+-- the pieces, with the FROM clause and the clauses after it
 abbrev pub with_tables : Token → List Token → List Token → List Token → List Token → Option Pieces
 with_tables select distinct items tokens after =
     if begins is_from tokens then
     Some (record { select = select; distinct = distinct; items = items; tables = take (clauses.reach Clause tokens) tokens; clauses = drop (clauses.reach Clause tokens) tokens; after = after })
     else None
 
--- with the items behind SELECT [DISTINCT]
+-- the pieces, with the items after SELECT [DISTINCT]
 abbrev pub with_items : Token → List Token → List Token → List Token → Option Pieces
 with_items select distinct tokens after = with_tables select distinct (take (clauses.reach From tokens) tokens) (drop (clauses.reach From tokens) tokens) after
 
--- with what stands behind SELECT at its level
+-- the pieces, with the tokens after SELECT at its level
 abbrev pub with_body : Token → List Token → List Token → Option Pieces
 with_body select body after =
     let list = drop (distinct_count body) body in
@@ -42,10 +42,10 @@ unfoldable pub pieces_at : List Token → Option Pieces
 pieces_at [] = None
 pieces_at (select ∷ tokens) = if is_select select.kind then with_body select (take (reach Level tokens) tokens) (drop (reach Level tokens) tokens) else None
 
--- neither UNION nor another select stands in it but in its FROM clause
+-- the select has neither UNION nor another select outside its FROM clause
 abbrev pub if_single : Pieces → Option Pieces
 if_single select = if has begins_select select.items || has begins_select select.clauses then None else Some select
 
--- the select that begins here, if another stands only in its FROM clause
+-- the select that begins here, if other selects are only in its FROM clause
 abbrev pub select_at : List Token → Option Pieces
 select_at tokens = pieces_at tokens >>= if_single

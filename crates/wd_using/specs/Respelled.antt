@@ -1,6 +1,6 @@
--- A query without USING. FROM a JOIN b USING ( k ) is FROM a JOIN b ON a.k = b.k, and k is a.k in each clause of the select.
--- A select is left as it is where its tables or the table of a merged column are not clear, where an item stands for all
--- columns, or where an item may have the name of a merged column by AS, behind its value, or after a function.
+-- A query without USING. FROM a JOIN b USING ( k ) is FROM a JOIN b ON a.k = b.k, and k is a.k in each clause of the select. A select
+-- stays as it is where its tables or the table of a merged column are not clear, where an item stands for all columns, or where an item
+-- may have the name of a merged column by AS, after its value, or after a function.
 use Rattle.std.specs.Prelude.{ℕ, ◌&&◌, ◌||◌, if◌then◌else◌, nat_lt, Bool, true, false, List, [], ◌∷◌, ◌++◌, length, take, drop, Option, Some, None, Result}
 use Rattle.wd_lex.specs.declared.token.TokenKind.{TokenKind}
 use Rattle.wd_lex.specs.declared.token.Token.{Token}
@@ -20,7 +20,7 @@ abbrev pub is_found : Option Token → Bool
 is_found None = false
 is_found (Some table) = true
 
--- a name is that of an item by AS or behind its value, or that of a function, after which an item may be called
+-- a name is that of an item, by AS or after its value, or that of a function, whose name an item may have
 abbrev pub may_name_item : TokenKind → List Token → Bool
 may_name_item before after = ends_value before || begins goes_on after
 
@@ -37,19 +37,19 @@ are_clear merged before (token ∷ after) = if is_unclear merged before token af
 abbrev pub most_merged : ℕ
 most_merged = 64
 
--- at least one, and not too many
+-- at least one merged column, and not too many
 abbrev pub are_few : List MergedColumn → Bool
 are_few [] = false
 are_few (column ∷ merged) = nat_lt (length merged) most_merged
 
--- what stands for a select behind these tokens, if its items are clear
+-- what replaces a select after these tokens, if its items are clear
 abbrev pub if_clear : List Token → Pieces → List JoinedTable → List MergedColumn → Option (List Token)
 if_clear front select tables merged = if are_few merged && are_clear merged select.select.kind select.items then Some (front ++ written merged tables select) else None
 
 abbrev pub with_tables : List Token → Pieces → List JoinedTable → Option (List Token)
 with_tables front select tables = merged_of tables (names_in tables) >>= λ merged. if_clear front select tables merged
 
--- what stands for a select behind these tokens
+-- what replaces a select after these tokens
 abbrev pub respelled_select : List TableRule → List Token → Pieces → Option (List Token)
 respelled_select schema front select = joined_tables schema most_tables select.tables >>= λ tables. with_tables front select tables
 

@@ -16,7 +16,7 @@ use wd_distinct_on::cut;
 use wd_lex::Token;
 use wd_schema::Schema;
 
-/// The columns of USING, the word USING, and what stands behind them; without USING no columns.
+/// The columns of USING, the word USING, and the tokens after them; without USING no columns.
 #[derive(Drop)]
 pub struct Condition<'t> {
     pub word: &'t Token,
@@ -60,7 +60,7 @@ fn names_of<'t>(alloc: Global, parts: &[&'t [Token]]) -> Result<Option<Vec<&'t T
     Ok(Some(names))
 }
 
-/// Whether nothing stands there, or INNER before the next JOIN.
+/// Whether no token is left, or INNER comes before the next JOIN.
 fn ends(tokens: &[Token]) -> bool
     ensures { result ≡ spec.ends tokens.now }
 {
@@ -92,7 +92,7 @@ fn names_up_to<'t>(
     }
 }
 
-/// `( columns )` behind USING
+/// `( columns )` after USING.
 fn using_at<'t>(
     alloc: Global,
     word: &'t Token,
@@ -129,7 +129,7 @@ fn condition_at<'t>(
     }))
 }
 
-/// A table, its alias, and its condition, behind FROM or JOIN.
+/// A table, its alias, and its condition, after FROM or JOIN.
 fn joined_at<'t>(
     alloc: Global,
     schema: &'t Schema,
@@ -154,7 +154,7 @@ fn joined_at<'t>(
     }
 }
 
-/// FROM or JOIN, a table with its condition, and what follows.
+/// FROM or JOIN, a table with its condition, and the tokens after it.
 #[tactic(auto, unfolding(crate::specs::Joins::table_at))]
 fn table_at<'t>(
     alloc: Global,
@@ -176,7 +176,7 @@ fn table_at<'t>(
     }
 }
 
-/// Whether nothing follows.
+/// Whether no token is left.
 fn is_end(tokens: &[Token]) -> bool
     ensures { result ≡ spec.is_end tokens.now }
 {

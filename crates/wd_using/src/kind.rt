@@ -60,14 +60,14 @@ pub fn ends_level(kind: &TokenKind) -> bool
     )
 }
 
-/// Whether FROM or JOIN stands there, before a table.
+/// Whether the token is FROM or JOIN, after which a table begins.
 pub fn begins_table(kind: &TokenKind) -> bool
     ensures { result ≡ spec.begins_table kind.now }
 {
     matches!(kind, TokenKind::Terminal(Terminal::From | Terminal::Join))
 }
 
-/// Whether a table and its condition have ended, in a FROM clause.
+/// Whether the token ends a table and its condition in a FROM clause.
 pub fn ends_table(kind: &TokenKind) -> bool
     ensures { result ≡ spec.ends_table kind.now }
 {
@@ -91,14 +91,14 @@ pub fn is_and(kind: &TokenKind) -> bool
     matches!(kind, TokenKind::Terminal(Terminal::And))
 }
 
-/// Whether OR stands there, or CASE, in which AND and OR may stand without brackets.
+/// Whether the token is OR, or CASE, in which AND and OR may appear without brackets.
 pub fn is_choice(kind: &TokenKind) -> bool
     ensures { result ≡ spec.is_choice kind.now }
 {
     matches!(kind, TokenKind::Terminal(Terminal::Or | Terminal::Case))
 }
 
-/// Whether the next AND is part of a test.
+/// Whether the next AND after the token is part of a test.
 pub fn is_between(kind: &TokenKind) -> bool
     ensures { result ≡ spec.is_between kind.now }
 {
@@ -108,7 +108,7 @@ pub fn is_between(kind: &TokenKind) -> bool
     }
 }
 
-/// Whether what may take rows away by their order begins there.
+/// Whether the token begins a clause that may remove rows by their order.
 pub fn begins_limit(kind: &TokenKind) -> bool
     ensures { result ≡ spec.begins_limit kind.now }
 {
@@ -118,7 +118,7 @@ pub fn begins_limit(kind: &TokenKind) -> bool
     )
 }
 
-/// Whether a star behind it stands for columns.
+/// Whether a star after the token stands for columns.
 pub fn begins_columns(kind: &TokenKind) -> bool
     ensures { result ≡ spec.begins_columns kind.now }
 {
@@ -130,7 +130,7 @@ pub fn begins_columns(kind: &TokenKind) -> bool
     )
 }
 
-/// Whether a name behind it would name an item.
+/// Whether a name after the token would name an item.
 pub fn ends_value(kind: &TokenKind) -> bool
     ensures { result ≡ spec.ends_value kind.now }
 {
@@ -148,14 +148,14 @@ pub fn ends_value(kind: &TokenKind) -> bool
     }
 }
 
-/// Whether a name behind it is no column without a table.
+/// Whether a name after the token is not a column without a table.
 pub fn is_taken(kind: &TokenKind) -> bool
     ensures { result ≡ spec.is_taken kind.now }
 {
     matches!(kind, TokenKind::Terminal(Terminal::As | Terminal::Dot))
 }
 
-/// Whether a dot or a bracket stands first.
+/// Whether the first token is a dot or a bracket.
 pub fn goes_on(after: &[Token]) -> bool
     ensures { result ≡ kinds.begins goes_on after.now }
 {
@@ -168,7 +168,7 @@ pub fn goes_on(after: &[Token]) -> bool
     }
 }
 
-/// Whether DISTINCT stands first.
+/// Whether the first token is DISTINCT.
 pub fn begins_distinct(tokens: &[Token]) -> bool
     ensures { result ≡ kinds.begins kinds.is_distinct tokens.now }
 {
@@ -178,7 +178,7 @@ pub fn begins_distinct(tokens: &[Token]) -> bool
     }
 }
 
-/// Whether FROM stands first.
+/// Whether the first token is FROM.
 pub fn begins_from(tokens: &[Token]) -> bool
     ensures { result ≡ kinds.begins kinds.is_from tokens.now }
 {
@@ -188,7 +188,7 @@ pub fn begins_from(tokens: &[Token]) -> bool
     }
 }
 
-/// Whether ON stands first.
+/// Whether the first token is ON.
 pub fn begins_on(tokens: &[Token]) -> bool
     ensures { result ≡ kinds.begins kinds.is_on tokens.now }
 {
@@ -198,7 +198,7 @@ pub fn begins_on(tokens: &[Token]) -> bool
     }
 }
 
-/// Whether a further select begins there.
+/// Whether the token begins a further select.
 pub fn begins_select(kind: &TokenKind) -> bool
     ensures { result ≡ spec.begins_select kind.now }
 {
@@ -208,7 +208,7 @@ pub fn begins_select(kind: &TokenKind) -> bool
     )
 }
 
-/// Whether a further select stands among the tokens.
+/// Whether a further select is among the tokens.
 pub fn has_select(mut tokens: &[Token]) -> bool
     ensures { result ≡ spec.has spec.begins_select tokens.entry.now }
 {
@@ -221,7 +221,7 @@ pub fn has_select(mut tokens: &[Token]) -> bool
     false
 }
 
-/// Whether a token is that name.
+/// Whether a token is the name.
 pub fn is_named(bytes: &[u8], kind: &TokenKind) -> bool
     ensures { result ≡ names.is_named bytes.now kind.now }
 {

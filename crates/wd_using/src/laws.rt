@@ -2,7 +2,7 @@
 
 ghost use Rattle.wd_using.specs.Examples.{UsingComesOut};
 
-/// Worked joins: what is written in their place, and which are left as they are.
+/// Worked joins: what replaces them, and which stay as they are.
 pub fn using_comes_out()
     ensures { UsingComesOut }
 {}

@@ -1,4 +1,5 @@
-//! How far parts of a select reach: a table of a FROM clause with its condition, a conjunct, a level, and what stands before certain words.
+//! The lengths of parts of a select: a table of a FROM clause with its condition, a conjunct, a level, and the tokens before certain
+//! words.
 
 ghost use Rattle.std.specs.Prelude.{◌≡◌, ◌+◌, ◌<◌, ◌≤◌, ◌^◌, length, take, drop};
 ghost use Rattle.wd_clauses.specs.Reach as clauses;
@@ -9,26 +10,26 @@ use crate::kind::{
 };
 use wd_lex::{Terminal, Token, TokenKind};
 
-/// What is looked through, up to its end or the end of the level.
+/// A part that is looked through, up to its end or the end of the level.
 #[derive(Clone, Copy, PartialEq, Eq)]
 pub enum Extent {
     /// A table of a FROM clause, with its condition.
     Table,
-    /// The level.
+    /// The whole level.
     Level,
-    /// What stands before AND.
+    /// The tokens before AND.
     Conjunct,
-    /// What stands before OR and CASE.
+    /// The tokens before OR and CASE.
     Choice,
-    /// What stands before BETWEEN.
+    /// The tokens before BETWEEN.
     Between,
-    /// What stands before a further select.
+    /// The tokens before a further select.
     Select,
-    /// What stands before ORDER, LIMIT, OFFSET and FETCH.
+    /// The tokens before ORDER, LIMIT, OFFSET and FETCH.
     Limit,
 }
 
-/// Whether a part ends there, beside the end of its level.
+/// Whether a token ends the part, besides the end of its level.
 fn stops(extent: Extent, kind: &TokenKind) -> bool
     ensures { result ≡ spec.stops extent kind.now }
 {
@@ -55,7 +56,7 @@ fn depth_after(depth: usize, kind: &TokenKind) -> usize
     }
 }
 
-/// How many tokens stand before the end of a part that begins with them.
+/// How many of the tokens come before the end of the part.
 #[tactic(auto, unfolding(crate::specs::Reach::reach_from))]
 fn reach(extent: Extent, tokens: &[Token]) -> usize
     ensures length { result ≡ spec.reach extent tokens.now }
@@ -75,7 +76,7 @@ fn reach(extent: Extent, tokens: &[Token]) -> usize
     count
 }
 
-/// A part that begins with the tokens, and those behind it.
+/// The part that the tokens begin with, and the tokens after it.
 pub fn split_at(extent: Extent, tokens: &[Token]) -> (&[Token], &[Token])
     ensures part { result.0.now ≡ take (spec.reach extent tokens.now) tokens.now }
     ensures behind { result.1.now ≡ drop (spec.reach extent tokens.now) tokens.now }

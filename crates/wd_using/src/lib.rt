@@ -1,7 +1,7 @@
-//! JOIN .. USING by ON: `FROM a JOIN b USING ( k )` is `FROM a JOIN b ON a.k = b.k`, and `k` is `a.k` in each clause of the
-//! select. `select` reads the pieces of a select, `join` its tables, each of which `source` finds in a schema or derives, `merge` finds the table of each merged column,
-//! `write` writes the select with them, and `respell` goes through the selects of a query, the last one first. `level` says how
-//! far parts of a select reach, `kind` what single tokens are; `laws` has worked queries.
+//! JOIN .. USING by ON: `FROM a JOIN b USING ( k )` is `FROM a JOIN b ON a.k = b.k`, and `k` is `a.k` in each clause of the select.
+//! `select` reads the pieces of a select; `join` reads its tables, whose columns `source` finds in a schema or in a derived table;
+//! `merge` finds the table of each merged column; `write` writes the select with them; and `respell` goes through the selects of a query
+//! from the last to the first. `level` finds the ends of parts of a select, `kind` classifies single tokens; `laws` has worked queries.
 #![tactic(auto)]
 
 mod join;

@@ -1,4 +1,4 @@
-//! The columns that USING merges, and the table to which each is ascribed.
+//! The columns that USING merges, and the table that each is attributed to.
 
 ghost use Rattle.std.specs.Prelude.{◌≡◌, map, IfOk, ◌++◌};
 ghost use Rattle.wd_clauses.specs.Given.{Finds};
@@ -44,14 +44,14 @@ fn has_name(name: &TokenKind, mut names: &[&Token]) -> bool
     false
 }
 
-/// Whether a table is joined USING a column just if it has it.
+/// Whether a table is joined USING a column exactly if it has the column.
 fn is_joined_by(name: &TokenKind, table: &Joined) -> bool
     ensures { result ≡ spec.is_joined_by name.now (joined_table table.now) }
 {
     has_column(name, &table.columns) == has_name(name, &table.condition.names)
 }
 
-/// Whether each table is joined USING a column just if it has it.
+/// Whether each table is joined USING a column exactly if it has the column.
 fn are_joined_by(name: &TokenKind, mut tables: &[Joined]) -> bool
     ensures { result ≡ spec.are_joined_by name.now (map joined_table tables.entry.now) }
 {
@@ -64,7 +64,7 @@ fn are_joined_by(name: &TokenKind, mut tables: &[Joined]) -> bool
     true
 }
 
-/// The first table that has the column, if that is clear.
+/// The first table that has the column, if it is clear which one that is.
 fn first_with<'t>(name: &TokenKind, tables: &[Joined<'t>]) -> Option<&'t Token>
     ensures { Finds (λ table. table.now) result (spec.first_with name.now (map joined_table tables.now)) }
 {
@@ -104,7 +104,7 @@ pub fn merged_of<'t>(
     Ok(Some(merged))
 }
 
-/// Adds names behind others.
+/// Adds names after others.
 fn add_names<'t>(written: &mut Vec<&'t Token>, mut names: &[&'t Token]) -> Result<(), AllocError>
     ensures { IfOk result (λ _. map (λ name. name.now) written.new.items ≡ map (λ name. name.now) written.old.items ++ map (λ name. name.now) names.entry.now) }
 {

@@ -58,7 +58,7 @@ fn are_clear(merged: &[Merged], before: &TokenKind, tokens: &[Token]) -> bool
     true
 }
 
-/// Whether there is at least one, and not too many.
+/// Whether there is at least one merged column, and not too many.
 fn are_few(merged: &[Merged]) -> bool
     ensures { result ≡ spec.are_few (map merged_column merged.now) }
 {
@@ -68,7 +68,7 @@ fn are_few(merged: &[Merged]) -> bool
     }
 }
 
-/// What stands for a select behind these tokens, if its items are clear.
+/// What replaces a select after these tokens, if its items are clear.
 fn if_clear(
     alloc: Global,
     front: &[Token],
@@ -85,7 +85,7 @@ fn if_clear(
     Ok(None)
 }
 
-/// What stands for a select, by its tables.
+/// What replaces a select with these tables.
 fn with_tables(
     alloc: Global,
     front: &[Token],
@@ -104,7 +104,7 @@ fn with_tables(
     }
 }
 
-/// What stands for a select behind these tokens.
+/// What replaces a select after these tokens.
 fn respelled_select(
     alloc: Global,
     schema: &Schema,
@@ -142,7 +142,7 @@ fn respelled_at(
     }
 }
 
-/// Selects whose tables are joined USING columns, over a schema.
+/// The respelling of selects whose tables are joined USING columns, over a schema.
 #[derive(Clone, Copy)]
 struct Using<'s> {
     schema: &'s Schema,

@@ -11,7 +11,7 @@ use wd_clauses::{Stop, split};
 use wd_distinct_on::cut;
 use wd_lex::Token;
 
-/// `SELECT [DISTINCT] items FROM tables clauses`, and what follows it.
+/// `SELECT [DISTINCT] items FROM tables clauses`, and the tokens after it.
 #[derive(Drop)]
 pub struct Select<'t> {
     pub select: &'t Token,
@@ -22,7 +22,7 @@ pub struct Select<'t> {
     pub after: &'t [Token],
 }
 
-/// With what stands behind SELECT at its level.
+/// The select with these tokens after SELECT at its level.
 fn with_body<'t>(select: &'t Token, body: &'t [Token], after: &'t [Token]) -> Option<Select<'t>>
     ensures { Finds pieces result (spec.with_body select.now body.now after.now) }
 {
@@ -45,7 +45,7 @@ fn with_body<'t>(select: &'t Token, body: &'t [Token], after: &'t [Token]) -> Op
     })
 }
 
-/// The select that begins with the tokens. None where it has DISTINCT ON, or no FROM clause.
+/// The select that begins with the tokens. `None` where it has DISTINCT ON, or no FROM clause.
 #[tactic(auto, unfolding(crate::specs::Pieces::pieces_at))]
 pub fn pieces_at(tokens: &[Token]) -> Option<Select<'_>>
     ensures { Finds pieces result (spec.pieces_at tokens.now) }
@@ -60,7 +60,7 @@ pub fn pieces_at(tokens: &[Token]) -> Option<Select<'_>>
     with_body(select, body, after)
 }
 
-/// The select that begins with the tokens, if another stands only in its FROM clause.
+/// The select that begins with the tokens, if other selects are only in its FROM clause.
 pub fn select_at(tokens: &[Token]) -> Option<Select<'_>>
     ensures { Finds pieces result (spec.select_at tokens.now) }
 {

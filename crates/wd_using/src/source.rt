@@ -16,7 +16,7 @@ use wd_distinct_on::{cut, is_dot};
 use wd_lex::{Token, TokenKind};
 use wd_schema::{Column, Schema, Table};
 
-/// How many tokens a table and its alias are, and the name by which its columns are called.
+/// How many tokens a table and its alias take, and the name before its columns.
 #[derive(Drop)]
 pub struct Alias<'t> {
     pub count: usize,
@@ -30,7 +30,7 @@ pub struct Source<'t> {
     pub alias: Alias<'t>,
 }
 
-/// `alias`, behind a table's name and AS
+/// `alias`, after a table's name and AS.
 fn alias_behind_as<'t>(name: &'t Token, tokens: &'t [Token]) -> Alias<'t>
     ensures alias { named.table_alias result ≡ spec.alias_behind_as name.now tokens.now }
     ensures few { result.count ≤ 3 }
@@ -44,7 +44,7 @@ fn alias_behind_as<'t>(name: &'t Token, tokens: &'t [Token]) -> Alias<'t>
     }
 }
 
-/// `[[AS] alias]`, behind a table's name
+/// `[[AS] alias]`, after a table's name.
 pub fn alias_at<'t>(name: &'t Token, tokens: &'t [Token]) -> Alias<'t>
     ensures alias { named.table_alias result ≡ spec.alias_at name.now tokens.now }
     ensures few { result.count ≤ 3 }
@@ -74,7 +74,7 @@ fn declared<'t>(schema: &'t Schema, name: &TokenKind) -> Option<&'t Table>
     }
 }
 
-/// The name of a column, with a table's before it or not.
+/// The name of a column, with or without a table's before it.
 fn column_of(tokens: &[Token]) -> Option<&Token>
     ensures { Finds (λ name. name.now) result (spec.name_in (items.column_of tokens.now)) }
 {
@@ -86,7 +86,7 @@ fn column_of(tokens: &[Token]) -> Option<&Token>
     }
 }
 
-/// The name behind AS.
+/// The name after AS.
 pub fn behind_as(tokens: &[Token]) -> Option<&Token>
     ensures { Finds (λ name. name.now) result (items.behind_as tokens.now) }
 {

@@ -16,7 +16,7 @@ use std::alloc::Global;
 use wd_clauses::{RespellError, add, add_all, added, copy_token};
 use wd_lex::{Terminal, Token, TokenKind};
 
-/// Adds `table.name`, where all but the name has the place of a word.
+/// Adds `table.name`; all tokens but the name have the place of a word.
 fn add_of_table(
     written: &mut Vec<Token>,
     word: &Token,
@@ -38,7 +38,7 @@ fn add_of_table(
     Ok(())
 }
 
-/// Adds a name, with its table where it is a merged column.
+/// Adds a name, with its table if it is a merged column.
 fn add_column(
     written: &mut Vec<Token>,
     merged: &[Merged],
@@ -59,7 +59,7 @@ fn add_column(
     }
 }
 
-/// Adds what stands for a token between those.
+/// Adds what replaces a token between two others.
 fn add_token(
     written: &mut Vec<Token>,
     merged: &[Merged],
@@ -77,7 +77,7 @@ fn add_token(
     Ok(())
 }
 
-/// Adds tokens with each merged column's table.
+/// Adds tokens, with its table before each merged column.
 #[tactic(auto, unfolding(crate::specs::Written::qualified))]
 fn add_qualified(
     written: &mut Vec<Token>,
@@ -113,7 +113,7 @@ fn add_comparison(
     Ok(())
 }
 
-/// Adds a comparison behind a word.
+/// Adds a comparison after a word.
 fn add_compared(
     written: &mut Vec<Token>,
     merged: &[Merged],
@@ -195,7 +195,7 @@ fn add_select(
     Ok(())
 }
 
-/// What stands for a select behind these tokens.
+/// What replaces a select after these tokens.
 pub fn written(
     alloc: Global,
     front: &[Token],

@@ -6,7 +6,7 @@ use Rattle.wd_value.specs.declared.value.Value.{Value}
 use Rattle.wd_value.specs.declared.order.SortKey.{SortKey}
 use Rattle.wd_value.specs.Order.{compare}
 
--- under each sort key the values are in a total order
+-- each sort key orders the values totally
 abbrev pub IsTotal : Type 0
 IsTotal = (key : SortKey) → IsTotalOrder (compare key)
 

@@ -8,7 +8,7 @@ use Rattle.wd_value.specs.declared.value.Value.{Value}
 use Rattle.wd_value.specs.declared.value.Value.TheVariants.{Null, Int, Text, Bool as Truth}
 use Rattle.wd_value.specs.declared.order.SortKey.{SortKey}
 
--- whole numbers stand before texts, texts before truth values; where NULL stands is the key's to say
+-- whole numbers come before texts, texts before truth values; the place of NULL is up to the key
 abbrev pub type_rank_of : Value → ℕ
 type_rank_of (Int n) = 0
 type_rank_of (Text t) = 1
@@ -22,7 +22,7 @@ compare_ascending (Text s) (Text t) = slice_cmp nat_cmp s t
 compare_ascending (Truth p) (Truth q) = bool_cmp p q
 compare_ascending a b = nat_cmp (type_rank_of a) (type_rank_of b)
 
--- NULL stands first or last as the key says; descending turns all other values round
+-- NULL comes first or last as the key says; descending reverses the order of all other values
 abbrev pub compare : SortKey → Value → Value → Ordering
 compare key Null Null = Equal
 compare key Null b = if key.nulls_first then Less else Greater

@@ -1,5 +1,5 @@
--- Rows and lists of rows, and how contracts see those of the code. A position past the last row stands for the row without columns;
--- no plan that fits has one.
+-- Rows and lists of rows, and how contracts see those of the code. A position past the last row counts as the row without columns; no
+-- plan that fits has such a position.
 use Rattle.std.specs.Prelude.{ℕ, Bool, List, [], map, slice_index_or}
 use Rattle.std.specs.declared.alloc.Global.{Global}
 use Rattle.std.specs.declared.vec.Vec.{Vec}
@@ -8,11 +8,11 @@ use Rattle.wd_value.specs.declared.value.Value.{Value}
 use Rattle.wd_value.specs.declared.value.Value.TheVariants.{Null}
 use Rattle.wd_value.specs.Values.{same}
 
--- a row is the list of its values
+-- a row: the list of its values
 abbrev pub Row : Type 0
 Row = List Value
 
--- an instance is a list of rows for each table of a schema, in order of declaration
+-- an instance: a list of rows for each table of a schema, in order of declaration
 abbrev pub Instance : Type 0
 Instance = List (List Row)
 
@@ -24,7 +24,7 @@ rows_of rows = map (λ r. r.items) rows
 abbrev pub instance_of : List (Vec (Vec Value Global) Global) → Instance
 instance_of tables = map (λ t. rows_of t.items) tables
 
--- the value in a column, and NULL past the last
+-- the value in a column, and NULL past the last column
 abbrev pub column_of : Row → ℕ → Value
 column_of row c = slice_index_or row c Null
 

@@ -1,4 +1,4 @@
--- When two values are not distinct, NULL being the same as NULL.
+-- When two values are not distinct: NULL equals NULL.
 use Rattle.std.specs.Prelude.{Bool, true, false, ◌==◌}
 use Rattle.std.specs.Bool.{beq}
 use Rattle.std.specs.Ordering.{int_eq}

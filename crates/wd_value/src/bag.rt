@@ -5,15 +5,14 @@ ghost use Rattle.wd_value.specs.Rows as spec;
 
 use crate::value::{Row, Value, same};
 
-/// Whether each row stands equally often in both lists. Takes no memory; the time goes with the
-/// product of the lengths.
+/// Whether each row appears equally often in both lists. Takes no memory; the time is linear in the product of the lengths.
 pub fn same_bag(first: &[Row], second: &[Row]) -> bool
     ensures { IsTrue result ↔ SameBag spec.same_row (rows_of first.now) (rows_of second.now) }
 {
     count_equally(first, first, second) && count_equally(second, first, second)
 }
 
-// Whether each of the rows stands equally often in both lists.
+// Whether each of the rows appears equally often in both lists.
 fn count_equally(rows: &[Row], first: &[Row], second: &[Row]) -> bool
     ensures { IsTrue result ↔ All (λ r. times spec.same_row r.items (rows_of first.now) ≡ times spec.same_row r.items (rows_of second.now)) rows.now }
 {
@@ -25,7 +24,7 @@ fn count_equally(rows: &[Row], first: &[Row], second: &[Row]) -> bool
     true
 }
 
-// How often a row stands in a list.
+// How often a row appears in a list.
 fn count(row: &[Value], rows: &[Row]) -> usize
     ensures { result ≡ times spec.same_row row.now (rows_of rows.now) }
 {

@@ -6,23 +6,22 @@ ghost use Rattle.wd_value.specs.Rows.{column_of};
 use crate::value::Value;
 use std::cmp::Ordering;
 
-/// The direction of a sort, and whether NULL stands before or after all other values.
+/// The direction of a sort, and whether NULL comes before or after all other values.
 #[derive(Clone, Copy, PartialEq, Eq, Debug)]
 pub struct SortKey {
     pub desc: bool,
     pub nulls_first: bool,
 }
 
-/// A sort key of rows: a column by its number, from 0, and how its values are sorted. Past a row's
-/// last column stands NULL.
+/// A sort key of rows: a column by its number, from 0, and how its values are sorted. A column past a row's last one counts as NULL.
 #[derive(Clone, Copy, PartialEq, Eq, Debug)]
 pub struct SortColumn {
     pub column: u16,
     pub key: SortKey,
 }
 
-/// The place of one value beside another under a sort key. Whole numbers stand before texts and
-/// texts before truth values, which no plan that fits its schema compares (this project's choice).
+/// The order of two values under a sort key. Whole numbers come before texts and texts before truth values; no plan that fits its schema
+/// compares values of two of these kinds (this project's choice).
 pub fn compare(a: &Value, b: &Value, key: SortKey) -> Ordering
     ensures { result ≡ order.compare key a.now b.now }
 {
@@ -46,7 +45,7 @@ pub fn compare(a: &Value, b: &Value, key: SortKey) -> Ordering
     }
 }
 
-/// The place of one row beside another under sort keys: the first key on which they differ decides.
+/// The order of two rows under sort keys: the first key on which they differ decides.
 pub fn compare_keys(keys: &[SortColumn], a: &[Value], b: &[Value]) -> Ordering
     ensures { result ≡ spec.compare_keys keys.now a.now b.now }
 {

@@ -3,7 +3,7 @@ ghost use Rattle.std.specs.Prelude.{◌≡◌, IfOk};
 use crate::value::{OutOfMemory, Row, Value};
 use std::alloc::Global;
 
-/// An equal row of its own.
+/// An equal row with memory of its own.
 pub fn copy_row(alloc: Global, row: &[Value]) -> Result<Row, OutOfMemory>
     ensures { IfOk result (λ r. r.items ≡ row.now) }
 {

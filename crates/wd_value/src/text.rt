@@ -5,8 +5,8 @@ use std::alloc::{AllocError, Global};
 use std::marker::Model;
 use std::rc::Rc;
 
-/// A text in UTF-8, which contracts see as the list of its bytes. A copy shares the bytes with the
-/// text that it is of. A text is one pointer wide, so that a `Value` takes 16 bytes.
+/// A text in UTF-8, which contracts see as the list of its bytes. A copy shares the bytes of the original. A text is one pointer wide, so
+/// that a `Value` takes 16 bytes.
 #[derive(Debug, Drop)]
 pub struct Text {
     string: Rc<String>,
@@ -19,7 +19,7 @@ impl Model for Text {
 }
 
 impl Text {
-    /// The text of a string, whose bytes stay where they are.
+    /// The text of a string; its bytes are not copied.
     pub fn new(alloc: Global, string: String) -> Result<Text, AllocError>
         ensures { IfOk result (λ t. t ≡ string_bytes string) }
     {
@@ -46,7 +46,7 @@ impl Text {
         self.string.as_bytes()
     }
 
-    /// Gives the string back, or the text where a copy of it is there still. Takes no memory.
+    /// The string of the text, or the text itself where a copy of it still exists. Takes no memory.
     pub fn into_string(self) -> Result<String, Text>
         ensures ok { IfOk result (λ s. string_bytes s ≡ self) }
         ensures err { IfErr result (λ t. t ≡ self) }
@@ -58,7 +58,7 @@ impl Text {
         }
     }
 
-    /// An equal text. The bytes are not copied. An error only where no further copy can be counted.
+    /// An equal text, which shares the bytes. An error only where no further copy can be counted.
     pub fn copy(&self) -> Result<Text, AllocError>
         ensures { IfOk result (λ t. t ≡ self.now) }
     {

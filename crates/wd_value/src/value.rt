@@ -28,7 +28,7 @@ pub enum ColumnType {
     Boolean,
 }
 
-/// Why an expression has no value. Of two faults the first one here is the lesser.
+/// Why an expression has no value. Of two faults the first variant is the lesser.
 #[derive(Clone, Copy, PartialEq, Eq, Debug)]
 pub enum Fault {
     /// SQLSTATE 22012.
@@ -37,7 +37,7 @@ pub enum Fault {
     OutOfRange = 2,
 }
 
-/// The allocator refused a growth.
+/// The allocator refused to allocate.
 #[derive(Clone, Copy, PartialEq, Eq, Debug)]
 pub struct OutOfMemory;
 
@@ -54,7 +54,7 @@ impl<T: Drop> From<AllocFailed<T>> for OutOfMemory {
 }
 
 impl Value {
-    /// An equal value. The bytes of a text are not copied, and no memory is taken for them.
+    /// An equal value. A text's bytes are shared, and no memory is taken for them.
     pub fn copy(&self, _alloc: Global) -> Result<Value, OutOfMemory>
         ensures { IfOk result (λ v. v ≡ self.now) }
     {
@@ -67,7 +67,7 @@ impl Value {
     }
 }
 
-/// Whether two values are not distinct, NULL being the same as NULL (SQL:2003, "distinct").
+/// Whether two values are not distinct: NULL equals NULL (SQL:2003, "distinct").
 pub fn same(a: &Value, b: &Value) -> bool
     ensures { IsTrue result ↔ (a.now ≡ b.now) }
 {

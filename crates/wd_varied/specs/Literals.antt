@@ -1,4 +1,4 @@
--- The literals of a plan, those with which its conditions compare columns of tables, and the columns that they equate.
+-- The literals of a plan, the literals with which its conditions compare columns of tables, and the columns that they equate.
 use Rattle.std.specs.Prelude.{ℕ, List, [], ◌∷◌, ◌++◌, flat_map, Option, Some, None, option_map, option_to_list}
 use Rattle.wd_value.specs.declared.value.Value.{Value}
 use Rattle.wd_plan.specs.Expressions.{Expression, Column, Literal, Negate, Arithmetic, Compare, Not, And, Or, IsNull, IsNotNull, Case}
@@ -31,7 +31,7 @@ abbrev pub literals_of : Option Expression → List Value
 literals_of None = []
 literals_of (Some condition) = literals_in condition
 
--- those of a plan's conditions and outputs, the nodes in postorder
+-- the literals of a plan's conditions and outputs, the nodes in postorder
 abbrev pub literals : PlanTree → List Value
 literals (Scan table columns) = []
 literals (Join condition left right) = (literals left ++ literals right) ++ literals_of condition
@@ -57,7 +57,7 @@ compared_sides origins (Fixed v) (Fixed w) = []
 compared_sides origins (Fixed v) Other = []
 compared_sides origins Other b = []
 
--- those in a condition, below OR and NOT too, of a right operand before those of the left
+-- the comparisons in a condition, also below OR and NOT, those of a right operand before those of the left
 abbrev pub compared_in : (ℕ → Option TableColumn) → Expression → List Compared
 compared_in origins (Column c) = []
 compared_in origins (Literal v kind) = []
@@ -96,7 +96,7 @@ equated_by LessOrEqual origins a b = []
 equated_by Greater origins a b = []
 equated_by GreaterOrEqual origins a b = []
 
--- those that hold where a condition does, of a right operand before those of the left
+-- the equations that hold where a condition does, those of a right operand before those of the left
 abbrev pub equated_in : (ℕ → Option TableColumn) → Expression → List Equated
 equated_in origins (Column c) = []
 equated_in origins (Literal v kind) = []

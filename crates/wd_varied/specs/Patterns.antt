@@ -1,4 +1,4 @@
--- How the rows of a column stand to one another, by what is drawn for it.
+-- How the values of a column vary from row to row, by its pseudo-random number.
 use Rattle.std.specs.Prelude.{ℕ, ◌+◌, ◌-◌, ◌*◌, ◌/◌, ◌%◌, Bool, false, List, length, filter, min, nat_eq, nat_lt, slice_get, slice_index_or, if◌then◌else◌, Option, Some, None}
 use Rattle.std.specs.List.{list_any}
 use Rattle.wd_value.specs.declared.value.Value.{Value}
@@ -18,29 +18,30 @@ abbrev pub is_at : ℕ → Option ℕ → Bool
 is_at c None = false
 is_at c (Some k) = nat_eq k c
 
--- whether a key is to tell rows apart by a column, in the try with a number: by each of its columns in turn
+-- whether a key distinguishes rows by a column, in the try with a number: by each of its columns in turn
 abbrev pub tells : ℕ → ℕ → KeyRule → Bool
 tells number c key = is_at c (slice_get key.columns (number % length key.columns))
 
--- whether some key is
+-- whether some key does
 abbrev pub is_telling : ℕ → ℕ → List KeyRule → Bool
 is_telling number c keys = list_any (tells number c) keys
 
 -- ---- patterns
 
--- what is drawn for a column of a table of so many rows in the try with a number, as if by chance: a cube modulo a prime
+-- the pseudo-random number of a column of a table with the given number of rows in the try with a number: a cube modulo a prime
 abbrev pub seed : ℕ → ℕ → ℕ → ℕ → ℕ
 seed rows number table c = (number + 1000 * (c + 64 * table) + 100003 * rows) % 999983
 
 abbrev pub drawn : ℕ → ℕ → ℕ → ℕ → ℕ
 drawn rows number table c = seed rows number table c * seed rows number table c * seed rows number table c % 999983
 
--- a column by which a key is to tell rows apart differs in each row: half of them from a value of the pool on
+-- a column by which a key distinguishes rows differs in each row: half of these columns from a value of the pool on
 abbrev pub telling_pattern : ℕ → Pattern
 telling_pattern d = if nat_lt (d % 16) 8 then pattern.Apart else pattern.ApartFrom (d / 16)
 
--- the pattern of a column by what is drawn: of 16 others 6 hold one value, 4 the pool's values in turn, and 2 differ in each row; in 1
--- the last two rows are alike, in 1 all but the last and in 1 all but the first; and 1 holds NULL if it may
+-- the pattern of another column by its pseudo-random number: of 16 numbers 6 stand for one value, 4 for the pool's values in turn, and 2
+-- for a different value in each row; for 1 the last two rows are equal, for 1 all but the last and for 1 all but the first; and for 1 it
+-- is NULL, if the column may hold it
 abbrev pub pattern_by : Bool → Column → ℕ → Pattern
 pattern_by telling column d =
     if telling then telling_pattern d
@@ -61,18 +62,18 @@ pub record FillingRule : Type 0 where
   pub kind : ColumnType
   pub pool : List Value
 
--- the pool has the column's own values, or else those of its type among all
+-- the pool has the column's own values, or else the values of its type among all
 abbrev pub filling_of : List Value → Filling → FillingRule
 filling_of all f = record { pattern = f.pattern; kind = f.kind; pool = or_else f.own.items (filter (is_of_type f.kind) all) }
 
--- the value of a pool with a number, counted round
+-- the value of a pool with a number, which wraps around
 abbrev pub value_at : List Value → ℕ → Value
 value_at pool i = slice_index_or pool (i % length pool) Null
 
 abbrev pub text : List ℕ → Value
 text bytes = Text bytes
 
--- what a pattern gives a row, of so many rows
+-- the value of a pattern in a row, of the given number of rows
 abbrev pub by_pattern : Pattern → ColumnType → List Value → ℕ → ℕ → Value
 by_pattern (pattern.Same from) kind pool rows row = value_at pool from
 by_pattern (pattern.InTurn from) kind pool rows row = value_at pool (from + row)

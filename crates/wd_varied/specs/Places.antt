@@ -1,4 +1,4 @@
--- Which columns a try fills alike, and which differ in each row.
+-- Which columns a try fills equally, and which differ in each row.
 use Rattle.std.specs.Prelude.{ℕ, ◌%◌, ◌&&◌, ◌||◌, Bool, List, [], ◌∷◌, nat_eq, nat_lt, if◌then◌else◌}
 use Rattle.std.specs.List.{list_any}
 use Rattle.wd_schema.specs.Tables.{KeyRule}
@@ -32,18 +32,18 @@ lead (e ∷ es) p = back e (lead es p)
 
 -- ---- by the number of a try
 
--- the first two of four tries are to meet the plan's conditions
+-- the first two of four tries should meet the plan's conditions
 abbrev pub is_to_meet : ℕ → Bool
 is_to_meet number = nat_lt (number % 4) 2
 
--- there a column that is compared with literals holds these, else values near them
+-- in such a try a column that is compared with literals holds these, otherwise values near them
 abbrev pub suggestions : Hints → ℕ → List Compared
 suggestions h number = if is_to_meet number then h.exact else h.near
 
--- there a column is filled as that to which equations lead back
+-- in such a try a column is filled like the one to which equations lead back
 abbrev pub source : Hints → ℕ → Place → Place
 source h number p = if is_to_meet number then lead h.equated p else p
 
--- a column differs in each row where a key is to tell rows apart by it, and there also where an equation names it
+-- a column differs in each row where a key distinguishes rows by it, and in such a try also where an equation names it
 abbrev pub differs : Hints → List KeyRule → ℕ → Place → Bool
 differs h keys number p = is_telling number p.column keys || (is_to_meet number && is_equated h.equated p)

@@ -36,7 +36,7 @@ is_past_limit rows (Window w input) = is_past_limit rows input
 is_past_limit rows (Distinct input) = is_past_limit rows input
 is_past_limit rows (Limit limit input) = is_past_limit rows input || is_past (reach limit) rows
 
--- how many rows the tables of a plan pair to, of so many rows each; one that is read twice counts twice
+-- how many rows the pairs of a plan's tables have, with the given number of rows each; a table that is read twice counts twice
 abbrev pub paired : ℕ → PlanTree → ℕ
 paired rows (Scan table columns) = rows
 paired rows (Join condition left right) = paired rows left * paired rows right
@@ -51,6 +51,6 @@ paired rows (Limit limit input) = paired rows input
 abbrev pub is_size : PlanTree → ℕ → Bool
 is_size plan rows = nat_eq rows 2 || ((nat_le rows 4 || (list_any (is_past_literal rows) (literals plan) || is_past_limit rows plan)) && nat_le (paired rows plan) 16384)
 
--- of 2 to 64 rows
+-- the sizes from 2 to 64 rows
 abbrev pub sizes : PlanTree → List ℕ
 sizes plan = filter (is_size plan) (range_with_len 2 63)

@@ -1,4 +1,4 @@
--- Values near a literal, a few small values, and values of a type of which no two are the same.
+-- Values near a literal, a few small values, and different values of a type.
 use Rattle.std.specs.Prelude.{ℕ, ◌+◌, ◌-◌, ◌/◌, ◌%◌, List, [], ◌∷◌, ◌++◌, ℤ, pos, ◌+ℤ◌, ◌-ℤ◌, nat_eq, nat_lt, if◌then◌else◌, true, false}
 use Rattle.wd_value.specs.declared.value.Value.{Value}
 use Rattle.wd_value.specs.declared.value.Value.TheVariants.{Null, Int, Text, Bool as Truth}
@@ -17,15 +17,15 @@ or_else (v ∷ vs) others = v ∷ vs
 abbrev pub held : ℤ → List Value
 held n = if fits_64 n then Int n ∷ [] else []
 
--- the number, the next one, twice that, and the one before
+-- the number, the next one, twice the number, and the one before
 abbrev pub numbers_near : ℤ → List Value
 numbers_near n = ((held n ++ held (n +ℤ pos 1)) ++ held ((n +ℤ n) +ℤ pos 2)) ++ held (n -ℤ pos 1)
 
--- the text, the text with an 'a' behind it, and '0'
+-- the text, the text followed by 'a', and '0'
 abbrev pub texts_near : List ℕ → List Value
 texts_near bytes = Text bytes ∷ Text (bytes ++ 97 ∷ []) ∷ Text (48 ∷ []) ∷ []
 
--- the values that a comparison with a literal, or with a difference of values, tells from it
+-- the values that a comparison distinguishes from a literal, or from a difference of values
 abbrev pub near : Value → List Value
 near Null = []
 near (Int n) = numbers_near n
@@ -36,7 +36,7 @@ near (Truth b) = []
 abbrev pub small : List Value
 small = Int (pos 1) ∷ Int (pos 2) ∷ Text (97 ∷ []) ∷ Text (98 ∷ []) ∷ Truth false ∷ Truth true ∷ []
 
--- ---- apart
+-- ---- different values
 
 -- 'a' to 'h', then 'aa' to 'hh'
 abbrev pub letter : ℕ → List ℕ
@@ -53,8 +53,8 @@ apart type.BigInt i = Int (pos (i + 1))
 apart type.Text i = Text (word i)
 apart type.Boolean i = Truth (nat_eq (i % 2) 1)
 
--- the values of a type from a value on: a whole number and those after it, as far as 64 bits hold them; a text, and then the text with
--- a word behind it; else the values of the type
+-- the values of a type from a value on: a whole number and those after it, as far as 64 bits hold them; a text, and then the text
+-- followed by a word; otherwise the values of the type
 abbrev pub apart_from : Value → ColumnType → ℕ → Value
 apart_from Null kind i = apart kind i
 apart_from (Int n) kind i = if fits_64 (n +ℤ pos i) then Int (n +ℤ pos i) else apart kind i

@@ -1,4 +1,4 @@
--- What an evaluation does for each row to which the tables of a plan pair, in parts of about five nanoseconds.
+-- The work of an evaluation for each row of the pairs of a plan's tables, in units of about five nanoseconds.
 use Rattle.std.specs.Prelude.{ℕ, ◌+◌, ◌*◌, List, [], ◌∷◌, length, Option, Some, None}
 use Rattle.wd_plan.specs.Expressions.{Expression, Column, Literal, Negate, Arithmetic, Compare, Not, And, Or, IsNull, IsNotNull, Case}
 use Rattle.wd_plan.specs.Plans.{ClassRule, PlanTree, Scan, Join, Filter, Map, Group, Window, Distinct, Limit}
@@ -25,7 +25,7 @@ abbrev pub expressions_work : List Expression → ℕ
 expressions_work [] = 0
 expressions_work (e ∷ es) = expression_work e + expressions_work es
 
--- to sort or to part rows by so many columns
+-- the work of sorting or partitioning rows by the given number of columns
 abbrev pub columns_work : ℕ → ℕ
 columns_work n = 20 + 4 * n
 

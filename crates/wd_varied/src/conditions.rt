@@ -1,4 +1,4 @@
-//! What a plan's conditions say of columns of tables: the literals with which they compare them, and which of them they equate.
+//! What a plan's conditions suggest for columns of tables: the literals with which they are compared, and the columns that are equated.
 
 ghost use Rattle.std.specs.Prelude.{◌≡◌, ◌++◌, IfOk, option_map, option_to_list};
 ghost use Rattle.wd_candidates.specs.Listed.{origin_in, origins as origins_of};
@@ -29,14 +29,14 @@ pub struct Equated {
     pub right: TableColumn,
 }
 
-/// What the conditions of a plan say of columns of tables.
+/// What the conditions of a plan suggest for columns of tables.
 #[derive(Drop)]
 pub(crate) struct Conditions {
     pub compared: Vec<Compared>,
     pub equated: Vec<Equated>,
 }
 
-/// The origins of a plan's columns; appends what its conditions compare with literals, below OR and NOT too, and what they equate.
+/// The origins of a plan's columns; appends what its conditions compare with literals, also below OR and NOT, and what they equate.
 #[tactic(auto, using(crate::proofs::Found::filter_compared, crate::proofs::Found::join_compared, crate::proofs::Found::filter_equated, crate::proofs::Found::join_equated))]
 pub(crate) fn add_conditions(
     alloc: Global,
@@ -82,7 +82,7 @@ pub(crate) fn add_conditions(
     }
 }
 
-/// Appends what a Join's condition says, if it has one.
+/// Appends what a Join's condition suggests, if it has one.
 fn add_of_join(
     alloc: Global,
     origins: &[Option<TableColumn>],
@@ -98,7 +98,7 @@ fn add_of_join(
     }
 }
 
-/// Appends what a condition says.
+/// Appends what a condition suggests.
 fn add_of_condition(
     alloc: Global,
     origins: &[Option<TableColumn>],
@@ -112,7 +112,7 @@ fn add_of_condition(
     add_equated(origins, condition, &mut found.equated)
 }
 
-/// Appends what a condition compares. The left operand comes last: a compiler makes a loop of that call.
+/// Appends what a condition compares. The left operand comes last, so that the compiler makes a loop of that call.
 fn add_compared(
     alloc: Global,
     origins: &[Option<TableColumn>],
@@ -139,7 +139,7 @@ fn add_compared(
     }
 }
 
-/// Appends what the sides of a comparison say: one a column, the other a literal.
+/// Appends a comparison of a column with a literal, on either side.
 fn add_of_sides(
     alloc: Global,
     origins: &[Option<TableColumn>],
@@ -160,7 +160,7 @@ fn add_of_sides(
     }
 }
 
-/// Appends a table's column and a value, where there is such a column.
+/// Appends a table's column and a value, if there is such a column.
 fn add_at(
     alloc: Global,
     origin: Option<TableColumn>,
@@ -180,7 +180,8 @@ fn add_at(
     Ok(())
 }
 
-/// Appends the columns that are equal wherever a condition holds. The left operand comes last, as above.
+/// Appends the columns that are equal wherever a condition holds. The left operand comes last, so that the compiler makes a loop of that
+/// call.
 fn add_equated(
     origins: &[Option<TableColumn>],
     condition: &Expr,
@@ -198,7 +199,7 @@ fn add_equated(
     }
 }
 
-/// Appends the columns that the two sides of an equation copy, where both are columns of tables.
+/// Appends the table columns that the two sides of an equation copy, if both copy one.
 fn add_equation(
     origins: &[Option<TableColumn>],
     a: &Expr,

@@ -59,7 +59,7 @@ fn add_of_outputs(
     Ok(())
 }
 
-/// Appends an expression's literals. The left operand comes last: a compiler makes a loop of that call.
+/// Appends an expression's literals. The left operand comes last, so that the compiler makes a loop of that call.
 fn add_of_expression(
     alloc: Global,
     expression: &Expr,

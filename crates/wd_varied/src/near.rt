@@ -1,4 +1,4 @@
-//! Values near a literal, which a comparison with it tells from one another.
+//! Values near a literal, which a comparison with the literal distinguishes.
 
 ghost use Rattle.std.specs.Prelude.{◌≡◌, ◌++◌, ◌+ℤ◌, ◌-ℤ◌, pos, IfOk};
 ghost use Rattle.wd_varied.specs.Values as spec;
@@ -17,7 +17,7 @@ pub(crate) fn near(alloc: Global, literal: &Value) -> Result<Vec<Value>, OutOfMe
     }
 }
 
-/// A number, the next, twice that, and the one before.
+/// A number, the next one, twice the number, and the one before.
 fn numbers_near(alloc: Global, number: i64) -> Result<Vec<Value>, OutOfMemory>
     ensures { IfOk result (λ v. v.items ≡ spec.numbers_near number) }
 {
@@ -63,7 +63,7 @@ fn push_held(number: i128, list: &mut Vec<Value>) -> Result<(), OutOfMemory>
     Ok(())
 }
 
-/// A text, one that begins with it, and one that sorts before letters.
+/// A text, a longer text that begins with it, and a text that sorts before letters.
 fn texts_near(alloc: Global, text: &Text) -> Result<Vec<Value>, OutOfMemory>
     ensures { IfOk result (λ v. v.items ≡ spec.texts_near text.now) }
 {

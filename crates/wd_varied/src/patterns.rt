@@ -1,4 +1,4 @@
-//! How the rows of a column stand to one another.
+//! How the values of a column vary from row to row.
 
 ghost use Rattle.std.specs.Prelude.{◌≡◌, ◌++◌, map, IfOk};
 ghost use Rattle.std.specs.String.{string_bytes};
@@ -12,22 +12,22 @@ use std::alloc::Global;
 use wd_schema::{Column, Key};
 use wd_value::{ColumnType, OutOfMemory, Text, Value};
 
-/// How the rows of a column stand to one another.
+/// How the values of a column vary from row to row.
 #[derive(Clone, Copy)]
 pub(crate) enum Pattern {
     /// One value of the pool in all rows.
     Same(u64),
     /// The values of the pool in turn, from this one on.
     InTurn(u64),
-    /// A value of its own in each row.
+    /// A different value in each row.
     Apart,
-    /// A value of its own in each row, from this one of the pool on.
+    /// A different value in each row, from this value of the pool on.
     ApartFrom(u64),
-    /// A value of its own in each row, but the last two share one.
+    /// A different value in each row, except that the last two rows share one.
     LastTwoAlike,
-    /// One value in all rows but the last, which has another.
+    /// One value in all rows but the last, which has another one.
     LastApart,
-    /// One value in all rows but the first, which has another.
+    /// One value in all rows but the first, which has another one.
     FirstApart,
     /// NULL in all rows.
     Null,
@@ -38,11 +38,11 @@ pub(crate) enum Pattern {
 pub(crate) struct Filling {
     pub pattern: Pattern,
     pub kind: ColumnType,
-    /// The values that comparisons with it suggest; where there are none, the pool has those of its type among all.
+    /// The values that comparisons with the column suggest; without any, the pool has the values of the column's type among all values.
     pub own: Vec<Value>,
 }
 
-/// Whether a key of a table is to tell rows apart by a column, in the try with a number.
+/// Whether some key of a table distinguishes rows by a column, in the try with a number.
 pub(crate) fn is_telling(keys: &[Key], column: usize, number: u32) -> bool
     ensures { result ≡ spec.is_telling number column (map key_of keys.now) }
 {
@@ -54,7 +54,7 @@ pub(crate) fn is_telling(keys: &[Key], column: usize, number: u32) -> bool
     false
 }
 
-/// Whether a key is to tell rows apart by a column: by each of its columns in turn, as the number says.
+/// Whether a key distinguishes rows by a column: by each of its columns in turn, by the number.
 fn tells(key: &Key, column: usize, number: u32) -> bool
     ensures { result ≡ spec.tells number column (key_of key.now) }
 {
@@ -67,7 +67,7 @@ fn tells(key: &Key, column: usize, number: u32) -> bool
     }
 }
 
-/// What is drawn for a column of a table of so many rows in the try with a number, as if by chance.
+/// A pseudo-random number for a column of a table of `rows` rows, in the try with a number.
 pub(crate) fn drawn(rows: u32, number: u32, table: usize, column: usize) -> u64
     ensures { result ≡ spec.drawn rows number table column }
 {
@@ -76,7 +76,7 @@ pub(crate) fn drawn(rows: u32, number: u32, table: usize, column: usize) -> u64
     seed * seed * seed % 999_983
 }
 
-/// How a column is filled, by what is drawn for it, and by whether a key is to tell rows apart by it.
+/// How a column varies, by its pseudo-random number, and by whether a key distinguishes rows by it.
 pub(crate) fn pattern_of(drawn: u64, column: &Column, telling: bool) -> Pattern
     ensures { result ≡ spec.pattern_by telling column.now drawn }
 {
@@ -107,7 +107,7 @@ pub(crate) fn pattern_of(drawn: u64, column: &Column, telling: bool) -> Pattern
     }
 }
 
-/// What a filling gives a row with a number, of so many rows.
+/// The value of a filling in the row with a number, of the given number of rows.
 pub(crate) fn filled(
     alloc: Global,
     suggested: &Suggested,
@@ -142,7 +142,7 @@ pub(crate) fn filled(
     }
 }
 
-/// The value of a pool with this number, counted round; NULL of none.
+/// The value of a pool with this number, which wraps around; NULL where the pool is empty.
 fn value_at(alloc: Global, pool: &[Value], number: u128) -> Result<Value, OutOfMemory>
     ensures { IfOk result (λ v. v ≡ spec.value_at pool.now number) }
 {
@@ -152,7 +152,7 @@ fn value_at(alloc: Global, pool: &[Value], number: u128) -> Result<Value, OutOfM
     pool[(number % pool.len() as u128) as usize].copy(alloc)
 }
 
-/// The value of a type with this number, of which no two are the same but for truth values.
+/// The value of a type with this number; different numbers have different values, except for truth values.
 fn apart(alloc: Global, kind: ColumnType, number: u32) -> Result<Value, OutOfMemory>
     ensures { IfOk result (λ v. v ≡ values.apart kind number) }
 {
@@ -165,8 +165,8 @@ fn apart(alloc: Global, kind: ColumnType, number: u32) -> Result<Value, OutOfMem
     }
 }
 
-/// The value with this number of those that begin with a value: a whole number and the next ones, or a text and longer ones, of which
-/// no two are the same.
+/// The value with this number of those that begin with a value: a whole number and the next ones, or a text and longer ones; different
+/// numbers have different values.
 fn apart_from(
     alloc: Global,
     first: Value,
@@ -186,7 +186,7 @@ fn apart_from(
     }
 }
 
-/// A text with the word of this number behind it.
+/// A text followed by the word of this number.
 fn with_word(alloc: Global, text: &Text, number: u32) -> Result<Value, OutOfMemory>
     ensures { IfOk result (λ v. v ≡ spec.text (text.now ++ values.word number)) }
 {

@@ -1,4 +1,4 @@
-//! Which columns a try fills alike, and which differ in each row.
+//! Which columns a try fills equally, and which differ in each row.
 
 ghost use Rattle.std.specs.Prelude.{◌≡◌, map};
 ghost use Rattle.std.specs.List.{list_any};
@@ -32,7 +32,7 @@ fn names(equation: &Equated, place: Place) -> bool
     is_at(equation.left, place) || is_at(equation.right, place)
 }
 
-/// Whether some equation does.
+/// Whether some equation names a column.
 fn is_equated(equated: &[Equated], place: Place) -> bool
     ensures { result ≡ spec.is_equated equated.now place }
 {
@@ -44,7 +44,7 @@ fn is_equated(equated: &[Equated], place: Place) -> bool
     false
 }
 
-/// The left side of an equation whose right side is this column; else the column.
+/// The left side of an equation whose right side is this column; otherwise the column.
 fn back(equation: &Equated, place: Place) -> Place
     ensures { result ≡ spec.back equation.now place }
 {
@@ -68,14 +68,14 @@ fn lead(equated: &[Equated], place: Place) -> Place
     }
 }
 
-/// Whether the try with this number is to meet the plan's conditions: the first two of four are.
+/// Whether the try with this number should meet the plan's conditions: the first two of four should.
 fn is_to_meet(number: u32) -> bool
     ensures { result ≡ spec.is_to_meet number }
 {
     number % 4 < 2
 }
 
-/// The columns that are compared with literals, with the values that they are to hold in the try with this number.
+/// The columns that are compared with literals, with the values that they have in the try with this number.
 pub(crate) fn suggestions(suggested: &Suggested, number: u32) -> &[Compared]
     ensures { result.now ≡ spec.suggestions (hints_of suggested.now) number }
 {
@@ -86,7 +86,7 @@ pub(crate) fn suggestions(suggested: &Suggested, number: u32) -> &[Compared]
     }
 }
 
-/// The column as which a column is filled in the try with this number.
+/// The column like which a column is filled in the try with this number.
 pub(crate) fn source(suggested: &Suggested, number: u32, place: Place) -> Place
     ensures { result ≡ spec.source (hints_of suggested.now) number place }
 {

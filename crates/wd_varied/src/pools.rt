@@ -1,4 +1,4 @@
-//! The values that a search takes for columns.
+//! The values that a search uses for columns.
 
 ghost use Rattle.std.specs.Prelude.{◌≡◌, filter, IfOk};
 ghost use Rattle.wd_schema.specs.Meets.{is_of_type as is_of};
@@ -12,14 +12,14 @@ use wd_schema::is_of_type;
 use wd_value::{ColumnType, OutOfMemory, Value};
 
 /// What a plan suggests for the columns of tables: the literals with which its conditions compare a column, values near these, the
-/// columns that it equates, and values for all others.
+/// columns that it equates, and values for all other columns.
 #[derive(Drop)]
 pub struct Suggested {
     pub exact: Vec<Compared>,
     pub near: Vec<Compared>,
     pub equated: Vec<Equated>,
     pub all: Vec<Value>,
-    // Those of all that are of each type.
+    // The values of each type among all values.
     small: Vec<Value>,
     whole: Vec<Value>,
     big: Vec<Value>,
@@ -33,7 +33,7 @@ pub struct Suggested {
 }
 
 impl Suggested {
-    /// What conditions suggest, and the values of all literals, parted by types.
+    /// What conditions suggest, and the values of all literals, split by type.
     pub(crate) fn new(
         alloc: Global,
         exact: Vec<Compared>,
@@ -89,7 +89,7 @@ impl Suggested {
     }
 }
 
-/// Those of some values that are of a type.
+/// The values that are of a type.
 fn values_of(alloc: Global, all: &[Value], kind: ColumnType) -> Result<Vec<Value>, OutOfMemory>
     ensures { IfOk result (λ v. v.items ≡ filter (is_of kind) all.now) }
 {

@@ -1,4 +1,4 @@
-//! How many rows the tables have.
+//! The numbers of rows of the tables.
 
 ghost use Rattle.std.specs.Prelude.{◌≡◌, ◌+◌, ◌^◌, ◌<◌, ◌≤◌, ◌||◌, ◌++◌, ◌∷◌, [], All, filter, length, min, nat_le, IfOk};
 ghost use Rattle.std.specs.List.{list_any};
@@ -11,14 +11,14 @@ use std::alloc::Global;
 use wd_plan::{Limit, Plan};
 use wd_value::{OutOfMemory, Value};
 
-/// The most rows that all tables together may pair to.
+/// The most rows that the pairs of all tables may have.
 const MOST_PAIRED: u64 = 16_384;
 
-/// So many rows are counted, and no more.
+/// The largest number that is counted.
 const MOST_COUNTED: u64 = 268_435_456;
 
-/// The numbers of rows to try, the least first: of 2 to 64 those up to 4, and one and two more than a literal, or than the count of a
-/// Limit with its offset; none but 2 with which the tables of a plan pair to more than 16,384 rows.
+/// The numbers of rows to try, the least first: of 2 to 64 those up to 4, and those one or two more than a literal, or than the offset
+/// and count of a Limit; except for 2, only those with which the tables of a plan pair to at most 16,384 rows.
 pub fn sizes(alloc: Global, plan: &Plan) -> Result<Vec<u32>, OutOfMemory>
     ensures are { IfOk result (λ v. v.items ≡ spec.sizes (plan_of plan.now)) }
     ensures some { IfOk result (λ v. 1 ≤ length v.items) }
@@ -63,14 +63,14 @@ fn is_size(plan: &Plan, literals: &[Value], rows: u32) -> bool
     rows == 2 || is_suggested(plan, literals, rows) && pairs_are_few(plan, rows)
 }
 
-/// Whether a number of rows is suggested, by a literal or a Limit or by being small.
+/// Whether a number of rows is suggested: it is small, or a literal or a Limit suggests it.
 fn is_suggested(plan: &Plan, literals: &[Value], rows: u32) -> bool
     ensures { result ≡ (nat_le rows 4 || (list_any (spec.is_past_literal rows) literals.now || spec.is_past_limit rows (plan_of plan.now))) }
 {
     rows <= 4 || is_past_any(literals, rows) || is_past_limit(plan, rows)
 }
 
-/// Whether the tables of a plan, of so many rows each, pair to no more than 16,384 rows.
+/// Whether the tables of a plan, with the given number of rows each, pair to at most 16,384 rows.
 #[tactic(auto, using(crate::proofs::Products::few))]
 fn pairs_are_few(plan: &Plan, rows: u32) -> bool
     requires some { 1 ≤ rows }
@@ -80,7 +80,7 @@ fn pairs_are_few(plan: &Plan, rows: u32) -> bool
     paired(plan, rows) <= MOST_PAIRED
 }
 
-/// Whether it is one or two more than some number.
+/// Whether the number of rows is one or two more than some literal.
 fn is_past_any(literals: &[Value], rows: u32) -> bool
     ensures { result ≡ list_any (spec.is_past_literal rows) literals.now }
 {
@@ -104,7 +104,7 @@ fn is_past_literal(literal: &Value, rows: u32) -> bool
     }
 }
 
-/// Whether it is one or two more than a number.
+/// Whether the number of rows is one or two more than a number.
 fn is_past(number: u128, rows: u32) -> bool
     requires { number < 2 ^ 65 }
     ensures { result ≡ spec.is_past number rows }
@@ -112,7 +112,7 @@ fn is_past(number: u128, rows: u32) -> bool
     number + 1 == u128::from(rows) || number + 2 == u128::from(rows)
 }
 
-/// Whether it is one or two more than some Limit of a plan reaches.
+/// Whether the number of rows is one or two more than some Limit of a plan reaches.
 fn is_past_limit(plan: &Plan, rows: u32) -> bool
     ensures { result ≡ spec.is_past_limit rows (plan_of plan.now) }
 {
@@ -140,7 +140,8 @@ fn reach(limit: &Limit) -> u128
     u128::from(limit.offset) + u128::from(limit.count.unwrap_or(0))
 }
 
-/// How many rows the tables of a plan pair to, of so many rows each; one that is read twice counts twice. 2^28 where there are more.
+/// How many rows the pairs of a plan's tables have, with the given number of rows each; a table that is read twice counts twice. 2^28
+/// where there are more.
 #[tactic(auto, using(crate::proofs::Products::capped))]
 pub fn paired(plan: &Plan, rows: u32) -> u64
     requires some { 1 ≤ rows }

@@ -16,7 +16,7 @@ use wd_plan::Plan;
 use wd_schema::is_of_type;
 use wd_value::{ColumnType, OutOfMemory, Value};
 
-/// No more than so many literals, comparisons and equations of a plan are looked at.
+/// The most literals, comparisons and equations of a plan that are looked at.
 const MOST_LITERALS: usize = 64;
 
 /// What a plan suggests for the columns of tables, by its literals and by the columns that it equates.
@@ -42,7 +42,7 @@ pub fn suggested_by(alloc: Global, plan: &Plan) -> Result<Suggested, OutOfMemory
     Suggested::new(alloc, exact, near, equated, all)
 }
 
-/// A few small values, and those near some literals.
+/// A few small values, and those near the literals.
 fn all_near(alloc: Global, literals: &[Value]) -> Result<Vec<Value>, OutOfMemory>
     ensures { IfOk result (λ v. v.items ≡ spec.all_near literals.now) }
 {
@@ -66,7 +66,7 @@ fn all_around(alloc: Global, found: &[Compared]) -> Result<Vec<Compared>, OutOfM
     Ok(all)
 }
 
-/// Appends a column with each of some values.
+/// Appends a column with each of the values.
 fn add_each(
     table: u16,
     column: u16,

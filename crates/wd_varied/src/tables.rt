@@ -1,4 +1,4 @@
-//! Tables that vary with a number.
+//! Tables that vary by a number.
 
 ghost use Rattle.std.specs.Prelude.{◌≡◌, ◌<◌, length, map, None, option_map, slice_index_or, IfOk};
 ghost use Rattle.wd_candidates.specs.Candidates.{cell as cell_of};
@@ -22,8 +22,8 @@ use wd_candidates::{Outline, fixed_at, fixed_columns, is_marked};
 use wd_schema::{Column, Key, Schema, Table};
 use wd_value::{Instance, OutOfMemory, Row, Value};
 
-/// The instance in which each table that the plan scans has so many rows, its columns filled as the number says, and the others have
-/// none. It need not meet the schema.
+/// The instance in which each table that the plan scans has the given number of rows, its columns filled by the number of the try, and
+/// the other tables are empty. It need not meet the schema.
 pub fn varied(
     alloc: Global,
     schema: &Schema,
@@ -118,7 +118,7 @@ fn filling(
     })
 }
 
-/// So many rows, filled.
+/// The given number of rows, filled.
 fn filled_rows(
     alloc: Global,
     suggested: &Suggested,
@@ -135,7 +135,7 @@ fn filled_rows(
     Ok(made)
 }
 
-/// The row with a number, of so many.
+/// The row with a number, of the given number of rows.
 fn filled_row(
     alloc: Global,
     suggested: &Suggested,
@@ -161,7 +161,7 @@ fn filled_row(
     Ok(made)
 }
 
-/// What a column holds in a row: what it is fixed to, or else what its filling gives.
+/// The value of a column in a row: its fixed value, or else that of its filling.
 fn cell(
     alloc: Global,
     suggested: &Suggested,

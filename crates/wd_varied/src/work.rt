@@ -1,6 +1,6 @@
-//! What an evaluation of a plan costs.
+//! The cost of an evaluation of a plan.
 //!
-//! Each function takes what was counted before and gives it with its own part, up to a bound: so no sum is too large, and a chain of
+//! Each function takes what was counted before and returns it with its own part added, up to a bound: so no sum overflows, and a chain of
 //! operators is counted along its left side by a loop.
 
 ghost use Rattle.std.specs.Prelude.{◌≡◌, ◌+◌, ◌*◌, ◌^◌, ◌≤◌, length, map, min, option_map};
@@ -10,17 +10,18 @@ ghost use Rattle.wd_varied.specs.Work as spec;
 
 use wd_plan::{Class, Expr, Group, Plan, Window};
 
-/// So much is counted, and no more.
+/// The largest number that is counted.
 const MOST_COUNTED: u64 = 268_435_456;
 
-/// What an evaluation of a plan does for each row to which its tables pair, in parts of about five nanoseconds. 2^28 where it is more.
+/// The work of an evaluation of a plan for each row of the pairs of its tables, in units of about five nanoseconds. 2^28 where it is
+/// more.
 pub fn row_work(plan: &Plan) -> u64
     ensures { result ≡ min (spec.row_work (plan_of plan.now)) (2 ^ 28) }
 {
     with_plan(0, plan)
 }
 
-/// So much more than was counted before, up to the bound.
+/// What was counted before and a part, up to the bound.
 fn more(before: u64, part: u64) -> u64
     requires counted { before ≤ 2 ^ 28 }
     requires small { part ≤ 2 ^ 62 }
@@ -70,7 +71,7 @@ fn with_expressions(before: u64, expressions: &[Expr]) -> u64
     counted
 }
 
-/// The left operand comes last: a compiler makes a loop of that call.
+/// The work with that of an expression. The left operand comes last, so that the compiler makes a loop of that call.
 fn with_expression(before: u64, expression: &Expr) -> u64
     requires { before ≤ 2 ^ 28 }
     ensures { result ≡ min (before + spec.expression_work (expression_of expression.now)) (2 ^ 28) }
@@ -119,7 +120,7 @@ fn with_class(before: u64, class: &Class) -> u64
     with_columns(before, class.partition.len() + class.order.len())
 }
 
-/// With what it takes to sort or to part rows by so many columns.
+/// The work with that of sorting or partitioning rows by the given number of columns.
 fn with_columns(before: u64, columns: usize) -> u64
     requires { before ≤ 2 ^ 28 }
     ensures { result ≡ min (before + spec.columns_work columns) (2 ^ 28) }

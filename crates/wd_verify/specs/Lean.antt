@@ -1,4 +1,4 @@
--- Entries of a certificate in which each trace begins with no column twice, and each kept fact gives no target twice.
+-- Entries of a certificate in which no trace starts from a column twice, and no kept fact has a target twice.
 use Rattle.std.specs.Prelude.{ℕ, Bool, false, ◌||◌, List, [], ◌∷◌, map, if◌then◌else◌}
 use Rattle.wd_certificate.specs.Certificates.{KeptRecord, NodeRecord, TraceRecord, node_of}
 use Rattle.wd_certificate.specs.declared.certificate.Node.{Node}
@@ -8,12 +8,12 @@ use Rattle.wd_sets.specs.Sets.{same_member}
 use Rattle.wd_rules.specs.Rules.{member_of}
 use Rattle.wd_rules.specs.Traces.{Traced}
 
--- those whose members were not met before, each once
+-- those elements whose members are not in the test, each once
 abbrev pub once_after : {X : Type 0} → (X → Member) → (Member → Bool) → List X → List X
 once_after name met [] = []
 once_after name met (x ∷ xs) = if met (name x) then once_after name met xs else (x ∷ once_after name (λ m. same_member m (name x) || met m) xs)
 
--- each once, in the order in which they first stand; equal ones name one member
+-- each element once, in the order of first appearance; elements are equal where they name one member
 abbrev pub once : {X : Type 0} → (X → Member) → List X → List X
 once name xs = once_after name (λ m. false) xs
 
@@ -32,6 +32,6 @@ lean_kept kept = record { to = once member_of kept.to; trace = kept.trace }
 abbrev pub lean_entry : NodeRecord → NodeRecord
 lean_entry entry = record { calls = entry.calls; keep = map lean_kept entry.keep; limit = entry.limit; traces = map lean_trace entry.traces }
 
--- of an entry of the code
+-- the lean form of an entry of the code
 abbrev pub lean_of : Node → NodeRecord
 lean_of node = lean_entry (node_of node)

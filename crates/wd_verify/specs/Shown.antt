@@ -1,4 +1,4 @@
--- What the checks of an entry see, as pure data.
+-- What the checks of an entry read, as pure data.
 use Rattle.std.specs.Prelude.{◌≡◌, ℕ, List, map, slice_get, Option, Some, None, Result, Ok, Err}
 use Rattle.wd_certificate.specs.Certificates.{TraceRecord}
 use Rattle.wd_certificate.specs.declared.error.CertError.{CertError}
@@ -7,7 +7,7 @@ use Rattle.wd_rules.specs.Traces.{Traced}
 use Rattle.wd_node_facts.specs.Seen.{columns_of, traced_of}
 use Rattle.wd_verify.specs.declared.evidence.Evidence.{Evidence}
 
--- each trace that is shown begins with the columns of the one with its number
+-- each trace that was followed has the columns of the trace with its number
 abbrev pub HaveColumns : List TraceRecord → List Traced → Type 0
 HaveColumns traces shown = (n : ℕ) → (trace_or (slice_get traces n)).from ≡ columns_of (slice_get shown n)
 
@@ -15,7 +15,7 @@ HaveColumns traces shown = (n : ℕ) → (trace_or (slice_get traces n)).from �
 abbrev pub shown_by : Evidence → List Traced
 shown_by evidence = map traced_of evidence.traces.items
 
--- by what a check refuses, if it does
+-- the refusal of a check, if it refuses
 abbrev pub refusal_of : Result (Unit {0}) CertError → Option CertError
 refusal_of (Ok done) = None
 refusal_of (Err refusal) = Some refusal

@@ -7,10 +7,10 @@ use Rattle.wd_step_facts.specs.declared.facts.Member.{Member}
 use Rattle.wd_step_facts.specs.Facts.{FactList}
 use Rattle.wd_rules.specs.Traces.{with_use}
 
--- using them again, with the members that are there, is good and changes nothing
+-- a second use of these facts, with the present members, is good and changes nothing
 abbrev pub AreUsed : ℕ → FactList → (Member → Bool) → BTreeSet ℕ → Type 0
 AreUsed node facts has used = (n : ℕ) → contains nat_cmp used n ≡ true → with_use node facts has (slice_get facts.list n) ≡ Ok has
 
--- one more number, and no other
+-- one more number and nothing else
 abbrev pub Marks : ℕ → BTreeSet ℕ → BTreeSet ℕ → Type 0
 Marks number old new = (n : ℕ) → contains nat_cmp new n ≡ cond (is_at (nat_cmp number) n) true (contains nat_cmp old n)

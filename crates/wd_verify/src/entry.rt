@@ -29,7 +29,7 @@ pub(crate) fn width(plan: &Plan) -> u16
     plan.width() as u16
 }
 
-/// The rules of an entry.
+/// Checks the rules of an entry.
 #[tactic(auto, using(wd_plan::proofs::Ranges::narrow))]
 fn check_rules(
     alloc: Global,
@@ -53,7 +53,7 @@ fn check_rules(
     }
 }
 
-/// What an entry claims, by its traces.
+/// Checks what an entry claims, by its traces.
 #[tactic(auto, using(wd_plan::proofs::Ranges::narrow))]
 fn check_claims(
     alloc: Global,
@@ -70,7 +70,7 @@ fn check_claims(
     check_rules(alloc, evidence, plan, schema, entry)
 }
 
-/// The claims of an entry over the given facts of its node; its traces, followed.
+/// Follows the traces of an entry over the given facts of its node, and checks the entry's claims by them; the result is the traces.
 #[tactic(auto, using(crate::proofs::Claims::traced_claims))]
 fn judged(
     alloc: Global,
@@ -96,7 +96,7 @@ fn judged(
     Ok(evidence.traces)
 }
 
-/// The entry of a plan's top node, whose children keep these facts; what it keeps itself.
+/// Checks the entry of a plan's top node, where the children keep the given facts; the result is what the entry keeps itself.
 #[tactic(auto, using(crate::proofs::Claims::have_columns))]
 pub(crate) fn check_entry(
     alloc: Global,

@@ -1,4 +1,4 @@
-//! What the checks of an entry call on: the given facts, and the traces, each followed once.
+//! What the checks of an entry read: the given facts, and the traces, each followed once.
 
 ghost use Rattle.std.specs.Prelude.{◌≡◌, ◌≢◌, ◌++◌, [], ◌∷◌, map, slice_get, None, Ok, Err, Some, IfOk, IfErr};
 ghost use Rattle.wd_certificate.specs.Certificates.{trace_of};
@@ -15,7 +15,7 @@ use wd_certificate::{CertError, Trace};
 use wd_node_facts::{Followed, NodeFacts};
 use wd_value::OutOfMemory;
 
-/// A node's number, the facts given there, and the traces of its entry.
+/// The number of a node, its given facts, and the traces of its entry.
 #[derive(Drop)]
 pub(crate) struct Evidence {
     pub(crate) node: u64,
@@ -37,7 +37,7 @@ impl Evidence {
     }
 }
 
-/// Refuses what doesn't hold.
+/// Refuses where the condition is false.
 pub(crate) fn refuse_unless(holds: bool, refusal: CertError) -> Result<(), CertError>
     ensures { refusal_of result ≡ rules.refuse_unless holds refusal }
 {
@@ -52,7 +52,7 @@ fn add(list: &mut Vec<Followed>, one: Followed) -> Result<(), OutOfMemory>
     Ok(())
 }
 
-/// Each trace of an entry.
+/// Follows each trace of an entry.
 #[tactic(auto, using(crate::proofs::Claims::after_none, crate::proofs::Claims::after_one, crate::proofs::Claims::after_stop))]
 pub(crate) fn follow_each(
     alloc: Global,

@@ -22,7 +22,7 @@ use wd_node_facts::{Followed, Keeps, KeptFact, NodeFacts, are_columns};
 use wd_sets::Set;
 use wd_value::OutOfMemory;
 
-/// Whether a target is one of so many columns, or the row.
+/// Whether a target is one of the first `columns` columns, or the row.
 fn is_target(columns: u16, target: Target) -> bool
     ensures { result ≡ rules.is_target columns target }
 {
@@ -67,7 +67,7 @@ fn reaches_targets(facts: &NodeFacts, set: &Set, columns: u16, targets: &[Target
     true
 }
 
-/// A kept fact of a node with so many columns, by its trace.
+/// Checks a kept fact of a node with `columns` columns, by its trace.
 fn check_kept(
     node: u64,
     facts: &NodeFacts,
@@ -87,7 +87,7 @@ fn check_kept(
     }
 }
 
-/// A kept fact, by the trace that it names.
+/// Checks a kept fact, by the trace that it names.
 fn check_claim(evidence: &Evidence, columns: u16, kept: &Kept) -> Result<(), CertError>
     ensures { refusal_of result ≡ rules.kept_refusal evidence.now.node (seen_of evidence.now.facts) columns (lean_kept (kept_of kept.now)).to (slice_get (shown_by evidence.now) (kept_of kept.now).trace) }
 {
@@ -95,7 +95,7 @@ fn check_claim(evidence: &Evidence, columns: u16, kept: &Kept) -> Result<(), Cer
     check_kept(evidence.node, &evidence.facts, columns, &kept.to, trace)
 }
 
-/// The facts that an entry keeps, in their order.
+/// Checks the facts that an entry keeps, in order.
 pub(crate) fn check_keep(evidence: &Evidence, columns: u16, keep: &[Kept]) -> Result<(), CertError>
     ensures { refusal_of result ≡ rules.keep_refusal evidence.now.node (seen_of evidence.now.facts) columns (shown_by evidence.now) (map lean_kept (map kept_of keep.now)) }
 {
@@ -105,7 +105,7 @@ pub(crate) fn check_keep(evidence: &Evidence, columns: u16, keep: &[Kept]) -> Re
     Ok(())
 }
 
-/// Meets a target, whose member is added if it was not met before.
+/// Adds the member that a target names, unless it was added before.
 #[tactic(auto, using(crate::proofs::Once::once_met, crate::proofs::Once::once_new))]
 fn meet(
     columns: u16,
@@ -123,7 +123,7 @@ fn meet(
     Ok(())
 }
 
-/// The members that targets name, which are among so many columns, or the row; each once.
+/// The members that the targets name, each once; each is one of the first `columns` columns, or the row.
 #[tactic(auto, using(crate::proofs::Once::once_first))]
 fn targets_once(alloc: Global, columns: u16, targets: &[Target]) -> Result<Vec<Member>, OutOfMemory>
     requires { list_all (rules.is_target columns) targets.now ≡ true }
@@ -157,7 +157,7 @@ fn kept_fact(
     })
 }
 
-/// Kept facts, in their order.
+/// Kept facts, in order.
 fn kept_list(
     alloc: Global,
     columns: u16,
@@ -176,7 +176,7 @@ fn kept_list(
     Ok(list)
 }
 
-/// What an entry keeps, of a node with so many columns, by its traces.
+/// What an entry of a node with `columns` columns keeps, by its traces.
 pub(crate) fn keeps_of(
     alloc: Global,
     columns: u16,

@@ -19,7 +19,7 @@ use wd_node_facts::Keeps;
 use wd_plan::Plan;
 use wd_schema::Schema;
 
-/// How many of so many entries are left where each node of the plan has one.
+/// How many of the entries are left when each node of the plan has taken one; `None` where there are too few.
 pub(crate) fn left_over(plan: &Plan, entries: usize) -> Option<usize>
     ensures enough { IfSome result (λ n. n + node_count (plan_of plan.now) ≡ entries) }
     ensures few { IfNone result (entries < node_count (plan_of plan.now)) }
@@ -37,7 +37,7 @@ pub(crate) fn left_over(plan: &Plan, entries: usize) -> Option<usize>
     left.checked_sub(1)
 }
 
-/// A limit stands at a Limit alone.
+/// Whether an entry has a limit only at a Limit.
 fn has_its_limit(plan: &Plan, entry: &Node) -> bool
     ensures { result ≡ spec.has_its_limit (plan_of plan.now) (node_of entry.now) }
 {
@@ -47,7 +47,7 @@ fn has_its_limit(plan: &Plan, entry: &Node) -> bool
     }
 }
 
-/// As many rules as calls.
+/// Whether an entry has as many rules as its node has calls.
 fn has_its_calls(plan: &Plan, entry: &Node) -> bool
     ensures { result ≡ spec.has_its_calls (plan_of plan.now) (node_of entry.now) }
 {
@@ -57,18 +57,18 @@ fn has_its_calls(plan: &Plan, entry: &Node) -> bool
     }
 }
 
-/// What a first look over the entries of a plan sees.
+/// What a first look over the entries of a plan finds.
 #[derive(Drop)]
 pub(crate) struct Seen {
-    /// The number behind the plan's top node.
+    /// The number after the plan's top node.
     next: usize,
-    /// Whether limits stand at Limits alone.
+    /// Whether only Limits have limits.
     pub(crate) limits: bool,
     /// Whether each node has as many rules as calls.
     pub(crate) calls: bool,
 }
 
-/// A look over the entries of a plan, which begin at a number.
+/// Looks over the entries of a plan, whose nodes are numbered from `first` on.
 pub(crate) fn look_over(plan: &Plan, nodes: &[Node], first: usize) -> Seen
     requires { first + node_count (plan_of plan.now) ≤ length nodes.now }
     ensures next { result.next ≡ first + node_count (plan_of plan.now) }
@@ -105,16 +105,16 @@ pub(crate) fn look_over(plan: &Plan, nodes: &[Node], first: usize) -> Seen
     }
 }
 
-/// What a plan keeps whose entries are valid.
+/// The result for a plan whose entries are valid.
 #[derive(Drop)]
 pub(crate) struct Checked {
-    /// The number behind the plan's top node.
+    /// The number after the plan's top node.
     next: usize,
     /// What the top node's entry keeps.
     kept: Keeps,
 }
 
-/// The entry of a plan's top node, which has this number, and whose children keep these facts.
+/// Checks the entry of a plan's top node, which has this number and whose children keep these facts.
 #[tactic(auto, using(wd_plan::proofs::Ranges::narrow))]
 fn check_top(
     alloc: Global,
@@ -143,7 +143,7 @@ fn check_top(
     })
 }
 
-/// The entries of a plan's nodes, which begin at a number.
+/// Checks the entries of a plan's nodes, which are numbered from `first` on.
 pub(crate) fn check_nodes(
     alloc: Global,
     plan: &Plan,

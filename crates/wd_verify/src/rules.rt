@@ -25,7 +25,7 @@ use wd_plan::{Call, Class, FrameFunction, Function, Limit, Window};
 use wd_sets::Set;
 use wd_value::{OutOfMemory, SortColumn};
 
-/// Puts columns in.
+/// Adds columns to a set.
 #[tactic(auto, using(crate::proofs::Members::one_more))]
 fn insert_columns(set: &mut Set, columns: &[u16]) -> Result<(), OutOfMemory>
     ensures { IfOk result (λ _. (m : AMember) → has set.new m ≡ reaching.also (has set.old) (columns_named columns.now) m) }
@@ -36,7 +36,7 @@ fn insert_columns(set: &mut Set, columns: &[u16]) -> Result<(), OutOfMemory>
     Ok(())
 }
 
-/// Puts the columns of sort keys in.
+/// Adds the columns of sort keys to a set.
 #[tactic(auto, using(crate::proofs::Members::one_more))]
 fn insert_keys(set: &mut Set, keys: &[SortColumn]) -> Result<(), OutOfMemory>
     ensures { IfOk result (λ _. (m : AMember) → has set.new m ≡ reaching.also (has set.old) (columns_named (key_columns keys.now)) m) }
@@ -81,7 +81,7 @@ fn starts_among(among: &Set, from: &[u16]) -> bool
     true
 }
 
-/// Whether the first so many columns are reached with the members of the set.
+/// Whether the first `columns` columns are reached with the members of the set.
 #[tactic(auto, using(crate::proofs::Columns::columns_next, crate::proofs::Columns::columns_end))]
 fn reaches_all(facts: &NodeFacts, set: &Set, columns: u16) -> bool
     ensures { result ≡ reaching.reaches_each (seen_of facts.now) (has set.now) (columns_named (all_columns columns)) }
@@ -94,14 +94,14 @@ fn reaches_all(facts: &NodeFacts, set: &Set, columns: u16) -> bool
     true
 }
 
-/// Whether a trace shows that columns give members.
+/// Whether a trace shows that columns determine members.
 fn shows(facts: &NodeFacts, among: &Set, members: &[Member], trace: &Followed) -> bool
     ensures { result ≡ spec.shows (seen_of facts.now) (has_column among.now) members.now (traced_of trace.now) }
 {
     starts_among(among, &trace.from) && reaches_each(facts, &trace.set, members)
 }
 
-/// Whether a trace shows that columns give the first so many.
+/// Whether a trace shows that columns determine the first `columns` columns.
 fn shows_all(facts: &NodeFacts, among: &Set, columns: u16, trace: &Followed) -> bool
     ensures { result ≡ spec.shows (seen_of facts.now) (has_column among.now) (columns_named (all_columns columns)) (traced_of trace.now) }
 {
@@ -118,7 +118,7 @@ fn taken_column(function: &Function) -> Option<u16>
     }
 }
 
-/// Whether a trace shows, over a stable frame, the column whose value a call takes.
+/// Whether the frame is stable and a trace reaches the column whose value the call takes.
 fn shows_value(facts: &NodeFacts, among: &Set, call: &Call, trace: &Followed) -> bool
     ensures { result ≡ spec.shows_value (seen_of facts.now) (has_column among.now) call.now (traced_of trace.now) }
 {
@@ -129,7 +129,7 @@ fn shows_value(facts: &NodeFacts, among: &Set, call: &Call, trace: &Followed) ->
         }
 }
 
-/// A call of a class with the columns of a set, over an input with so many, by its rule.
+/// Checks a call by its rule; its class has the columns of the set, and the input has `columns` columns.
 fn check_call(
     evidence: &Evidence,
     columns: u16,
@@ -150,7 +150,7 @@ fn check_call(
     refuse_unless(holds, CertError::UnjustifiedCall { node })
 }
 
-/// A call of a Window by its rule; the columns of each class stand at its number.
+/// Checks a call of a Window by its rule; the sets are the columns of each class, by its number.
 fn check_call_of(
     evidence: &Evidence,
     columns: u16,
@@ -167,7 +167,7 @@ fn check_call_of(
     check_call(evidence, columns, among, call, rule)
 }
 
-/// Calls, each by its own rule.
+/// Checks calls, each by its own rule.
 fn check_calls(
     evidence: &Evidence,
     columns: u16,
@@ -241,7 +241,7 @@ fn has_one_exchange(calls: &[Call], rules: &[Rule]) -> bool
     exchange_only(exchange_class(calls, rules), calls, rules)
 }
 
-/// A Window's rules, over an input with so many columns.
+/// Checks a Window's rules, over an input with `columns` columns.
 pub(crate) fn check_window(
     alloc: Global,
     evidence: &Evidence,
@@ -260,14 +260,14 @@ pub(crate) fn check_window(
     refuse_unless(is_one, CertError::SecondExchange { node })
 }
 
-/// Whether a limit keeps all rows, or all that tie from the first on.
+/// Whether a limit has no offset, and has no count or has ties.
 fn is_whole_or_ties(limit: &Limit) -> bool
     ensures { result ≡ spec.is_whole_or_ties (limit_of limit.now) }
 {
     limit.offset == 0 && (limit.count.is_none() || limit.ties)
 }
 
-/// Whether the columns of sort keys give the first so many, by a trace.
+/// Whether a trace shows that the sort keys determine the first `columns` columns.
 fn shows_by_keys(
     alloc: Global,
     facts: &NodeFacts,
@@ -281,7 +281,7 @@ fn shows_by_keys(
     Ok(shows_all(facts, &among, columns, trace))
 }
 
-/// A limit of an input with so many columns, by the trace that is named for it, if one is.
+/// Checks a limit of an input with `columns` columns, by the trace that its entry names, if any.
 pub(crate) fn check_limit(
     alloc: Global,
     evidence: &Evidence,

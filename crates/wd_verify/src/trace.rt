@@ -1,4 +1,4 @@
-//! What a trace reaches.
+//! What follows from the columns of a trace by the facts that it uses.
 
 ghost use Rattle.std.specs.Prelude.{◌≡◌, ◌≢◌, ℕ, ◌+◌, ◌-◌, ◌||◌, ◌++◌, List, ◌∷◌, true, false, map, nat_lt, Ok, Err, Some, slice_get, IfOk, IfErr, OnOk};
 ghost use Rattle.std.specs.List.{list_all};
@@ -22,7 +22,7 @@ use wd_sets::Set;
 use wd_step_facts::moved_member;
 use wd_value::OutOfMemory;
 
-/// The most members on a side of a fact that is looked at each time it is used; longer ones are looked at once in a trace.
+/// The most members on a side of a fact that is used again each time a trace names it; a longer fact is used once in a trace.
 const SHORT: usize = 16;
 
 /// Whether the row is reached with these members.
@@ -37,7 +37,7 @@ fn has_row(split: Option<u16>, set: &Set) -> bool
     }
 }
 
-/// Whether a column is reached by its side of a Join.
+/// Whether a side of a Join reaches the column.
 fn by_side(split: Option<u16>, columns: u16, set: &Set, column: u16) -> bool
     ensures { result ≡ reaching.by_side split columns (has set.now) column }
 {
@@ -50,7 +50,7 @@ fn by_side(split: Option<u16>, columns: u16, set: &Set, column: u16) -> bool
     }
 }
 
-/// Whether a member is reached with these.
+/// Whether a member is reached with these members.
 pub(crate) fn reaches(facts: &NodeFacts, set: &Set, member: Member) -> bool
     ensures { result ≡ reaching.reaches (seen_of facts.now) (has set.now) member }
 {
@@ -77,7 +77,7 @@ pub(crate) fn reaches_each(facts: &NodeFacts, set: &Set, members: &[Member]) -> 
     true
 }
 
-/// Puts members in.
+/// Adds members to a set.
 #[tactic(auto, using(crate::proofs::Members::one_more))]
 fn insert_each(set: &mut Set, members: &[Member]) -> Result<(), OutOfMemory>
     ensures { IfOk result (λ _. (m : AMember) → has set.new m ≡ reaching.also (has set.old) members.now m) }
@@ -88,12 +88,12 @@ fn insert_each(set: &mut Set, members: &[Member]) -> Result<(), OutOfMemory>
     Ok(())
 }
 
-/// Whether a fact with so many members on its sides is looked at once in a trace.
+/// Whether a fact with sides of these lengths is used once in a trace.
 fn is_long(from: usize, to: usize) -> bool {
     from > SHORT || to > SHORT
 }
 
-/// Uses a fact; whether it is a long one.
+/// Uses a fact; the result is whether it is a long one.
 #[tactic(auto, using(crate::proofs::Members::used_is))]
 fn use_fact(node: u64, facts: &NodeFacts, set: &mut Set, fact: &Given) -> Result<bool, CertError>
     ensures used { IfOk result (λ _. spec.with_use node (seen_of facts.now) (has set.old) (Some (fact_of fact.now)) ≡ Ok (has set.new)) }
@@ -106,7 +106,7 @@ fn use_fact(node: u64, facts: &NodeFacts, set: &mut Set, fact: &Given) -> Result
     Ok(is_long(fact.from.len(), fact.to.len()))
 }
 
-/// Uses the fact with a number, of some that are given.
+/// Uses the fact with this number among the given ones.
 fn use_given(
     node: u64,
     facts: &NodeFacts,
@@ -137,7 +137,7 @@ fn reaches_columns(facts: &NodeFacts, set: &Set, by: u16, row: Member, columns: 
     true
 }
 
-/// Puts in what a child's members are at the node above.
+/// Adds a child's members, as they are numbered at the node above.
 #[tactic(auto, using(crate::proofs::Members::one_more))]
 fn insert_moved(set: &mut Set, by: u16, row: Member, members: &[Member]) -> Result<(), OutOfMemory>
     requires { list_all (is_plain (65536 - by)) members.now ≡ true }
@@ -170,7 +170,7 @@ fn use_kept(
     Ok(is_long(from.len(), kept.to.len()))
 }
 
-/// Uses the fact with a number, of those that a child keeps.
+/// Uses the fact with this number among those that a child keeps.
 fn use_side(
     node: u64,
     facts: &NodeFacts,
@@ -188,7 +188,7 @@ fn use_side(
     }
 }
 
-/// Uses the fact with a number, of those that the right child keeps and the last ones.
+/// Uses the fact with this number among those of the right child and the last ones.
 #[tactic(auto, using(crate::proofs::Members::in_side, crate::proofs::Members::behind_side))]
 fn use_right(node: u64, facts: &NodeFacts, set: &mut Set, number: usize) -> Result<bool, CertError>
     requires { AreNarrow facts.now }
@@ -203,7 +203,7 @@ fn use_right(node: u64, facts: &NodeFacts, set: &mut Set, number: usize) -> Resu
     }
 }
 
-/// Uses the fact with a number, of those that the children keep and the last ones.
+/// Uses the fact with this number among those of the children and the last ones.
 #[tactic(auto, using(crate::proofs::Members::in_side, crate::proofs::Members::behind_side))]
 fn use_left(node: u64, facts: &NodeFacts, set: &mut Set, number: usize) -> Result<bool, CertError>
     requires { AreNarrow facts.now }
@@ -218,7 +218,7 @@ fn use_left(node: u64, facts: &NodeFacts, set: &mut Set, number: usize) -> Resul
     }
 }
 
-/// Uses the fact with a number; whether it is a long one.
+/// Uses the fact with this number; the result is whether it is a long one.
 #[tactic(auto, using(crate::proofs::Members::in_first, crate::proofs::Members::behind_first))]
 fn use_number(node: u64, facts: &NodeFacts, set: &mut Set, number: u64) -> Result<bool, CertError>
     requires { AreNarrow facts.now }
@@ -234,7 +234,7 @@ fn use_number(node: u64, facts: &NodeFacts, set: &mut Set, number: u64) -> Resul
     }
 }
 
-/// Meets one of a trace's columns, which is added if it was not met before.
+/// Adds one of a trace's columns, unless it was added before.
 #[tactic(auto, using(crate::proofs::Once::once_met, crate::proofs::Once::once_new))]
 fn meet(followed: &mut Followed, column: u16) -> Result<(), OutOfMemory>
     ensures set { IfOk result (λ _. (m : AMember) → has followed.new.set m ≡ (same_member m (member.Column column) || has followed.old.set m)) }
@@ -246,7 +246,7 @@ fn meet(followed: &mut Followed, column: u16) -> Result<(), OutOfMemory>
     Ok(())
 }
 
-/// The columns from which a trace starts, where the facts have each.
+/// The columns from which a trace starts; each has to be a column of the facts.
 #[tactic(auto, using(crate::proofs::Members::one_more, crate::proofs::Members::not_started, crate::proofs::Once::once_first))]
 fn start(alloc: Global, node: u64, facts: &NodeFacts, trace: &Trace) -> Result<Followed, CertError>
     ensures below { IfOk result (λ _. list_all (λ c. nat_lt c facts.now.columns) trace.now.from.items ≡ true) }
@@ -275,7 +275,7 @@ fn mark(used: &mut BTreeSet<u64>, number: u64) -> Result<(), OutOfMemory>
     Ok(())
 }
 
-/// Uses the fact with a number, unless it is among those that the trace has used: using it again changes nothing.
+/// Uses the fact with this number unless the trace has used it before: a second use changes nothing.
 fn use_once(
     node: u64,
     facts: &NodeFacts,
@@ -318,7 +318,7 @@ fn use_each(
     Ok(followed)
 }
 
-/// A trace, followed: its columns, and the members by which it reaches what it does.
+/// A trace that was followed: its columns, and the members after its uses.
 fn walk(alloc: Global, node: u64, facts: &NodeFacts, trace: &Trace) -> Result<Followed, CertError>
     requires { AreNarrow facts.now }
     ensures from { IfOk result (λ f. f.from.items ≡ columns_once trace.now.from.items) }
@@ -329,7 +329,7 @@ fn walk(alloc: Global, node: u64, facts: &NodeFacts, trace: &Trace) -> Result<Fo
     use_each(alloc, node, facts, followed, &trace.uses)
 }
 
-/// A trace, followed; it reaches what it does with each of its columns once.
+/// A trace that was followed, with each of its columns once; what it reaches is the same.
 pub(crate) fn follow(
     alloc: Global,
     node: u64,

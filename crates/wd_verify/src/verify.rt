@@ -17,7 +17,7 @@ use wd_plan::Plan;
 use wd_rules::is_read_for;
 use wd_schema::Schema;
 
-/// Whether the entries have the form that the plan asks for: one for each node, limits at Limits alone, a rule for each call.
+/// Checks the form of the entries: one for each node, limits only at Limits, a rule for each call.
 fn check_form(plan: &Plan, nodes: &[Node]) -> Result<(), CertError>
     ensures { refusal_of result ≡ form_refusal (plan_of plan.now) (map node_of nodes.now) }
 {
@@ -34,7 +34,7 @@ fn check_form(plan: &Plan, nodes: &[Node]) -> Result<(), CertError>
     Ok(())
 }
 
-/// The entries of a plan's nodes, in postorder.
+/// Checks the entries of a plan's nodes, in postorder.
 fn check_entries(
     alloc: Global,
     plan: &Plan,
@@ -49,7 +49,7 @@ fn check_entries(
     check_nodes(alloc, plan, schema, nodes, 0)
 }
 
-/// The checks of a plan's entries, in their order.
+/// Checks the form of a plan's entries, then the entries.
 fn check(alloc: Global, plan: &Plan, schema: &Schema, nodes: &[Node]) -> Result<(), CertError>
     requires { fits (schema_of schema.now) (plan_of plan.now) ≡ true }
     ensures passed { IfOk result (λ _. entries_refusal (schema_of schema.now) (plan_of plan.now) (map node_of nodes.now) ≡ None) }
@@ -60,14 +60,14 @@ fn check(alloc: Global, plan: &Plan, schema: &Schema, nodes: &[Node]) -> Result<
     Ok(())
 }
 
-/// Checks a certificate against a plan that fits the schema. Accepted is exactly a valid certificate; where it is accepted,
-/// what its nodes keep and what is given at them holds in their rows, over each instance that meets the schema and under any
-/// valid choice, and the plan has one answer.
+/// Checks a certificate against a plan that fits the schema. Exactly valid certificates are accepted. Where one is accepted, the kept and
+/// the given facts of each node hold in its rows, over each instance that meets the schema and under any valid choice, and the plan has
+/// one answer.
 ///
 /// # Errors
-/// The first refusal, which is looked for in this order: 503 for version 1 where a node of the plan is a Group, 504 where the
-/// certificate has another number of nodes than the plan, 502 for a limit at a node that is no Limit, 504 for another number of rules than a node has calls; then, node by node in
-/// postorder, 505 to 510 of its traces, of what it keeps, and of its calls or its limit. Out of memory.
+/// The first refusal in this order: 503 for version 1 where a node of the plan is a Group; 504 where the number of entries is not the
+/// plan's number of nodes; 502 for a limit at a node that is no Limit; 504 where the number of rules is not the node's number of calls;
+/// then, node by node in postorder, 505 to 510 of its traces, of what it keeps, and of its calls or its limit. Out of memory.
 pub fn verify_plan(
     alloc: Global,
     plan: &Plan,

@@ -10,25 +10,25 @@ use Rattle.wd_with.specs.Members.{NamedQuery, begins, is_as}
 use Rattle.wd_clauses.specs.Added.{added}
 use Rattle.wd_clauses.specs.Names.{is_name, is_same_name}
 
--- a name goes on after a dot, and before a bracket it is a function's
+-- a name continues after a dot, and before a bracket it is a function's
 abbrev pub goes_on : TokenKind → Bool
 goes_on (t.Terminal m.Dot) = true
 goes_on (t.Terminal m.LeftBracket) = true
 goes_on _ = false
 
--- a member is read there: its bare name stands where a table stands
+-- the member is read there: its bare name appears where a table is expected
 abbrev pub is_read : NamedQuery → List Place → Token → List Token → Bool
 is_read member levels token after = is_table levels && is_same_name member.name.kind token.kind && not (begins goes_on after)
 
--- the alias of a derived table that stands for a table: its own where it has one, else the table's name
+-- the alias of a derived table in place of a table: the table's alias if it has one, else its name
 abbrev pub alias : Token → List Token → List Token
 alias table after = if begins is_as after then [] else (if begins is_name after then added m.As table ∷ [] else added m.As table ∷ table ∷ [])
 
--- ( query ) [AS [name]], before what follows the table's name
+-- ( query ) [AS [name]], before the tokens after the table's name
 abbrev pub derived : List Token → Token → List Token → List Token
 derived query table after = added m.LeftBracket table ∷ query ++ added m.RightBracket table ∷ alias table after
 
--- what stands for a token
+-- what replaces a token
 abbrev pub written : NamedQuery → List Place → Token → List Token → List Token
 written member levels token after = if is_read member levels token after then derived member.query token after else token ∷ []
 

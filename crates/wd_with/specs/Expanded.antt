@@ -1,6 +1,6 @@
--- A query without its WITH clause. WITH a AS ( q ), b AS ( r ) .. is WITH a AS ( q ) .. with ( r ) AS b in place of each table
--- b, and WITH a AS ( q ) .. is .. with ( q ) AS a in place of each table a. So the last member is taken out first, and what
--- stands for it is not looked through for its own name.
+-- A query without its WITH clause. WITH a AS ( q ), b AS ( r ) .. is WITH a AS ( q ) .. with ( r ) AS b in place of each table b, and
+-- WITH a AS ( q ) .. is .. with ( q ) AS a in place of each table a. So the last member is taken out first, and its query is not searched
+-- for its own name.
 use Rattle.std.specs.Prelude.{if◌then◌else◌, nat_le, List, [], ◌∷◌, ◌++◌, Some, None}
 use Rattle.wd_lex.specs.declared.token.Token.{Token}
 use Rattle.wd_with.specs.declared.expand.Expanded.{Expanded}
@@ -16,7 +16,7 @@ pub record Said : Type 0 where
 abbrev pub said : Expanded → Said
 said expanded = record { tokens = expanded.tokens.items; read_twice = expanded.read_twice.items }
 
--- a query as it stands
+-- a query as it is
 abbrev pub unchanged : List Token → Said
 unchanged tokens = record { tokens = tokens; read_twice = [] }
 
@@ -31,17 +31,17 @@ taken_out member query = record {
   read_twice = query.read_twice ++ twice member query.tokens;
 }
 
--- a query without the members that stand before it
+-- a query without the members that come before it
 abbrev pub without : List NamedQuery → Said → Said
 without [] query = query
 without (member ∷ members) query = taken_out member (without members query)
 
--- without the members that were read, if no two have one name; where none were read, the query as it stands
+-- the query without the members that were read, if no two have one name; where none were read, the query as it is
 abbrev pub without_these : List Token → Members → Said
 without_these tokens None = unchanged tokens
 without_these tokens (Some found) = if are_distinct found.0 then without found.0 (unchanged found.1) else unchanged tokens
 
--- a query without its WITH clause, where one that is read begins it
+-- a query without its WITH clause, if it begins with one that is read
 abbrev pub expanded : List Token → Said
 expanded [] = unchanged []
 expanded (first ∷ tokens) = if is_with first.kind then without_these (first ∷ tokens) (members_at most_members tokens) else unchanged (first ∷ tokens)

@@ -7,7 +7,7 @@ use Rattle.wd_lex.specs.declared.token.Token.{Token}
 use Rattle.wd_clauses.specs.Names.{is_name, is_same_name}
 use Rattle.wd_clauses.specs.Reach.{closing, is_comma, opens}
 
--- a query by its name
+-- a query and its name
 pub record NamedQuery : Type 0 where
   pub name : Token
   pub query : List Token
@@ -30,12 +30,12 @@ abbrev pub begins : (TokenKind → Bool) → List Token → Bool
 begins test [] = false
 begins test (token ∷ tokens) = test token.kind
 
--- what stands before a place is the query of that name, and what stands behind the place follows
+-- the tokens up to a place as the query of that name, and the tokens after the place
 abbrev pub cut_at : Token → List Token → Option ℕ → Option (NamedQuery × List Token)
 cut_at name tokens None = None
 cut_at name tokens (Some place) = Some (record { name = name; query = take place tokens }, drop (place + 1) tokens)
 
--- name AS ( query ), and what follows
+-- name AS ( query ), and the tokens after it
 unfoldable pub member_at : List Token → Option (NamedQuery × List Token)
 member_at (name ∷ word ∷ bracket ∷ tokens) =
     if is_name name.kind && is_as word.kind && opens bracket.kind && begins is_query tokens then cut_at name tokens (closing tokens) else None
@@ -45,7 +45,7 @@ member_at _ = None
 abbrev pub most_members : ℕ
 most_members = 64
 
--- the members that are read, and what follows them
+-- the members that are read, and the tokens after them
 abbrev pub Members : Type 0
 Members = Option (List NamedQuery × List Token)
 
@@ -53,12 +53,12 @@ abbrev pub with_front : NamedQuery → Members → Members
 with_front member None = None
 with_front member (Some found) = Some (member ∷ found.0, found.1)
 
--- the tokens after a comma, where it stands first
+-- the tokens after a comma, if they begin with one
 abbrev pub past_comma : List Token → Option (List Token)
 past_comma [] = None
 past_comma (token ∷ tokens) = if is_comma token.kind then Some tokens else None
 
--- a member alone, or, where a comma follows it, with those that are read after that
+-- one member, or, if a comma follows it, also the members that are read after that
 abbrev pub with_next : (List Token → Members) → NamedQuery → List Token → Option (List Token) → Members
 with_next further member after None = Some (member ∷ [], after)
 with_next further member after (Some next) = with_front member (further next)
@@ -67,7 +67,7 @@ abbrev pub with_further : (List Token → Members) → Option (NamedQuery × Lis
 with_further further None = None
 with_further further (Some found) = with_next further found.0 found.1 (past_comma found.1)
 
--- member {, member}, at most so many, and what follows them
+-- member {, member}, at most the given number, and the tokens after them
 unfoldable pub members_at : ℕ → List Token → Members
 members_at zero tokens = None
 members_at (suc more) tokens = with_further (members_at more) (member_at tokens)

@@ -1,4 +1,4 @@
--- Members as they are read, without where they lie in memory.
+-- Members as they are read, as pure data.
 use Rattle.wd_with.specs.declared.member.Member.{Member}
 use Rattle.wd_with.specs.Members.{NamedQuery}
 

@@ -14,14 +14,14 @@ use std::alloc::Global;
 use wd_clauses::{RespellError, add, add_all, added, copy_token, is_name, is_same_name};
 use wd_lex::{Terminal, Token, TokenKind};
 
-/// A query with a derived table in place of each table of a name, and how many those are.
+/// A query with a derived table in place of each table of a name, and how many of these there were.
 #[derive(Drop)]
 pub struct Respelled {
     pub tokens: Vec<Token>,
     pub uses: usize,
 }
 
-/// Whether a name goes on with what stands first, or is a function's.
+/// Whether a name before these tokens continues, or is a function's.
 fn goes_on(after: &[Token]) -> bool
     ensures { result ≡ begins spec.goes_on after.now }
 {
@@ -34,7 +34,7 @@ fn goes_on(after: &[Token]) -> bool
     }
 }
 
-/// Whether AS stands first.
+/// Whether the first token is AS.
 fn begins_as(after: &[Token]) -> bool
     ensures { result ≡ begins is_as after.now }
 {
@@ -44,7 +44,7 @@ fn begins_as(after: &[Token]) -> bool
     }
 }
 
-/// Whether a name stands first.
+/// Whether the first token is a name.
 fn begins_name(after: &[Token]) -> bool
     ensures { result ≡ begins is_name after.now }
 {
@@ -54,14 +54,14 @@ fn begins_name(after: &[Token]) -> bool
     }
 }
 
-/// Whether a member is read there.
+/// Whether the token is a table that names the member.
 fn is_read(member: &Member, levels: &[Place], token: &Token, after: &[Token]) -> bool
     ensures { result ≡ spec.is_read (named_query member.now) (reverse levels.now) token.now after.now }
 {
     is_table(levels) && is_same_name(&member.name.kind, &token.kind) && !goes_on(after)
 }
 
-/// Adds the alias of a derived table that stands for a table.
+/// Adds the alias of a derived table in place of a table.
 fn add_alias(written: &mut Vec<Token>, table: &Token, after: &[Token]) -> Result<(), RespellError>
     ensures { Writes written.old.items written.new.items result (spec.alias table.now after.now) }
 {
@@ -76,7 +76,7 @@ fn add_alias(written: &mut Vec<Token>, table: &Token, after: &[Token]) -> Result
     Ok(())
 }
 
-/// Adds a derived table that stands for a table.
+/// Adds a derived table in place of a table.
 fn add_derived(
     written: &mut Vec<Token>,
     query: &[Token],
@@ -92,7 +92,7 @@ fn add_derived(
     Ok(())
 }
 
-/// Adds what stands for a token.
+/// Adds what replaces a token.
 fn add_written(
     written: &mut Vec<Token>,
     is_read: bool,

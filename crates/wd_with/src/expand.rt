@@ -19,7 +19,7 @@ pub struct Expanded {
     pub read_twice: Vec<Token>,
 }
 
-/// A query as it stands.
+/// A query as it is.
 fn unchanged(alloc: Global, tokens: &[Token]) -> Result<Expanded, RespellError>
     ensures { Makes spec.said (λ s. s.tokens) result (spec.unchanged tokens.now) }
 {
@@ -47,7 +47,7 @@ fn taken_out(alloc: Global, member: &Member, query: Expanded) -> Result<Expanded
     })
 }
 
-/// A query without the members that stand before it.
+/// A query without the members that come before it.
 fn without(
     alloc: Global,
     mut members: Vec<Member>,
@@ -62,7 +62,7 @@ fn without(
     Ok(expanded)
 }
 
-/// A query without its WITH clause, where one that is read begins it; another query stays as it is.
+/// A query without its WITH clause, if it begins with one that is read; another query stays as it is.
 pub fn without_with(alloc: Global, tokens: &[Token]) -> Result<Expanded, RespellError>
     ensures { Makes spec.said (λ s. s.tokens) result (spec.expanded tokens.now) }
 {

@@ -1,6 +1,6 @@
-//! WITH by derived tables: `WITH a AS ( q ) ..` is what follows with `( q ) AS a` in place of each table `a`. `member` reads
-//! the members, `place` finds the tables of a query, `derived` writes the derived tables, and `expand` takes the members out,
-//! the last one first.
+//! WITH by derived tables: `WITH a AS ( q ) ..` is what follows, with `( q ) AS a` in place of each table `a`. `member` reads the
+//! members, `place` finds the tables of a query, `derived` writes the derived tables, and `expand` takes the members out, from the last
+//! to the first.
 #![tactic(auto)]
 
 mod derived;

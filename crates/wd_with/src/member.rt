@@ -10,7 +10,7 @@ use std::alloc::{AllocError, Global};
 use wd_clauses::{closing, is_name, is_same_name};
 use wd_lex::{Terminal, Token, TokenKind};
 
-/// A query by its name.
+/// A query and its name.
 #[derive(Drop)]
 pub struct Member<'t> {
     pub name: &'t Token,
@@ -41,7 +41,7 @@ fn opens(kind: &TokenKind) -> bool
     matches!(kind, TokenKind::Terminal(Terminal::LeftBracket))
 }
 
-/// Whether SELECT or WITH stands first.
+/// Whether the first token is SELECT or WITH.
 fn begins_query(tokens: &[Token]) -> bool
     ensures { result ≡ spec.begins spec.is_query tokens.now }
 {
@@ -80,7 +80,7 @@ fn member_at(tokens: &[Token]) -> Option<(Member<'_>, &[Token])>
 // The most members of a WITH clause.
 const MOST_MEMBERS: usize = 64;
 
-/// The tokens after a comma, where it stands first.
+/// The tokens after a comma, if they begin with one.
 fn past_comma(tokens: &[Token]) -> Option<&[Token]>
     ensures { Finds (λ r. r.now) result (spec.past_comma tokens.now) }
 {

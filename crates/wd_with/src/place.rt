@@ -1,4 +1,4 @@
-//! Where tables stand in a query.
+//! The tables of a query by their places.
 
 ghost use Rattle.std.specs.Prelude.{◌≡◌, IfOk, reverse};
 ghost use Rattle.wd_with.specs.Places as spec;
@@ -6,22 +6,22 @@ ghost use Rattle.wd_with.specs.Places as spec;
 use std::alloc::AllocError;
 use wd_lex::{Terminal, TokenKind};
 
-/// Where a token stands, as far as tables go.
+/// The place of a token, as far as tables are concerned.
 #[derive(Clone, Copy, PartialEq, Eq)]
 pub enum Place {
-    /// Before SELECT, and behind the FROM clause.
+    /// Before SELECT, and after the FROM clause.
     Elsewhere,
     /// Among the items of SELECT.
     Items,
-    /// There, right after DISTINCT.
+    /// Among the items of SELECT, right after DISTINCT.
     Distinct,
-    /// Where a table stands: after FROM, JOIN or a comma of a FROM clause.
+    /// Where a table is expected: after FROM, JOIN or a comma of a FROM clause.
     Table,
     /// Elsewhere in a FROM clause.
     Joined,
 }
 
-/// The place after a token that stands in no FROM clause and among no items.
+/// The place after a token that is in no FROM clause and among no items.
 fn after_elsewhere(kind: &TokenKind) -> Place
     ensures { result ≡ spec.after_elsewhere kind.now }
 {
@@ -85,7 +85,7 @@ fn inside(place: Place) -> Place
     }
 }
 
-/// Goes past a token, the innermost level being the last.
+/// Passes a token; the innermost level is the last.
 pub fn pass(levels: &mut Vec<Place>, kind: &TokenKind) -> Result<(), AllocError>
     ensures { IfOk result (λ _. reverse levels.new.items ≡ spec.levels_after (reverse levels.old.items) kind.now) }
 {
@@ -106,7 +106,7 @@ pub fn pass(levels: &mut Vec<Place>, kind: &TokenKind) -> Result<(), AllocError>
     }
 }
 
-/// Whether a table stands there.
+/// Whether a table is expected at this place.
 pub fn is_table(levels: &[Place]) -> bool
     ensures { result ≡ spec.is_table (reverse levels.now) }
 {

@@ -1,4 +1,4 @@
-//! Witnesses under one name: what they are and their text, the search for one, and whether a text is one. The parts stand in crates
+//! Witnesses under one name: what they are and their text, the search for one, and whether a text is one. The parts are in crates
 //! of their own.
 #![tactic(auto)]
 

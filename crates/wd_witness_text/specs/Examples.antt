@@ -4,7 +4,7 @@ use Rattle.wd_value.specs.declared.value.Value.TheVariants.{Null, Int, Text, Boo
 use Rattle.wd_witness_text.specs.Json.{witness_text}
 use Rattle.wd_witness_text.specs.Witnesses.{WitnessRecord}
 
--- a table of two rows, in the one order and in the other, and a table of one row
+-- a table of two rows, whose choices are the two orders, and a table of one row
 abbrev pub in_both_orders : WitnessRecord
 in_both_orders = record {
   tables = record { name = codes "s"; rows = (Null ∷ Text (codes "a\"b\\\n") ∷ Truth true ∷ []) ∷ [] }
@@ -14,6 +14,6 @@ in_both_orders = record {
   second = (1 ∷ 0 ∷ []) ∷ [] ∷ [];
 }
 
--- its text
+-- the text of this witness
 abbrev pub HasExampleText : Type 0
 HasExampleText = witness_text in_both_orders ≡ codes "{\"first\":[[0,1],[]],\"second\":[[1,0],[]],\"tables\":{\"s\":[[null,\"a\\\"b\\\\\\n\",true]],\"t\":[[1],[-2]]}}"

@@ -11,7 +11,7 @@ use Rattle.wd_witness_text.specs.declared.error.WitnessTextError.TheVariants as 
 abbrev pub SpellsOne : Type 0
 SpellsOne = (bytes : List ℕ) (v w : WitnessRecord) → Spells v bytes → Spells w bytes → v ≡ w
 
--- bytes that spell a witness of a schema have the cause of no refusal but out of memory
+-- bytes that spell a witness of a schema are refused only where memory runs out
 abbrev pub IsReadBack : Type 0
 IsReadBack = (schema : List TableRule) (bytes : List ℕ) (w : WitnessRecord) → Spells w bytes → IsOf schema w → AllFit64 w
     → (e : WitnessTextError) → HasCause schema e bytes → e ≡ error.OutOfMemory

@@ -21,7 +21,7 @@ pub record WitnessRecord : Type 0 where
   pub first : List (List ℕ)
   pub second : List (List ℕ)
 
--- the rows that stand under a name in the code
+-- the rows of a table of the code, under its name
 abbrev pub table_rows : String Global × Vec (Vec Value Global) Global → TableRows
 table_rows entry = record { name = string_bytes entry.0; rows = rows_of entry.1.items }
 
@@ -29,7 +29,7 @@ table_rows entry = record { name = string_bytes entry.0; rows = rows_of entry.1.
 abbrev pub positions_of : List (Vec ℕ Global) → List (List ℕ)
 positions_of orderings = map (λ o. o.items) orderings
 
--- what a witness of the code says, its tables in the order of their names' bytes
+-- the witness that a value of the code shows, with its tables in the order of their names' bytes
 abbrev pub witness_of : Witness → WitnessRecord
 witness_of w = record { tables = map table_rows w.tables.entries; first = positions_of w.first.orderings.items; second = positions_of w.second.orderings.items }
 
@@ -40,7 +40,7 @@ Fits64 (Int n) = FitsSigned w64 n
 Fits64 (Text bytes) = ⊤
 Fits64 (Truth b) = ⊤
 
--- the whole numbers of a witness have 64 bits, as all of the code's have
+-- the whole numbers of a witness have 64 bits, as all those of the code do
 abbrev pub AllFit64 : WitnessRecord → Type 0
 AllFit64 w = All (λ t. All (All Fits64) t.rows) w.tables
 
@@ -55,13 +55,13 @@ pub record IsTableOf (schema : List TableRule) (t : TableRows) : Type 0 where
 abbrev pub IsOf : List TableRule → WitnessRecord → Type 0
 IsOf schema w = All (IsTableOf schema) w.tables
 
--- ---- the instance that a witness gives a schema
+-- ---- the instance of a witness over a schema
 
 abbrev pub rows_in : Option TableRows → List Row
 rows_in None = []
 rows_in (Some t) = t.rows
 
--- the rows under a name, and none where no table has it
+-- the rows under a name; none where no table has it
 abbrev pub rows_named : List ℕ → List TableRows → List Row
 rows_named name tables = rows_in (find (λ t. bytes_eq name t.name) tables)
 

@@ -7,16 +7,16 @@ ghost use Rattle.wd_witness_text.specs.declared.error.WitnessTextError.TheVarian
 use thiserror::Error;
 use wd_value::OutOfMemory;
 
-/// A witness's refusal: 601 of its text and of the tables that it names.
+/// A witness's refusal: 601 for its text and the tables that it names.
 #[derive(Clone, Copy, Debug, Error)]
 pub enum WitnessTextError {
-    /// 601: the text is no JSON in UTF-8, or nests more than 127 deep.
+    /// 601: the text is not JSON in UTF-8, or nests more than 127 deep.
     #[error("not JSON")]
     NotJson,
-    /// 601: the JSON is that of no witness.
+    /// 601: the JSON is not that of a witness.
     #[error("not of the shape of a witness")]
     Shape,
-    /// 601: a table is none of the schema's.
+    /// 601: a table is not in the schema.
     #[error("a table that the schema has not")]
     UnknownTable,
     /// 601: a table has more than 64 rows.
@@ -25,13 +25,13 @@ pub enum WitnessTextError {
     /// 601: a row has another number of values than its table has columns.
     #[error("a row of another length than its table has columns")]
     RowLength,
-    /// The allocator refused a growth.
+    /// The allocator refused to allocate.
     #[error("out of memory")]
     OutOfMemory,
 }
 
 impl WitnessTextError {
-    /// The refusal's number, or `None` where memory runs out.
+    /// The refusal's number, or `None` where memory ran out.
     pub fn number(&self) -> Option<u32>
         ensures { result ≡ number_of self.now }
     {
@@ -45,7 +45,7 @@ impl WitnessTextError {
         }
     }
 
-    /// What a refusal names beside its number; 601 names nothing.
+    /// Always `None`: 601 names no place.
     pub fn place(&self) -> Option<u64>
         ensures { result ≡ place_of self.now }
     {

@@ -42,7 +42,7 @@ fn fit_table(schema: &Schema, name: &str, rows: &[Row]) -> Result<(), WitnessTex
     Ok(())
 }
 
-/// Accepts tables of the schema, each with at most 64 rows, which have a value for each column.
+/// Accepts tables of the schema, each with at most 64 rows that have a value for each column.
 pub(crate) fn fit_tables(
     schema: &Schema,
     tables: &BTreeMap<String, Vec<Row>>,

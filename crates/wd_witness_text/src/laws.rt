@@ -1,4 +1,4 @@
-//! Laws over the definitions, and what writing and reading a witness give together.
+//! Laws over the definitions, and what follows from writing and then reading a witness.
 
 ghost use Rattle.std.specs.Prelude.{◌≡◌, IfOk, IfErr};
 ghost use Rattle.wd_schema.specs.Schemas.{schema_of};
@@ -28,8 +28,7 @@ pub fn example_text()
     ensures { HasExampleText }
 {}
 
-/// A witness that is written and read again comes back; where it is of the schema, only memory can
-/// be wanting.
+/// A witness that is written and read again is unchanged; if it is one of the schema, reading fails only where memory runs out.
 pub fn read_back(
     alloc: Global,
     schema: &Schema,

@@ -1,4 +1,8 @@
-//! Witnesses, which say why a query has two answers, and their text in JSON.
+//! Witnesses, which show that a query has two answers, and their text in JSON.
+//!
+//! `witness` has the tables and the two choices; `write` writes its text, and `read` reads one, whose tables `fits` checks against the
+//! schema. `error` has the refusals. `laws` states that a text spells at most one witness, and that a written witness is read back.
+//! Whether a witness is true is decided elsewhere, in wd_refute.
 #![tactic(auto)]
 
 mod error;

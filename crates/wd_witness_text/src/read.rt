@@ -181,11 +181,10 @@ fn spelled(alloc: Global, bytes: &[u8]) -> Result<Witness, WitnessTextError>
     }
 }
 
-/// The witness that a text spells, over tables of the schema. Members may stand in any order, with
-/// white space between them, and the last of equal ones counts, as RFC 8259 leaves open; a number is
-/// whole, of 64 bits, and written in digits alone. Refused are, in this order, a text that is not
-/// JSON, JSON of another shape, and by the tables' names a table that the schema has not, more than
-/// 64 rows and a row of another length (all 601).
+/// The witness that a text spells, over tables of the schema. Members may appear in any order, with white space between them, and of
+/// equal names the last counts, which RFC 8259 leaves open; a number is whole, of 64 bits, and written only in digits. Refused by 601
+/// are, in this order, a text that is not JSON, JSON of another shape, and then, by the tables' names, a table that is not in the schema,
+/// more than 64 rows, and a row of another length.
 pub fn read_witness(
     alloc: Global,
     schema: &Schema,

@@ -1,4 +1,4 @@
-//! What a witness says: the rows of tables, and two choices of orderings over them.
+//! The contents of a witness: the rows of tables, and two choices of orderings over them.
 
 ghost use Rattle.std.specs.Prelude.{◌≡◌, map, IfOk};
 ghost use Rattle.wd_schema.specs.Schemas.{schema_of};
@@ -12,7 +12,7 @@ use wd_plan::Choice;
 use wd_schema::Schema;
 use wd_value::{Instance, OutOfMemory, Row, copy_row};
 
-/// Tables under which a plan has two answers: one under each choice.
+/// Tables over which a plan has two answers: one under each choice.
 #[derive(Drop)]
 pub struct Witness {
     /// The rows of tables by the tables' names. A table that is not named is empty.
@@ -22,8 +22,8 @@ pub struct Witness {
 }
 
 impl Witness {
-    /// The rows of the schema's tables, in order of declaration: those under a table's name, and none
-    /// for a table that the witness does not name.
+    /// The rows of the schema's tables, in order of declaration: those under a table's name, and no rows for a table that the witness
+    /// does not name.
     pub fn instance(&self, alloc: Global, schema: &Schema) -> Result<Instance, OutOfMemory>
         ensures { IfOk result (λ v. instance_of v.items ≡ instance_under (schema_of schema.now) (witness_of self.now)) }
     {
@@ -36,7 +36,7 @@ impl Witness {
     }
 }
 
-/// The rows under a name, none where no table has it.
+/// The rows under a name; empty where no table has it.
 fn rows_named<'a>(tables: &'a BTreeMap<String, Vec<Row>>, name: &str) -> &'a [Row]
     ensures { rows_of result.now ≡ spec.rows_named name.now (map table_rows tables.now.entries) }
 {

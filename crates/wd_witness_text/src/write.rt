@@ -93,8 +93,8 @@ fn json_of_witness(alloc: Global, witness: &Witness) -> Result<Json, OutOfMemory
 }
 
 impl Witness {
-    /// The witness's text: JSON without white space, members and tables in alphabetical order.
-    /// `read_witness` reads it back. Refused only where memory runs out.
+    /// The witness's text: JSON without white space, members and tables in alphabetical order. `read_witness` reads it back. An error
+    /// only where memory runs out.
     pub fn to_json(&self, alloc: Global) -> Result<Vec<u8>, OutOfMemory>
         ensures text { IfOk result (λ b. b.items ≡ witness_text (witness_of self.now)) }
         ensures spells { IfOk result (λ b. Spells (witness_of self.now) b.items) }

@@ -1,7 +1,7 @@
 //! The SQL that makes a schema file from a database.
 
-/// A query of PostgreSQL's catalog whose rows are the text of a schema: a `CREATE TABLE` that is read for each table that a name without
-/// a schema finds.
+/// A query of PostgreSQL's catalog whose rows are the text of a schema: a readable `CREATE TABLE` for each table that a name without a
+/// schema finds.
 pub const SCHEMA_OF_DATABASE: &str =
     "-- Prints the tables of a PostgreSQL database as wdcheck and wdreport read them, those that a name without a schema finds:
 --     psql -qAt -f <(wdreport schema) DATABASE > schema.sql

@@ -1,6 +1,6 @@
-//! What the words of the command line of `wdreport` ask for, and the texts that answer words alone.
+//! What the words on the command line of `wdreport` request, and the texts of its help and of `schema`.
 //!
-//! `request` says what is asked for, `words` reads the words and has the help, and `catalog` has the text of the command `schema`.
+//! `request` has the requests, `words` reads the words and has the help, and `catalog` has the text of the command `schema`.
 #![tactic(auto)]
 
 mod catalog;

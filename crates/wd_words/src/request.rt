@@ -1,6 +1,6 @@
-//! What is asked for.
+//! What a command line requests.
 
-/// Who reads what is found.
+/// Who reads the findings.
 #[derive(Clone, Copy, Debug, PartialEq, Eq)]
 pub enum Format {
     /// A person: blocks of lines.
@@ -12,7 +12,7 @@ pub enum Format {
 }
 
 impl Format {
-    /// The format of a word of the command line; that of a person for any other word.
+    /// The format of a word on the command line; that of a person for any other word.
     pub(crate) fn named(word: Option<&str>) -> Format {
         match word {
             Some("json") => Format::Json,
@@ -22,7 +22,7 @@ impl Format {
     }
 }
 
-/// When there are colours.
+/// Whether colours are used.
 #[derive(Clone, Copy, Debug, PartialEq, Eq)]
 pub enum Colour {
     /// Where a terminal shows the text.
@@ -32,7 +32,7 @@ pub enum Colour {
 }
 
 impl Colour {
-    /// That of a word of the command line; `auto` for any other word.
+    /// The colours of a word on the command line; `auto` for any other word.
     pub(crate) fn named(word: Option<&str>) -> Colour {
         match word {
             Some("always") => Colour::Always,
@@ -41,7 +41,7 @@ impl Colour {
         }
     }
 
-    /// Whether there are any on a stream.
+    /// Whether colours are used on a stream.
     pub fn is_on(self, is_terminal: bool) -> bool {
         match self {
             Colour::Always => true,
@@ -51,44 +51,44 @@ impl Colour {
     }
 }
 
-/// What is asked for.
+/// What is requested.
 #[derive(Drop)]
 pub enum Asked<'a> {
     /// The SQL that prints a database's schema.
     Catalog,
     /// A lock of the certificates of queries.
     Lock(FilesRequest<'a>),
-    /// The text over which queries are judged, of each schema.
+    /// The text over which queries are checked, of each schema.
     Respelled(FilesRequest<'a>),
     /// A report on queries.
     Report(Request<'a>),
 }
 
-/// Files of which something is asked for.
+/// Files, and the schema, of a request.
 #[derive(Drop)]
 pub struct FilesRequest<'a> {
-    /// The path of the schema, where one is given.
+    /// The path of the schema, if one is given.
     pub schema: Option<&'a str>,
     /// The paths of queries and of folders.
     pub paths: Vec<&'a str>,
 }
 
-/// A report that is asked for.
+/// A request for a report.
 #[derive(Drop)]
 pub struct Request<'a> {
-    /// The path of the schema, where one is given.
+    /// The path of the schema, if one is given.
     pub schema: Option<&'a str>,
-    /// Who reads what is found.
+    /// Who reads the findings.
     pub format: Format,
-    /// Whether statements that a key mends are written so.
+    /// Whether files are written with the keys that mend their statements.
     pub is_fix: bool,
     /// Whether queries that may tie pass.
     pub allows_unknown: bool,
-    /// The path of the page, where one is asked for.
+    /// The path of the page, if one is requested.
     pub html: Option<&'a str>,
-    /// The path of the baseline, where one is given.
+    /// The path of the baseline, if one is given.
     pub baseline: Option<&'a str>,
-    /// Whether it is written and not read.
+    /// Whether the baseline is written and not read.
     pub writes_baseline: bool,
     pub colour: Colour,
     /// The paths of queries and of folders.

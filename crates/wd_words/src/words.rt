@@ -1,10 +1,10 @@
-//! Reading the words of the command line.
+//! Reads the words of the command line.
 
 use crate::request::{Asked, Colour, FilesRequest, Format, Request};
 use clap::{Arg, ArgAction, ArgMatches, Command, Error};
 use std::alloc::{AllocError, Global};
 
-/// Reads the words after the program's own name. The error is help and version too, which have their text.
+/// Reads the words after the program's own name. Help and version, which have a text too, are returned as the error.
 pub fn read_words<'a>(alloc: Global, words: &'a [&'a str]) -> Result<Asked<'a>, Error> {
     let mut command = command_line(alloc)?;
     let matches = command.try_get_matches_from_mut(words)?;
@@ -33,7 +33,7 @@ fn paths_in<'a>(alloc: Global, matches: &ArgMatches<'a>) -> Result<Vec<&'a str>,
     Vec::from_slice(alloc, matches.get_strs("paths").unwrap_or(&[]))
 }
 
-/// The report that is asked for.
+/// The request for a report.
 fn request_in<'a>(alloc: Global, matches: &ArgMatches<'a>) -> Result<Request<'a>, AllocError> {
     Ok(Request {
         schema: matches.get_str("schema"),
@@ -48,7 +48,7 @@ fn request_in<'a>(alloc: Global, matches: &ArgMatches<'a>) -> Result<Request<'a>
     })
 }
 
-// What stands below the words in the program's help.
+// The text below the words in the program's help.
 const STATUSES: &str =
     "Each statement of each file is judged. A file's schema is FILE, or schema.sql beside it or in the nearest folder above it.
 
@@ -59,7 +59,7 @@ Exit status:
   3  a path, a schema, a baseline, a lock or a word of the command line is wrong, or a file can't be written
 With --fix it is that of the files as they are written.";
 
-// What stands below the words in the help of `lock`.
+// The text below the words in the help of `lock`.
 const LOCKS: &str =
     "The lock of latest.sql is latest.sql.cert. It has a line for each query of the file: its certificate, or null where none is found.
 wdreport PATH.. counts a query as deterministic where its certificate still holds, and tells which queries lost theirs.
@@ -71,7 +71,7 @@ Exit status:
 // The words of the formats.
 const FORMATS: [&str; 3] = ["text", "json", "github"];
 
-// When there are colours.
+// The words of the colours.
 const COLOURS: [&str; 3] = ["auto", "always", "never"];
 
 // The command line.

@@ -11,7 +11,7 @@ use std::process::ExitCode;
 use std::rt::Env;
 use wd_command::{Failure, MachineFiles, run_on};
 
-/// So many bytes of the stack are taken at the start: ordinary texts use a tenth, the deepest up to 2 MB.
+/// The bytes of the stack that are taken at the start: ordinary texts use a tenth of them, the deepest up to 2 MB.
 const STACK: usize = 3 << 19;
 
 fn main(rt: HostRuntime) -> ExitCode {
@@ -30,9 +30,9 @@ fn main(rt: HostRuntime) -> ExitCode {
     ))
 }
 
-// Fills a part of the stack with a byte, and gives the byte at a place. A stack that has grown stays so: one that would have to grow where
-// the limit of address space is met ends the program by a signal, not by a refusal. Place and byte are known only when the program runs, so
-// that no compiler does without the part.
+// Fills a part of the stack with a byte, and returns the byte at a place. A stack that has grown stays so, while one that had to grow at
+// the limit of the address space would end the program by a signal, not by a refusal. Place and byte are known only when the program
+// runs, so that no compiler removes the part.
 #[inline(never)]
 fn stack_taken(byte: u8, place: usize) -> u8
     requires { place < STACK }
