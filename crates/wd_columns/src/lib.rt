@@ -1,4 +1,9 @@
 //! Tables kept column by column, and rows moved out of a list.
+//!
+//! `Columns` is a table with a list of values for each column, which contracts see as the list of its rows; `growing` fills one row by
+//! row, `picking` gives the rows at some positions, `taking` makes a list of rows of it. `RowSource` reads rows however they are kept,
+//! so that what goes over rows is written once. Positions are picked by moving the values of each column; keeping them beside the
+//! columns instead would cost each later reader a look-up.
 #![tactic(auto)]
 
 mod columns;

@@ -93,7 +93,7 @@ fn produced_within(
 {
     let mut made = Vec::new(alloc);
     let chosen = Orderings::Chosen(&choice.orderings, most as u64);
-    let evaluated = evaluate(alloc, plan, instance, None, chosen, 0, &mut made, 0)?;
+    let evaluated = evaluate(alloc, plan, instance, None, chosen, 0, &mut made)?;
     if evaluated.next < choice.orderings.len() {
         return Err(EvalError::NotValid(evaluated.next as u64));
     }
@@ -149,7 +149,7 @@ fn turned_choice(
 {
     let mut orderings = Vec::new(alloc);
     let sorted = Orderings::Sorted(turned);
-    evaluate(alloc, plan, instance, None, sorted, 0, &mut orderings, 0)?;
+    evaluate(alloc, plan, instance, None, sorted, 0, &mut orderings)?;
     Ok(Choice { orderings })
 }
 
@@ -202,7 +202,7 @@ pub fn eval_turned(
 {
     let mut orderings = Vec::new(alloc);
     let sorted = Orderings::Sorted(turned);
-    let evaluated = evaluate(alloc, plan, instance, None, sorted, 0, &mut orderings, 0)?;
+    let evaluated = evaluate(alloc, plan, instance, None, sorted, 0, &mut orderings)?;
     let outcome = outcome_from(alloc, instance, evaluated.outcome, 0)?;
     let choice = Choice { orderings };
     Ok(TiedOutcome { choice, outcome })
@@ -239,7 +239,7 @@ pub fn run_columns(
     let others = rows_of_all(alloc, left)?;
     let mut orderings = Vec::new(alloc);
     let sorted = Orderings::Sorted(None);
-    let evaluated = evaluate(alloc, plan, &others, handed, sorted, 0, &mut orderings, 0)?;
+    let evaluated = evaluate(alloc, plan, &others, handed, sorted, 0, &mut orderings)?;
     let answer = answer_of(alloc, &others, evaluated.outcome)?;
     Ok(answer)
 }

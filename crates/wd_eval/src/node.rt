@@ -25,10 +25,9 @@ pub(crate) struct Evaluated {
 }
 
 /// The plan's outcome under the orderings from `first` on, which are those of its nodes in
-/// postorder. Those of a choice are judged, a node's before the number of its rows; sorted ones are
-/// put after those that were made before, of which there are `first`. The plan's first Scan takes the
-/// table that is handed over, where there is one; each other one reads the tables. Rows that a Map
-/// makes at the top have memory for `room` values more.
+/// postorder. Those of a choice are checked, a node's before the number of its rows; sorted ones are
+/// appended to those made before, of which there are `first`. The plan's first Scan takes the table
+/// that is moved in, where there is one; each other one reads the tables.
 pub(crate) fn evaluate(
     alloc: Global,
     plan: &Plan,
@@ -37,7 +36,6 @@ pub(crate) fn evaluate(
     orderings: Orderings,
     first: usize,
     made: &mut Vec<Vec<u64>>,
-    room: usize,
 ) -> Result<Evaluated, EvalError>
     requires at { IsAt orderings first made.old.items }
     requires bounded { most_of orderings ≤ most_rows }
@@ -59,8 +57,8 @@ pub(crate) fn evaluate(
             right,
             condition,
         } => {
-            let left = evaluate(alloc, left, tables, handed, orderings, first, made, 0)?;
-            let right = evaluate(alloc, right, tables, None, orderings, left.next, made, 0)?;
+            let left = evaluate(alloc, left, tables, handed, orderings, first, made)?;
+            let right = evaluate(alloc, right, tables, None, orderings, left.next, made)?;
             let outcome = joined(alloc, tables, condition, left.outcome, right.outcome, most)?;
             Ok(Evaluated {
                 outcome,
@@ -68,7 +66,7 @@ pub(crate) fn evaluate(
             })
         }
         Plan::Filter { input, condition } => {
-            let below = evaluate(alloc, input, tables, handed, orderings, first, made, 0)?;
+            let below = evaluate(alloc, input, tables, handed, orderings, first, made)?;
             let outcome = filtered(alloc, tables, condition, below.outcome)?;
             Ok(Evaluated {
                 outcome,
@@ -76,15 +74,15 @@ pub(crate) fn evaluate(
             })
         }
         Plan::Map { input, outputs } => {
-            let below = evaluate(alloc, input, tables, handed, orderings, first, made, 0)?;
-            let outcome = mapped(alloc, tables, outputs, below.outcome, room)?;
+            let below = evaluate(alloc, input, tables, handed, orderings, first, made)?;
+            let outcome = mapped(alloc, tables, outputs, below.outcome)?;
             Ok(Evaluated {
                 outcome,
                 next: below.next,
             })
         }
         Plan::Group { input, group } => {
-            let below = evaluate(alloc, input, tables, handed, orderings, first, made, 0)?;
+            let below = evaluate(alloc, input, tables, handed, orderings, first, made)?;
             let outcome = grouped(alloc, tables, group, below.outcome, most)?;
             Ok(Evaluated {
                 outcome: Produced::Made(outcome),
@@ -92,8 +90,7 @@ pub(crate) fn evaluate(
             })
         }
         Plan::Window { input, window } => {
-            let calls = window.calls.len();
-            let below = evaluate(alloc, input, tables, handed, orderings, first, made, calls)?;
+            let below = evaluate(alloc, input, tables, handed, orderings, first, made)?;
             let Evaluated { outcome, next } = below;
             let outcome = extended(alloc, tables, window, outcome, orderings, next, made)?;
             Ok(Evaluated {
@@ -102,7 +99,7 @@ pub(crate) fn evaluate(
             })
         }
         Plan::Distinct { input } => {
-            let below = evaluate(alloc, input, tables, handed, orderings, first, made, 0)?;
+            let below = evaluate(alloc, input, tables, handed, orderings, first, made)?;
             let outcome = distinct(alloc, tables, below.outcome)?;
             Ok(Evaluated {
                 outcome,
@@ -110,7 +107,7 @@ pub(crate) fn evaluate(
             })
         }
         Plan::Limit { input, limit } => {
-            let below = evaluate(alloc, input, tables, handed, orderings, first, made, 0)?;
+            let below = evaluate(alloc, input, tables, handed, orderings, first, made)?;
             let Evaluated { outcome, next } = below;
             let outcome = limited(alloc, tables, limit, outcome, orderings, next, made)?;
             Ok(Evaluated {

@@ -23,9 +23,7 @@ use wd_columns::{Columns, RowSource};
 use wd_group::group_rows;
 use wd_join::{Pair, StepError, equal_pairs, filter_pairs, join_rows, paired_columns};
 use wd_plan::{Expr, Group, Outcome};
-use wd_steps::{
-    distinct_positions, map_own_rows, map_rows_with_room, passing_positions, shown_columns,
-};
+use wd_steps::{distinct_positions, map_columns, map_own_rows, passing_positions, shown_columns};
 use wd_value::{OutOfMemory, Row};
 
 /// The table that is handed over, and else the one with this number, or the error that these are more
@@ -212,14 +210,12 @@ fn pairs_where(
     }
 }
 
-/// The values of the outputs over each row of the input. Where a new row is made, it has memory for
-/// so many values more.
+/// The values of the outputs over each row of the input.
 pub fn mapped(
     alloc: Global,
     instance: &[Vec<Row>],
     outputs: &[Expr],
     input: Produced,
-    room: usize,
 ) -> Result<Produced, OutOfMemory>
     ensures { IfOk result (λ o. produced_of (instance_of instance.now) o ≡ and_then (produced_of (instance_of instance.now) input) (spec.map_outcome (map expression_of outputs.now))) }
 {
@@ -228,15 +224,12 @@ pub fn mapped(
         Produced::Joined(left, right, pairs) => {
             mapped_pairs(alloc, instance, outputs, left, right, &pairs)
         }
-        other => {
-            let outcome = mapped_rows(alloc, instance, outputs, other, room)?;
-            Ok(Produced::Made(outcome))
-        }
+        other => mapped_rows(alloc, instance, outputs, other),
     }
 }
 
-/// The values of the outputs over rows that are kept column by column, which stay so where the outputs are columns, none of them
-/// twice.
+/// The values of the outputs over rows that are kept column by column, and stay so: the columns are moved where the outputs are
+/// columns, none of them twice.
 fn mapped_columns(
     alloc: Global,
     outputs: &[Expr],
@@ -249,11 +242,17 @@ fn mapped_columns(
             let columns = columns.selected(alloc, &selected)?;
             Ok(Produced::ByColumn(columns))
         }
-        None => {
-            let rows = columns.into_rows(alloc, 0)?;
-            let outcome = map_own_rows(alloc, outputs, rows)?;
-            Ok(Produced::Made(outcome))
-        }
+        None => mapped_source(alloc, outputs, &RowSource::of_columns(&columns)),
+    }
+}
+
+/// The values of the outputs over rows, column by column.
+fn mapped_source(alloc: Global, outputs: &[Expr], rows: &RowSource) -> Result<Produced, OutOfMemory>
+    ensures { IfOk result (λ o. (instance : Instance) → produced_of instance o ≡ spec.map_outcome (map expression_of outputs.now) rows.now) }
+{
+    match map_columns(alloc, outputs, rows)? {
+        Ok(columns) => Ok(Produced::ByColumn(columns)),
+        Err(fault) => Ok(Produced::Made(Outcome::Fault(fault))),
     }
 }
 
@@ -331,22 +330,25 @@ fn stands_before(numbers: &[u64], place: usize) -> bool
     false
 }
 
-/// The values of the outputs over each row of the input, as rows.
+/// The values of the outputs over each row of an input that is a table or was made row by row.
 fn mapped_rows(
     alloc: Global,
     instance: &[Vec<Row>],
     outputs: &[Expr],
     input: Produced,
-    room: usize,
-) -> Result<Outcome, OutOfMemory>
-    ensures { IfOk result (λ o. outcome_of o ≡ and_then (produced_of (instance_of instance.now) input) (spec.map_outcome (map expression_of outputs.now))) }
+) -> Result<Produced, OutOfMemory>
+    ensures { IfOk result (λ o. produced_of (instance_of instance.now) o ≡ and_then (produced_of (instance_of instance.now) input) (spec.map_outcome (map expression_of outputs.now))) }
 {
     match gathered(alloc, instance, input, 0)? {
         Given::Table(table) => {
-            map_rows_with_room(alloc, outputs, table_in(instance, table), room)
+            let rows = table_in(instance, table);
+            mapped_source(alloc, outputs, &RowSource::of_rows(rows))
         }
-        Given::Made(Outcome::Rows(rows)) => map_own_rows(alloc, outputs, rows),
-        Given::Made(Outcome::Fault(fault)) => Ok(Outcome::Fault(fault)),
+        Given::Made(Outcome::Rows(rows)) => {
+            let outcome = map_own_rows(alloc, outputs, rows)?;
+            Ok(Produced::Made(outcome))
+        }
+        Given::Made(Outcome::Fault(fault)) => Ok(Produced::Made(Outcome::Fault(fault))),
     }
 }
 
