@@ -25,6 +25,7 @@ from verify import program_of
 # The columns of each table with their types; a record has no NULL, which SQLite would read as an empty text.
 TABLES = {
     "t": "id BIGINT PRIMARY KEY, g TEXT NOT NULL, region BIGINT NOT NULL, day BIGINT NOT NULL, v BIGINT NOT NULL",
+    "s": "id BIGINT PRIMARY KEY, g TEXT NOT NULL, region BIGINT NOT NULL, day BIGINT NOT NULL, v BIGINT NOT NULL",
     "u": "id BIGINT PRIMARY KEY, w BIGINT NOT NULL",
     "r": "region BIGINT PRIMARY KEY, name TEXT NOT NULL",
     "w": "id BIGINT PRIMARY KEY, name TEXT NOT NULL",
@@ -66,12 +67,32 @@ TASKS = (
          "SELECT g, region, NULL AS day, COUNT(*) AS c, SUM(v) AS s FROM t GROUP BY g, region "
          "UNION ALL SELECT NULL, region, NULL, COUNT(*), SUM(v) FROM t GROUP BY region "
          "UNION ALL SELECT NULL, NULL, day, COUNT(*), SUM(v) FROM t GROUP BY day"),
+    Task("keys in order", "SELECT id FROM s ORDER BY id", "s", BOTH, "s[order(id), .(id)]"),
+    Task("ROW_NUMBER by partition, in order", "SELECT id, ROW_NUMBER() OVER (PARTITION BY g ORDER BY v, id) AS n FROM s ORDER BY id", "s", BOTH,
+         "setorder(s, g, v, id)[, n := seq_len(.N), by = g][order(id), .(id, n)]"),
+    Task("RANK, DENSE_RANK, LAG, in order",
+         "SELECT id, RANK() OVER (PARTITION BY g ORDER BY v) AS a, DENSE_RANK() OVER (PARTITION BY g ORDER BY v) AS b, "
+         "LAG(v) OVER (PARTITION BY g ORDER BY v, id) AS c FROM s ORDER BY id", "s", BOTH,
+         "setorder(s, g, v, id)[, `:=`(a = frank(v, ties.method = 'min'), b = frank(v, ties.method = 'dense'), c = shift(v)), by = g]"
+         "[order(id), .(id, a, b, c)]"),
+    Task("join with 100 regions, RANK, in order",
+         "SELECT s.id, r.name, RANK() OVER (PARTITION BY r.name ORDER BY s.v) AS n FROM s JOIN r ON s.region = r.region ORDER BY s.id", "sr", BOTH,
+         "s[r, on = 'region'][, n := frank(v, ties.method = 'min'), by = name][order(id), .(id, name, n)]"),
+    Task("half by a filter, ROW_NUMBER", "SELECT id, ROW_NUMBER() OVER (PARTITION BY g ORDER BY v, id) AS n FROM t WHERE region < 50", "t", BOTH,
+         "setorder(t[region < 50], g, v, id)[, n := seq_len(.N), by = g][, .(id, n)]"),
+    Task("join by key, LAG", "SELECT a.id, LAG(b.v) OVER (ORDER BY a.id) AS p FROM t a JOIN t b ON a.id = b.id", "t", BOTH,
+         "setorder(t[t, on = 'id', .(id, v = i.v)], id)[, .(id, p = shift(v))]"),
+    Task("DISTINCT of two columns", "SELECT DISTINCT g, region FROM t", "t", BOTH, "unique(t[, .(g, region)])"),
+    Task("100 rows after half a million", "SELECT id, v FROM t ORDER BY v, id OFFSET 500000 ROWS FETCH NEXT 100 ROWS ONLY", "t", (1_000_000,),
+         "t[order(v, id)][500001:500100, .(id, v)]", "SELECT id, v FROM t ORDER BY v, id LIMIT 100 OFFSET 500000"),
+    Task("expressions, then a window", "SELECT id, SUM(v * 2 + 1) OVER (PARTITION BY g ORDER BY id ROWS UNBOUNDED PRECEDING) AS n FROM t", "t", BOTH,
+         "setorder(t, g, id)[, n := cumsum(as.numeric(v) * 2 + 1), by = g][, .(id, n)]"),
     Task("COUNT(*) of n texts", "SELECT name, COUNT(*) AS n FROM w GROUP BY name", "w", BOTH, "w[, .(n = .N), by = name]"),
 )
 
 
 def write_tables(folder, records):
-    """Keys in rising order, as a table is mostly exported; texts that share a beginning; many values that tie."""
+    """Keys in rising order, as a table is mostly exported, but in `s` and `u`; texts that share a beginning; many values that tie."""
     draw = random.Random(1)
     with open(f"{folder}/t.csv", "w", encoding="ascii") as file:
         file.write("id,g,region,day,v\n")
@@ -79,6 +100,10 @@ def write_tables(folder, records):
             file.write("%d,customer %04d,%d,%d,%d\n" % (key, draw.randrange(GROUPS), draw.randrange(REGIONS), draw.randrange(3650), draw.randrange(100_000)))
     keys = list(range(records))
     draw.shuffle(keys)
+    with open(f"{folder}/s.csv", "w", encoding="ascii") as file:
+        file.write("id,g,region,day,v\n")
+        for key in keys:
+            file.write("%d,customer %04d,%d,%d,%d\n" % (key, draw.randrange(GROUPS), draw.randrange(REGIONS), draw.randrange(3650), draw.randrange(100_000)))
     with open(f"{folder}/u.csv", "w", encoding="ascii") as file:
         file.write("id,w\n" + "".join("%d,%d\n" % (key, draw.randrange(1000)) for key in keys))
     with open(f"{folder}/w.csv", "w", encoding="ascii") as file:
