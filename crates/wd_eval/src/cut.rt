@@ -82,7 +82,11 @@ fn is_lawful(
 {
     match input {
         Err(_) => Ok(ordering.is_empty()),
-        Ok(side) => is_ordering(alloc, &source(side, instance), &[], &limit.keys, ordering),
+        Ok(side) => {
+            let rows = source(side, instance);
+            let lawful = is_ordering(alloc, &rows, &[], &limit.keys, ordering)?;
+            Ok(lawful)
+        }
     }
 }
 

@@ -4,8 +4,8 @@ use Rattle.wd_nodes.specs.Produced.{side_of}
 use Rattle.wd_eval.proofs.Taking.{different, within}
 use Rattle.wd_eval.proofs.cut.cut_side.Goals as goal
 
-pub picked-requires-different : goal.picked-requires-different
-picked-requires-different c = different (length (side_of (instance_of c.args.instance.now) c.args.side)) c.args.ordering.now c.kept_positions-kept.result.now c.requires c.kept_positions-kept.ensures.part
+pub picked-requires-clause-different : goal.picked-requires-clause-different
+picked-requires-clause-different c = different (length (side_of (instance_of c.args.instance.now) c.args.side)) c.args.ordering.now c.kept_positions-kept.result.now c.requires c.kept_positions-kept.ensures.part
 
-pub picked-requires-within : goal.picked-requires-within
-picked-requires-within c = within (length (side_of (instance_of c.args.instance.now) c.args.side)) c.args.ordering.now c.kept_positions-kept.result.now c.requires c.kept_positions-kept.ensures.part
+pub picked-requires-clause-within : goal.picked-requires-clause-within
+picked-requires-clause-within c = within (length (side_of (instance_of c.args.instance.now) c.args.side)) c.args.ordering.now c.kept_positions-kept.result.now c.requires c.kept_positions-kept.ensures.part
