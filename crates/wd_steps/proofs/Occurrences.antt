@@ -1,20 +1,24 @@
 -- Rows that are the same stand side by side in the order of their values; first occurrences, one row on.
-use Rattle.std.proofs.Common.{◌≡◌, ◌≢◌, ◌∙◌, ℕ, zero, suc, ◌+◌, ◌-◌, ◌<◌, ◌≤◌, Bool, true, false, cond, not, ◌||◌, List, [], ◌∷◌, ◌++◌, filter, take, drop, get_or, length, refl, sym, ap, arith, add-one, inl, inr, Ordering, Less, Equal, Greater, min, Decides}
+use Rattle.std.specs.List.{range_with_len}
+use Rattle.std.proofs.Common.{All, map, ◌≡◌, ◌≢◌, ◌∙◌, ℕ, zero, suc, ◌+◌, ◌-◌, ◌<◌, ◌≤◌, Bool, true, false, cond, not, ◌||◌, List, [], ◌∷◌, ◌++◌, filter, take, drop, get_or, length, refl, sym, ap, arith, add-one, inl, inr, Ordering, Less, Equal, Greater, min, Decides, zero-add}
 use Rattle.std.specs.Prelude.{Contains, nat_eq, nat_lt}
 use Rattle.std.specs.List.{list_any}
 use Rattle.std.specs.Cmp.{IsStrictWeakOrder, IsTotalOrder, nat_cmp_is}
 use Rattle.std.specs.Ordering.{is_lt, is_eq, nat_cmp, ordering_reverse, ordering_then}
 use Rattle.std.proofs.lemmas.Bool.{cases_lt, eq-eqb, false≢true, ltb-false}
 use Rattle.std.proofs.lemmas.Cmp.{tied_itself, lists_total, nat_cmp_total, on_total, then_total}
-use Rattle.std.proofs.lemmas.List.{append-nil, get_or_default, map_push, take_all, take_more}
+use Rattle.std.proofs.lemmas.List.{append-nil, drop_all, drop_more, get_or_default, map_push, take_all, take_more}
 use Rattle.std.proofs.lemmas.List.FromFn.{get_or-range_with_len, length-range_with_len}
 use Rattle.std.proofs.lemmas.List.Elements.{filter-append}
-use Rattle.std.proofs.lemmas.List.Sorted.{Contains-permutation, sorted_far, sum_by-IsPermutation, ranks_by}
+use Rattle.std.proofs.lemmas.List.Sorted.{All-permutation, Contains-permutation, sorted_far, sum_by-IsPermutation, ranks_by}
 use Rattle.wd_value.proofs.OrderLaws.{compare-exact, compare_total}
 use Rattle.wd_value.proofs.Perms.{count_by-cons, count_by-yes}
 use Rattle.wd_value.proofs.SameLaws.{same_row-Decides}
 use Rattle.wd_value.specs.Bags.{positions, times}
+use Rattle.wd_value.specs.Keys.{compare_keys, ascending as ascending_column}
 use Rattle.wd_value.specs.Order.{compare}
+use Rattle.wd_value.specs.declared.value.Value.TheVariants.{Null}
+use Rattle.wd_sort.specs.Sorting.{IsSortOf}
 use Rattle.wd_value.specs.Rows.{Row, row_at, rows_at, same_row}
 use Rattle.wd_plan.proofs.Places.{times-range-le}
 use Rattle.wd_plan.specs.Outcomes.{distinct}
@@ -242,3 +246,27 @@ module _ {rows : List Row} {kept : List ℕ} {i : ℕ} (so_far : AreFirstTo rows
 
 pub first_all : (rows : List Row) (kept : List ℕ) (i : ℕ) → AreFirstTo rows kept i → length rows ≤ i → rows_at rows kept ≡ distinct rows
 first_all rows kept i so_far all = so_far.front ∙ ap distinct (take_all i rows all)
+
+-- ---- rows of one width, sorted by all of their columns
+
+same_from : (k n : ℕ) (a b : Row) → length a ≡ k + n → length b ≡ k + n → compare_keys (map ascending_column (range_with_len k n)) a b ≡ compare_rows (drop k a) (drop k b)
+same_from k zero a b wide other = rw (drop_all k a (omega arith), drop_all k b (omega arith)) refl
+same_from k (suc n) a b wide other =
+    rw (drop_more a k Null (omega arith), drop_more b k Null (omega arith))
+    (ap (ordering_then (compare ascending (get_or a k Null) (get_or b k Null))) (same_from (k + 1) n a b (omega arith) (omega arith)))
+
+pub row_sort : (rows : List Row) (width : ℕ) (order : List ℕ) → All (λ row. length row ≡ width) rows → IsSortOf (map ascending_column (positions width)) rows order → IsRowSort rows order
+row_sort rows width order wide s =
+    let below : All (λ p. p < length rows) order = All-permutation (λ p. p < length rows) (positions (length rows)) order s.each_once (λ k d low. (
+    let within : k < length rows = rw (length-range_with_len 0 (length rows)) at low in
+    rw (get_or-range_with_len 0 (length rows) k d within) (omega arith))) in
+    record {
+      each_once = s.each_once;
+      sorted = λ k d low next. (
+          let p = get_or order k d in
+          let q = get_or order (k + 1) d in
+          let first : p < length rows = below k d (omega arith) in
+          let second : q < length rows = below (k + 1) d next in
+          let same = same_from 0 width (row_at rows q) (row_at rows p) (wide q [] second ∙ sym (zero-add width)) (wide p [] first ∙ sym (zero-add width)) in
+          sym (ap (λ o. is_lt (ordering_then o (nat_cmp q p))) same) ∙ s.sorted k d low next);
+    }

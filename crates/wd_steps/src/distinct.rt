@@ -1,6 +1,9 @@
 //! First occurrences of rows.
 
-ghost use Rattle.std.specs.Prelude.{◌≡◌, IfOk, length};
+ghost use Rattle.std.specs.Prelude.{◌≡◌, ◌≤◌, IfOk, length, map};
+ghost use Rattle.wd_sort.specs.Sorting.{IsSortOf};
+ghost use Rattle.wd_value.specs.Bags.{positions};
+ghost use Rattle.wd_value.specs.Keys.{ascending};
 ghost use Rattle.wd_plan.specs.Outcomes.{distinct};
 ghost use Rattle.wd_steps.specs.Repeats as spec;
 ghost use Rattle.wd_steps.specs.Repeats.{AreMarked, AreRepeats, IsRowSort};
@@ -8,11 +11,17 @@ ghost use Rattle.wd_value.specs.Order as order;
 ghost use Rattle.wd_columns.specs.Moves.{AreDifferent, AreWithin};
 ghost use Rattle.wd_value.specs.Rows.{column_of, row_at, rows_at, rows_of};
 
+use crate::own::have_width;
 use std::alloc::Global;
 use std::cmp::Ordering;
 use wd_columns::{RowSource, moved_rows};
-use wd_sort::all_positions;
-use wd_value::{OutOfMemory, Row, SortKey, Value, compare};
+use wd_sort::{all_positions, sorted_in};
+use wd_value::{OutOfMemory, Row, SortColumn, SortKey, Value, compare};
+
+const ASCENDING: SortKey = SortKey {
+    desc: false,
+    nulls_first: false,
+};
 
 /// The first of rows that are not distinct, in the order of the rows.
 pub fn distinct_rows(alloc: Global, rows: Vec<Row>) -> Result<Vec<Row>, OutOfMemory>
@@ -71,6 +80,48 @@ fn marked_neighbours(
 fn sorted_rows(alloc: Global, rows: &RowSource) -> Result<Vec<u64>, OutOfMemory>
     ensures { IfOk result (λ v. IsRowSort rows.now v.items) }
 {
+    let width = rows.width(0);
+    if width <= 65536 && have_width(rows, width) {
+        let columns = ascending_columns(alloc, width)?;
+        let order = sorted_by_values(alloc, rows, &columns)?;
+        Ok(order)
+    } else {
+        sorted_by_rows(alloc, rows)
+    }
+}
+
+/// The positions of rows that have just these columns, sorted by all of them, which takes a column's values together.
+fn sorted_by_values(
+    alloc: Global,
+    rows: &RowSource,
+    columns: &[SortColumn],
+) -> Result<Vec<u64>, OutOfMemory>
+    ensures { IfOk result (λ v. IsSortOf columns.now rows.now v.items) }
+{
+    let all = all_positions(alloc, rows.len())?;
+    let order = sorted_in(alloc, rows, columns, &all)?;
+    Ok(order)
+}
+
+/// The first columns, each ascending.
+fn ascending_columns(alloc: Global, count: usize) -> Result<Vec<SortColumn>, OutOfMemory>
+    requires { count ≤ 65536 }
+    ensures { IfOk result (λ v. v.items ≡ map ascending (positions count)) }
+{
+    let mut columns = Vec::with_capacity(alloc, count)?;
+    for column in 0..count {
+        columns.push(SortColumn {
+            column: column as u16,
+            key: ASCENDING,
+        })?;
+    }
+    Ok(columns)
+}
+
+/// The positions of rows of any widths, compared row by row.
+fn sorted_by_rows(alloc: Global, rows: &RowSource) -> Result<Vec<u64>, OutOfMemory>
+    ensures { IfOk result (λ v. IsRowSort rows.now v.items) }
+{
     let mut order = all_positions(alloc, rows.len())?;
     order.sort_unstable_by(|p, q| compare_positions(rows, *p, *q));
     Ok(order)
@@ -111,11 +162,7 @@ fn compare_column(rows: &RowSource, column: usize, p: u64, q: u64) -> Ordering
 fn compare_values(a: &Value, b: &Value) -> Ordering
     ensures { result ≡ order.compare spec.ascending a.now b.now }
 {
-    let key = SortKey {
-        desc: false,
-        nulls_first: false,
-    };
-    compare(a, b, key)
+    compare(a, b, ASCENDING)
 }
 
 fn are_same(rows: &RowSource, p: u64, q: u64) -> bool

@@ -10,6 +10,7 @@ ghost use Rattle.wd_value.specs.Rows.{row_at, rows_of};
 
 use crate::map::map_rows;
 use std::alloc::Global;
+use wd_columns::RowSource;
 use wd_plan::{Expr, Outcome};
 use wd_sort::all_positions;
 use wd_value::{OutOfMemory, Row};
@@ -20,7 +21,7 @@ pub fn map_own_rows(alloc: Global, outputs: &[Expr], rows: Vec<Row>) -> Result<O
     ensures { IfOk result (λ o. outcome_of o ≡ spec.map_outcome (map expression_of outputs.now) (rows_of rows.items)) }
 {
     let width = first_width(&rows);
-    if !have_width(&rows, width) {
+    if !have_width(&RowSource::of_rows(&rows), width) {
         return map_rows(alloc, outputs, &rows);
     }
     match selection_of(alloc, outputs, width)? {
@@ -37,12 +38,12 @@ fn first_width(rows: &[Row]) -> usize {
     }
 }
 
-/// Whether each row has so many values.
-fn have_width(rows: &[Row], width: usize) -> bool
-    ensures { result ≡ true → All (λ row. length row ≡ width) (rows_of rows.now) }
+/// Whether each row has this number of values.
+pub(crate) fn have_width(rows: &RowSource, width: usize) -> bool
+    ensures { result ≡ true → All (λ row. length row ≡ width) rows.now }
 {
-    for row in rows {
-        if row.len() != width {
+    for position in 0..rows.len() {
+        if rows.width(position as u64) != width {
             return false;
         }
     }

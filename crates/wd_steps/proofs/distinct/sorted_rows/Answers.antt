@@ -1,15 +1,14 @@
-use Rattle.std.proofs.Common.{◌≡◌, ap, rules}
-use Rattle.std.proofs.lemmas.Fn.{always_returns_same}
-use Rattle.std.specs.Ordering.{is_lt}
-use Rattle.wd_steps.specs.Repeats.{compare_positions}
-use Rattle.wd_steps.proofs.Occurrences.{positions_order}
+use Rattle.std.proofs.Common.{◌≡◌, ◌∙◌, map, subst}
+use Rattle.wd_value.specs.Bags.{positions}
+use Rattle.wd_value.specs.Keys.{ascending}
+use Rattle.wd_sort.specs.Sorting.{IsSortOf}
+use Rattle.wd_steps.proofs.Occurrences.{row_sort}
 use Rattle.wd_steps.proofs.distinct.sorted_rows.Goals as goal
 
-pub returns : goal.returns
-returns c =
+pub returns-in_ok-order : goal.returns-in_ok-order
+returns-in_ok-order c =
     let rows = c.args.rows.now in
-    let compares = always_returns_same _ _ _ (λ a r f h. let e : r ≡ compare_positions rows a.0.now a.1.0.now = search rules in (ap is_lt e, search rules)) in
-    record {
-      each_once = rw (← c.len.ensures, ← c.in_ok-order.ensures) c.sort_unstable_by.ensures.permutation;
-      sorted = c.sort_unstable_by.ensures.sorted (λ p q. is_lt (compare_positions rows p q)) (positions_order rows) compares;
-    }
+    let width = c.width-width.result in
+    let order = c.in_ok-order.order.items in
+    let columns : c.deref.result.now ≡ map ascending (positions width) = c.deref.ensures.value ∙ c.in_ok-columns.ensures in
+    row_sort rows width order (c.have_width.ensures c.if-have_width.true) (subst (λ cs. IsSortOf cs rows order) columns c.in_ok-order.ensures)

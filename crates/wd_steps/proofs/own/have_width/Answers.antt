@@ -1,27 +1,16 @@
-use Rattle.std.proofs.Common.{◌≡◌, ◌<◌, ◌≤◌, [], ◌∷◌, length, take, sym, subst, arith}
-use Rattle.std.specs.Prelude.{All}
-use Rattle.std.specs.declared.alloc.Global.{Global}
-use Rattle.std.specs.declared.vec.Vec.{Vec}
-use Rattle.std.proofs.lemmas.List.{take_all}
-use Rattle.std.proofs.lemmas.List.Elements.{All-append}
-use Rattle.wd_value.specs.declared.value.Value.{Value}
-use Rattle.wd_value.specs.Rows.{Row, rows_of}
-use Rattle.wd_steps.proofs.Results.{map_more}
-use Rattle.wd_steps.proofs.Selecting.{All-one}
+use Rattle.std.proofs.Common.{◌≡◌, ℕ, ◌∙◌, [], ap, length, sym, arith, below_more}
+use Rattle.std.proofs.lemmas.List.{get_or_default}
+use Rattle.wd_value.specs.Rows.{row_at}
 use Rattle.wd_steps.proofs.own.have_width.Goals as goal
 
-pub loop-row-preserved : goal.loop-row-preserved
-loop-row-preserved c =
+pub loop-position-preserved : goal.loop-position-preserved
+loop-position-preserved c p low =
     let rows = c.args.rows.now in
-    let i = c.loop-row.row-index in
-    let low : i < length rows = omega arith in
-    let has = λ (row : Row). length row ≡ c.args.width in
-    let more = map_more (λ (r : Vec Value Global). r.items) rows i c.row-item.result low c.row-item.is in
-    let long : length c.row-item.result.items ≡ c.args.width = omega arith in
-    subst (All has) (sym more) (All-append has (rows_of (take i rows)) (c.row-item.result.items ∷ []) c.loop-row.invariant (All-one has c.row-item.result.items long))
+    let has = λ (q : ℕ). length (row_at rows q) ≡ c.args.width in
+    let here : has c.loop-position.position = sym c.width.ensures ∙ c.if-width.false in
+    below_more has c.loop-position.position c.loop-position.invariant here p low
 
 pub returns : goal.returns
 returns c =
     let rows = c.args.rows.now in
-    let end : length rows ≤ c.loop-row.row-index = omega arith in
-    λ yes. subst (λ l. All (λ row. length row ≡ c.args.width) (rows_of l)) (take_all c.loop-row.row-index rows end) c.loop-row.invariant
+    λ yes k d low. ap length (get_or_default rows k d [] low) ∙ c.loop-position.invariant k (omega arith)

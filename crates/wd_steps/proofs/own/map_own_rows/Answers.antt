@@ -1,4 +1,4 @@
-use Rattle.std.proofs.Common.{◌≡◌, ◌∙◌, Ok, ap, length, map, subst, rules}
+use Rattle.std.proofs.Common.{◌≡◌, ◌∙◌, Ok, ap, length, map, rules}
 use Rattle.std.specs.Prelude.{All}
 use Rattle.wd_value.specs.Rows.{rows_of}
 use Rattle.wd_plan.specs.Expressions.{expression_of}
@@ -12,7 +12,6 @@ returns-in-Some c =
     let width = c.first_width-width.result in
     let selection = c.in-Some.selection in
     let outputs = map expression_of c.args.outputs.now in
-    let shown : c.deref-2.result.now ≡ c.args.rows.items = search rules in
-    let widths : All (λ row. length row ≡ width) rows = subst (λ l. All (λ row. length row ≡ width) (rows_of l)) shown (c.have_width.ensures c.if-not-have_width.false) in
+    let widths : All (λ row. length row ≡ width) rows = search rules in
     let selects : Selects outputs width selection.exchanges.items selection.count = search rules in
     ap Ok c.select_all.ensures ∙ selected_rows outputs width selection.exchanges.items selection.count selects rows widths

@@ -1,0 +1,11 @@
+use Rattle.std.proofs.Common.{◌∙◌, ◌∷◌, ◌++◌, [], ap, map, sym}
+use Rattle.std.proofs.lemmas.List.{map_push}
+use Rattle.wd_value.specs.Bags.{positions}
+use Rattle.wd_value.specs.Keys.{ascending}
+use Rattle.wd_sort.proofs.Positions.{positions_push}
+use Rattle.wd_steps.proofs.distinct.ascending_columns.Goals as goal
+
+pub loop-column-preserved : goal.loop-column-preserved
+loop-column-preserved c =
+    let n = c.loop-column.column in
+    c.in_ok-push.ensures.items ∙ ap (λ l. l ++ ascending n ∷ []) c.loop-column.invariant ∙ sym (ap (map ascending) (positions_push n) ∙ map_push ascending (positions n) n)
