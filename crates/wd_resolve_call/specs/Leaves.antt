@@ -39,7 +39,6 @@ operands_of xs = map operand_of xs.items
 abbrev pub arm_of : CaseArm Code → Operand SelectLeaf × Operand SelectLeaf
 arm_of arm = operands.arm_of leaf_of arm
 
-
 -- equal leaves
 abbrev pub same_leaf : SelectLeaf → SelectLeaf → Bool
 same_leaf (of_row l) (of_row m) = same_row_leaf l m
