@@ -35,11 +35,11 @@ get_there f [] i y e = cc
 get_there f (x ∷ ys) zero y e = let g : x ≡ y = cc in ap (λ t. Some (f t)) g
 get_there f (x ∷ ys) (suc i) y e = get_there f ys i y e
 
-get_behind : {X Y : Type 0} (f : X → Y) (front ys : List X) (i : ℕ) (y : X) → slice_get ys i ≡ Some y → slice_get (map f (front ++ ys)) (length front + i) ≡ Some (f y)
-get_behind f [] ys i y e = let s : 0 + i ≡ i = omega arith in ap (slice_get (map f ys)) s ∙ get_there f ys i y e
-get_behind f (x ∷ front) ys i y e =
+get_after : {X Y : Type 0} (f : X → Y) (front ys : List X) (i : ℕ) (y : X) → slice_get ys i ≡ Some y → slice_get (map f (front ++ ys)) (length front + i) ≡ Some (f y)
+get_after f [] ys i y e = let s : 0 + i ≡ i = omega arith in ap (slice_get (map f ys)) s ∙ get_there f ys i y e
+get_after f (x ∷ front) ys i y e =
     let s : suc (length front) + i ≡ suc (length front + i) = omega arith in
-    ap (slice_get (map f (x ∷ (front ++ ys)))) s ∙ get_behind f front ys i y e
+    ap (slice_get (map f (x ∷ (front ++ ys)))) s ∙ get_after f front ys i y e
 
 are_closings : (facts : FactList) (width : ℕ) (cs : List Closing) → AllByRecursion (IsClaim facts width) cs → AllByRecursion (IsClosing facts) cs
 are_closings facts width [] a = tt
@@ -69,7 +69,7 @@ module _ (node : ℕ) (facts : FactList) (w : WindowRule) (input : PlanTree) (ke
   pub window_entry : (all_by decided ≡ true) → entry_refusal node facts (Window w input) (entry_by (width (Window w input)) kept classes (rules_in decided) None) ≡ None
   window_entry e =
       entry_passes node facts (Window w input) kept classes (rules_in decided) None claims closings
-      (window_passes node facts (width input) (map (shown node facts) (kept ++ classes)) w classes (length kept) closings froms (λ i c f. get_behind (shown node facts) kept classes i c f) e)
+      (window_passes node facts (width input) (map (shown node facts) (kept ++ classes)) w classes (length kept) closings froms (λ i c f. get_after (shown node facts) kept classes i c f) e)
 
 pub decided_long : (classes : List Closing) (first columns : ℕ) (exchange : Option ℕ) (calls : List Call) → length (decided_calls classes first columns exchange calls) ≡ length calls
 decided_long classes first columns exchange [] = refl
@@ -93,7 +93,7 @@ module _ (node : ℕ) (facts : FactList) (limit : LimitRule) (input : PlanTree) 
   keys_entry c is from e =
       let all = map (shown node facts) (kept ++ c ∷ []) in
       let number : length kept + 0 ≡ length kept = omega arith in
-      let there : slice_get all (length kept) ≡ Some (shown node facts c) = ap (slice_get all) (sym number) ∙ get_behind (shown node facts) kept (c ∷ []) 0 c refl in
+      let there : slice_get all (length kept) ≡ Some (shown node facts c) = ap (slice_get all) (sym number) ∙ get_after (shown node facts) kept (c ∷ []) 0 c refl in
       let test : shows facts (is_in (order_columns (limit_class limit))) (columns_named (all_columns (width input))) (shown node facts c) ≡ true =
       subst (λ X. shows facts (is_in X) (columns_named (all_columns (width input))) (shown node facts c) ≡ true) from
       (λ i. all_among c.from i && each_reached node facts c is (columns_named (all_columns (width input))) (none_missing c.has (all_columns (width input)) e) i) in

@@ -25,7 +25,7 @@ use Rattle.wd_analyse.specs.Sources.{AreClosings, starts}
 use Rattle.wd_analyse.proofs.Valid.{AreClaims, IsFound}
 use Rattle.wd_analyse.specs.declared.analysis.Reason.{Reason}
 use Rattle.wd_analyse.proofs.Entries.{entry_keeps, entry_passes, keys_entry, rules_long, whole_entry, window_entry}
-use Rattle.wd_analyse.proofs.Said.{none_before, none_behind, none_lacks}
+use Rattle.wd_analyse.proofs.Said.{none_before, none_after, none_lacks}
 
 -- ---- columns of classes and of keys
 
@@ -83,7 +83,7 @@ module _ (facts : FactList) (node : ℕ) (claims : List Closing) (entry : NodeRe
           let decided = decided_calls classes (length claims) (width input) None w.calls in
           let reasons = reasons_of node 0 decided in
           let both : before ++ reasons ≡ [] = sym said ∙ e in
-          let all = none_lacks node 0 decided (none_behind before reasons both) in (
+          let all = none_lacks node 0 decided (none_after before reasons both) in (
             none_before before reasons both,
             ap (entry_refusal node facts (Window w input)) is ∙ window_entry node facts w input claims classes c.claims closings from all,
             ap (has_its_limit (Window w input)) is,
@@ -130,7 +130,7 @@ module _ (facts : FactList) (node : ℕ) (claims : List Closing) (entry : NodeRe
   pub open_found : (plan : PlanTree) (reason : Reason) → after ≡ before ++ reason ∷ [] → entry ≡ entry_by (width plan) claims [] [] None → IsFound facts plan node claims entry before after
   open_found plan reason said is = record {
     keeps = ap kept_facts is ∙ entry_keeps facts (width plan) claims [] [] None;
-    settled = λ e. let none : reason ∷ [] ≡ [] = none_behind before (reason ∷ []) (sym said ∙ e) in cc;
+    settled = λ e. let none : reason ∷ [] ≡ [] = none_after before (reason ∷ []) (sym said ∙ e) in cc;
   }
 
   plain_passes : (plan : PlanTree) → is_without_rules plan ≡ true → AreClaims facts (width plan) claims → (entry_refusal node facts plan (entry_by (width plan) claims [] [] None) ≡ None) × (has_its_limit plan (entry_by (width plan) claims [] [] None) ≡ true) × (has_its_calls plan (entry_by (width plan) claims [] [] None) ≡ true)

@@ -15,13 +15,13 @@ use Rattle.wd_analyse.specs.Steps.{left_sides_by, output_by, outputs_by}
 abbrev pub behind : List ℕ → Option (List ℕ) → Option (List ℕ)
 behind front rest = option_map (λ Y. front ++ Y) rest
 
-behind_both : (front : List ℕ) (d : ℕ) (rest : Option (List ℕ)) → behind (front ++ (d ∷ [])) rest ≡ behind front (both_copied (Some d) rest)
-behind_both front d None = refl
-behind_both front d (Some Y) = ap Some (append_assoc front (d ∷ []) Y)
+after_both : (front : List ℕ) (d : ℕ) (rest : Option (List ℕ)) → behind (front ++ (d ∷ [])) rest ≡ behind front (both_copied (Some d) rest)
+after_both front d None = refl
+after_both front d (Some Y) = ap Some (append_assoc front (d ∷ []) Y)
 
 module _ (copy : ℕ → Option ℕ) (width : ℕ) (front X : List ℕ) (c : ℕ) where
   pub outputs_next : (d : ℕ) → output_by copy width c ≡ Some d → behind (front ++ (d ∷ [])) (outputs_by copy width X) ≡ behind front (outputs_by copy width (c ∷ X))
-  outputs_next d e = behind_both front d (outputs_by copy width X) ∙ ap (λ o. behind front (both_copied o (outputs_by copy width X))) (sym e)
+  outputs_next d e = after_both front d (outputs_by copy width X) ∙ ap (λ o. behind front (both_copied o (outputs_by copy width X))) (sym e)
 
   pub outputs_stop : output_by copy width c ≡ None → None ≡ behind front (outputs_by copy width (c ∷ X))
   outputs_stop e = ap (λ o. behind front (both_copied o (outputs_by copy width X))) (sym e)

@@ -17,9 +17,9 @@ pub none_before : {X : Type 0} (xs ys : List X) → xs ++ ys ≡ [] → xs ≡ [
 none_before [] ys e = refl
 none_before (x ∷ xs) ys e = cc
 
-pub none_behind : {X : Type 0} (xs ys : List X) → xs ++ ys ≡ [] → ys ≡ []
-none_behind [] ys e = e
-none_behind (x ∷ xs) ys e = cc
+pub none_after : {X : Type 0} (xs ys : List X) → xs ++ ys ≡ [] → ys ≡ []
+none_after [] ys e = e
+none_after (x ∷ xs) ys e = cc
 
 pub none_lacks : (node call : ℕ) (ds : List Decided) → reasons_of node call ds ≡ [] → all_by ds ≡ true
 none_lacks node call [] e = refl

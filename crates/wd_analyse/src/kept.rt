@@ -99,7 +99,7 @@ fn targets(alloc: Global, members: &[Member]) -> Result<Vec<Target>, OutOfMemory
 }
 
 /// What a node keeps of what columns determine, shown by the trace with this number.
-fn kept(alloc: Global, claim: &Closed, width: u16, trace: u64) -> Result<Kept, OutOfMemory>
+fn kept_record(alloc: Global, claim: &Closed, width: u16, trace: u64) -> Result<Kept, OutOfMemory>
     ensures { IfOk result (λ k. kept_of k ≡ record { to = map spec.target_of (spec.kept_members width (closing_of claim.now)); trace = trace }) }
 {
     let members = kept_members(alloc, claim, width)?;
@@ -113,13 +113,13 @@ pub(crate) fn keep(alloc: Global, claims: &[Closed], width: u16) -> Result<Vec<K
 {
     let mut list = Vec::with_capacity(alloc, claims.len())?;
     for claim in claims {
-        let one = kept(alloc, claim, width, list.len() as u64)?;
+        let one = kept_record(alloc, claim, width, list.len() as u64)?;
         list.push(one)?;
     }
     Ok(list)
 }
 
-fn named(alloc: Global, columns: &[u16]) -> Result<Vec<Member>, OutOfMemory>
+fn columns_as_members(alloc: Global, columns: &[u16]) -> Result<Vec<Member>, OutOfMemory>
     ensures { IfOk result (λ v. v.items ≡ columns_named columns.now) }
 {
     let mut list = Vec::with_capacity(alloc, columns.len())?;
@@ -134,7 +134,7 @@ fn kept_fact(alloc: Global, claim: &Closed, width: u16) -> Result<Given, OutOfMe
     ensures { IfOk result (λ g. fact_of g ≡ spec.kept_fact width (closing_of claim.now)) }
 {
     let from = once(alloc, &claim.from)?;
-    let from = named(alloc, &from)?;
+    let from = columns_as_members(alloc, &from)?;
     let to = kept_members(alloc, claim, width)?;
     Ok(Given { from, to })
 }

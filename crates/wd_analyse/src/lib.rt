@@ -2,7 +2,7 @@
 //!
 //! `nodes` goes over the plan in postorder. At each node wd_facts says which facts are given; `sources` lists the columns to try,
 //! `tried` passes over those tried before, `closed` closes each under the facts (wd_close), and `search` keeps those that determine
-//! something new (`kept`), at most 64. `entry` writes the node's entry, by the rules that `decided` picks. Not every set of columns is
+//! something new (`kept_record`), at most 64. `entry` writes the node's entry, by the rules that `decided` picks. Not every set of columns is
 //! tried: only left sides of given facts, the empty set, and at a Join the unions of left sides that its inputs keep.
 #![tactic(auto)]
 

@@ -99,7 +99,7 @@ fn site_words(
     let mut words = String::new(alloc);
     match site {
         Some(site) => {
-            let span = moved(site.span, statement.start);
+            let span = shift_span(site.span, statement.start);
             add_place(&mut words, statement.path, statement.text, span)?;
         }
         None => {
@@ -124,7 +124,7 @@ fn details(
     let place = finding.places[number];
     let mut lines = String::new(alloc);
     if let Some(site) = place.site {
-        let span = moved(site.span, statement.start);
+        let span = shift_span(site.span, statement.start);
         add_excerpt(&mut lines, statement.text, span)?;
     }
     if let Kind::MayTie = kind_of(finding) {
@@ -147,7 +147,7 @@ fn details(
 }
 
 /// Bytes of a statement as bytes of its file.
-fn moved(span: Span, start: u64) -> Span
+fn shift_span(span: Span, start: u64) -> Span
     ensures { result.start ≡ min (span.start + start) (2 ^ 64 - 1) }
 {
     Span {

@@ -14,9 +14,9 @@ use Rattle.wd_plan.specs.declared.function.Aggregate.TheVariants.{CountRows, Cou
 use Rattle.wd_plan.specs.Calls.{first_by, sum_of, total}
 use Rattle.wd_plan.specs.Expressions.{fits_64, in_64, is_null}
 use Rattle.wd_frame.specs.declared.answer.Answer.{Answer}
-use Rattle.wd_frame.specs.declared.extent.Stretch.{Stretch}
+use Rattle.wd_frame.specs.declared.extent.IndexRange.{IndexRange}
 use Rattle.wd_frame.specs.Slides.{Nothing, Number, Plain, answer_of, ascending, count_over, descending, first_over, present, seen, shown, sum_over}
-use Rattle.wd_frame.specs.Stretches.{AreAnswers, AreLists, picked, places_along}
+use Rattle.wd_frame.specs.IndexRanges.{AreAnswers, AreLists, picked, places_along}
 use Rattle.wd_calls.specs.Answers.{AreAnswersOf, AreCounts, addend, value_of}
 use Rattle.wd_calls.specs.Values.{first_values, value_in, values_at}
 use Rattle.wd_calls.proofs.Columns.{any_present, flat, numbers-addends, picked-addends, picked-first, total-addends}
@@ -54,7 +54,7 @@ sum-is vs = ap (λ n. value_of (sum_from n (total (map addend vs)))) (numbers-ad
 
 -- ---- over a column
 
-module _ (partition : List Row) (count : ℕ) (lists : List (List Stretch)) (answers : List Answer) (c : ℕ) where
+module _ (partition : List Row) (count : ℕ) (lists : List (List IndexRange)) (answers : List Answer) (c : ℕ) where
   abbrev over : ℕ → List Value
   over p = picked (first_values partition c count) (places_along lists p)
 
@@ -95,10 +95,10 @@ module _ (partition : List Row) (count : ℕ) (lists : List (List Stretch)) (ans
 column_long : (partition : List Row) (c count : ℕ) (refs : List (Bor Value)) → seen refs ≡ first_values partition c count → length refs ≡ count
 column_long partition c count refs e = sym (length-map refs (λ (r : Bor Value). r.now)) ∙ ap length e ∙ length-map-range_with_len (value_in partition c) 0 count
 
-pub column_lists : (partition : List Row) (c count : ℕ) (refs : List (Bor Value)) (lists : List (List Stretch)) → seen refs ≡ first_values partition c count → AreLists count lists → AreLists (length refs) lists
+pub column_lists : (partition : List Row) (c count : ℕ) (refs : List (Bor Value)) (lists : List (List IndexRange)) → seen refs ≡ first_values partition c count → AreLists count lists → AreLists (length refs) lists
 column_lists partition c count refs lists e are = subst (λ n. AreLists n lists) (sym (column_long partition c count refs e)) are
 
-pub column_answers : (plain : List Value → Plain) (partition : List Row) (c count : ℕ) (refs : List (Bor Value)) (lists : List (List Stretch)) (answers : List Answer) → seen refs ≡ first_values partition c count
+pub column_answers : (plain : List Value → Plain) (partition : List Row) (c count : ℕ) (refs : List (Bor Value)) (lists : List (List IndexRange)) (answers : List Answer) → seen refs ≡ first_values partition c count
     → AreAnswers plain (λ p. picked (seen refs) (places_along lists p)) (length refs) answers → AreAnswers plain (λ p. picked (first_values partition c count) (places_along lists p)) count answers
 column_answers plain partition c count refs lists answers e are =
     subst (λ vs. AreAnswers plain (λ p. picked vs (places_along lists p)) count answers) e
@@ -108,10 +108,10 @@ addends_long : (partition : List Row) (c count : ℕ) (refs adds : List (Bor Val
 addends_long partition c count refs adds e f =
     sym (length-map adds (λ (r : Bor Value). r.now)) ∙ ap length f ∙ length-map (seen refs) addend ∙ length-map refs (λ (r : Bor Value). r.now) ∙ column_long partition c count refs e
 
-pub addend_lists : (partition : List Row) (c count : ℕ) (refs adds : List (Bor Value)) (lists : List (List Stretch)) → seen refs ≡ first_values partition c count → seen adds ≡ map addend (seen refs) → AreLists count lists → AreLists (length adds) lists
+pub addend_lists : (partition : List Row) (c count : ℕ) (refs adds : List (Bor Value)) (lists : List (List IndexRange)) → seen refs ≡ first_values partition c count → seen adds ≡ map addend (seen refs) → AreLists count lists → AreLists (length adds) lists
 addend_lists partition c count refs adds lists e f are = subst (λ n. AreLists n lists) (sym (addends_long partition c count refs adds e f)) are
 
-pub addend_answers : (partition : List Row) (c count : ℕ) (refs adds : List (Bor Value)) (lists : List (List Stretch)) (answers : List Answer) → seen refs ≡ first_values partition c count → seen adds ≡ map addend (seen refs)
+pub addend_answers : (partition : List Row) (c count : ℕ) (refs adds : List (Bor Value)) (lists : List (List IndexRange)) (answers : List Answer) → seen refs ≡ first_values partition c count → seen adds ≡ map addend (seen refs)
     → AreAnswers sum_over (λ p. picked (seen adds) (places_along lists p)) (length adds) answers → AreAnswers sum_over (λ p. picked (map addend (first_values partition c count)) (places_along lists p)) count answers
 addend_answers partition c count refs adds lists answers e f are =
     subst (λ vs. AreAnswers sum_over (λ p. picked vs (places_along lists p)) count answers) (f ∙ ap (map addend) e)
@@ -119,7 +119,7 @@ addend_answers partition c count refs adds lists answers e f are =
 
 -- ---- counts of rows
 
-pub row_answers : (partition : List Row) (count : ℕ) (lists : List (List Stretch)) (answers : List Answer) → AreCounts count lists answers → AreAnswersOf CountRows partition count lists answers
+pub row_answers : (partition : List Row) (count : ℕ) (lists : List (List IndexRange)) (answers : List Answer) → AreCounts count lists answers → AreAnswersOf CountRows partition count lists answers
 row_answers partition count lists answers are = record {
   long = are.long;
   each = λ all p other l few.
@@ -128,6 +128,6 @@ row_answers partition count lists answers are = record {
 }
 
 -- of the first places, and of one more
-pub record AreCountsUpTo (lists : List (List Stretch)) (n : ℕ) (answers : List Answer) : Type 0 where
+pub record AreCountsUpTo (lists : List (List IndexRange)) (n : ℕ) (answers : List Answer) : Type 0 where
   pub long : length answers ≡ n
   pub each : (p : ℕ) (other : Answer) → p < n → shown (get_or answers p other) ≡ Number (pos (min (length (places_along lists p)) (2 ^ 64 - 1)))

@@ -17,7 +17,7 @@ use Rattle.wd_plan.specs.Expressions.{is_null}
 use Rattle.wd_plan.specs.Partitions.{GroupsRise, group_of}
 use Rattle.wd_plan.specs.Plans.{ClassRule}
 use Rattle.wd_frame.specs.Slides.{is_number, numbers, present}
-use Rattle.wd_frame.specs.Stretches.{picked}
+use Rattle.wd_frame.specs.IndexRanges.{picked}
 use Rattle.wd_calls.specs.Answers.{addend}
 use Rattle.wd_calls.specs.Values.{first_values, value_in, values_at}
 

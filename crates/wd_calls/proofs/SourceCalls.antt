@@ -23,9 +23,9 @@ use Rattle.wd_plan.specs.Calls.{call_value, frame_value, taken}
 use Rattle.wd_plan.specs.Partitions.{group_of}
 use Rattle.wd_plan.specs.Plans.{ClassRule}
 use Rattle.wd_frame.specs.declared.answer.Answer.{Answer}
-use Rattle.wd_frame.specs.declared.extent.Stretch.{Stretch}
+use Rattle.wd_frame.specs.declared.extent.IndexRange.{IndexRange}
 use Rattle.wd_frame.specs.Places.{PartRule, is_member, places_of}
-use Rattle.wd_frame.specs.Stretches.{AreFrames, places_along}
+use Rattle.wd_frame.specs.IndexRanges.{AreFrames, places_along}
 use Rattle.wd_calls.specs.Answers.{AreAnswersOf}
 use Rattle.wd_calls.specs.Parts.{AreValues, IsPartOf, IsValueAt}
 use Rattle.wd_calls.specs.Sources.{AreCallAnswers, number_of}
@@ -40,11 +40,11 @@ part-long {class} {frame} {partition} {part} is = ap length is.groups ∙ length
 -- ---- frames
 
 module _ {class : ClassRule} {frame : Frame} {partition : List Row} {part : PartRule} (place : ℕ) (is : IsPartOf class frame partition part) (within : place < length partition) where
-  pub frame_places : (lists : List (List Stretch)) → AreFrames part frame lists → places_of part frame place ≡ places_along lists place
+  pub frame_places : (lists : List (List IndexRange)) → AreFrames part frame lists → places_of part frame place ≡ places_along lists place
   frame_places lists are = are.places (in_order is) place (let long = part-long is in omega arith)
 
   -- a frame has no more places than the partition
-  pub few_places : (lists : List (List Stretch)) → AreFrames part frame lists → length (places_along lists place) ≤ length partition
+  pub few_places : (lists : List (List IndexRange)) → AreFrames part frame lists → length (places_along lists place) ≤ length partition
   few_places lists are =
       let same = ap length (frame_places lists are) in
       let long = part-long is in
@@ -53,17 +53,17 @@ module _ {class : ClassRule} {frame : Frame} {partition : List Row} {part : Part
       let all = length-range_with_len 0 (length part.groups) in
       omega arith
 
-  pub over_frame : (function : FrameFunction) (lists : List (List Stretch)) → AreFrames part frame lists → frame_value function (rows_at partition (places_along lists place)) ≡ call_value class frame (OfFrame function) partition place
+  pub over_frame : (function : FrameFunction) (lists : List (List IndexRange)) → AreFrames part frame lists → frame_value function (rows_at partition (places_along lists place)) ≡ call_value class frame (OfFrame function) partition place
   over_frame function lists are = ap (λ ps. frame_value function (rows_at partition ps)) (sym (frame_places lists are)) ∙ frame_call place is within function
 
-pub answers_of_calls : (frame : Frame) (aggregate : AggregateFunction) (partition : List Row) (part : PartRule) (count : ℕ) (lists : List (List Stretch)) (answers : List Answer)
+pub answers_of_calls : (frame : Frame) (aggregate : AggregateFunction) (partition : List Row) (part : PartRule) (count : ℕ) (lists : List (List IndexRange)) (answers : List Answer)
     → length part.groups ≡ count → length partition < 2 ^ 63 → AreFrames part frame lists → AreAnswersOf aggregate partition count lists answers → AreCallAnswers frame (OfFrame (Aggregate aggregate)) partition part answers
 answers_of_calls frame aggregate partition part count lists answers long small frames are class is place other within =
     let same = part-long is in
     let few = few_places place is within lists frames in
     are.each (sym long ∙ same) place other (omega arith) (omega arith) ∙ over_frame place is within (Aggregate aggregate) lists frames
 
-pub row_value : (frame : Frame) (function : Function) (row : FrameRow) (c : ℕ) (partition : List Row) (part : PartRule) (lists : List (List Stretch)) (place : ℕ) (value : Value)
+pub row_value : (frame : Frame) (function : Function) (row : FrameRow) (c : ℕ) (partition : List Row) (part : PartRule) (lists : List (List IndexRange)) (place : ℕ) (value : Value)
     → function ≡ OfFrame (ValueAt row c) → AreFrames part frame lists → length partition < 2 ^ 63 → (length (places_along lists place) < 2 ^ 64 → value ≡ taken row (values_at partition c (places_along lists place)))
     → IsValueAt frame function partition part place (Ok value)
 row_value frame function row c partition part lists place value e frames small taken class is within =

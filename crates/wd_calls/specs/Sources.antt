@@ -12,7 +12,7 @@ use Rattle.wd_plan.specs.Plans.{ClassRule}
 use Rattle.wd_frame.specs.declared.answer.Answer.{Answer}
 use Rattle.wd_frame.specs.Places.{PartRule}
 use Rattle.wd_frame.specs.Slides.{shown}
-use Rattle.wd_frame.specs.Stretches.{AreFrames, lists_of}
+use Rattle.wd_frame.specs.IndexRanges.{AreFrames, lists_of}
 use Rattle.wd_calls.specs.declared.call.Source.{Source}
 use Rattle.wd_calls.specs.declared.call.Source.TheVariants as source
 use Rattle.wd_calls.specs.Answers.{value_of}

@@ -5,7 +5,7 @@ ghost use Rattle.wd_calls.specs.Answers as spec;
 ghost use Rattle.wd_calls.specs.Answers.{AreAnswersOf, AreCounts};
 ghost use Rattle.wd_calls.specs.Parts.{partition_of};
 ghost use Rattle.wd_frame.specs.Slides.{seen, shown};
-ghost use Rattle.wd_frame.specs.Stretches.{AreLists, lists_of};
+ghost use Rattle.wd_frame.specs.IndexRanges.{AreLists, lists_of};
 ghost use Rattle.wd_plan.specs.Calls.{aggregate_value};
 ghost use Rattle.wd_plan.specs.Expressions as expressions;
 ghost use Rattle.wd_value.specs.declared.value.Value.TheVariants as variant;
@@ -13,7 +13,7 @@ ghost use Rattle.wd_value.specs.declared.value.Value.TheVariants as variant;
 use crate::partition::{Partition, column_values};
 use crate::places::count_at;
 use std::alloc::Global;
-use wd_frame::{Answer, Count, Greatest, Least, Stretch, Sum, over_all, over_lists};
+use wd_frame::{Answer, Count, Greatest, IndexRange, Least, Sum, over_all, over_lists};
 use wd_plan::Aggregate;
 use wd_value::{Fault, OutOfMemory, Value};
 
@@ -23,7 +23,7 @@ pub(crate) fn answers<'a>(
     aggregate: Aggregate,
     partition: &'a Partition,
     count: usize,
-    lists: &[Vec<Stretch>],
+    lists: &[Vec<IndexRange>],
     null: &'a Value,
     zero: &'a Value,
 ) -> Result<Vec<Answer<'a>>, OutOfMemory>
@@ -106,7 +106,7 @@ fn answer_over<'a>(
 /// How many places each frame has.
 fn counts<'a>(
     alloc: Global,
-    lists: &[Vec<Stretch>],
+    lists: &[Vec<IndexRange>],
     count: usize,
 ) -> Result<Vec<Answer<'a>>, OutOfMemory>
     ensures { IfOk result (λ v. AreCounts count (lists_of lists.now) v.items) }

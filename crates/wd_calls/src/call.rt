@@ -7,7 +7,7 @@ ghost use Rattle.wd_calls.specs.Sources.{IsSourceOf};
 ghost use Rattle.wd_calls.specs.Values.{IsRising, IsStart};
 ghost use Rattle.wd_frame.specs.Places as places;
 ghost use Rattle.wd_frame.specs.Places.{part_of};
-ghost use Rattle.wd_frame.specs.Stretches.{AreFrames, AreLists, lists_of, places_along};
+ghost use Rattle.wd_frame.specs.IndexRanges.{AreFrames, AreLists, lists_of, places_along};
 ghost use Rattle.wd_plan.specs.Calls as calls;
 ghost use Rattle.wd_plan.specs.declared.function.Function.TheVariants as of;
 ghost use Rattle.wd_plan.specs.declared.function.Function as function;
@@ -21,7 +21,7 @@ use crate::places::{count_at, place_at};
 use crate::ranking::{group_start, ranking_value};
 use crate::shift::value_away;
 use std::alloc::Global;
-use wd_frame::{Answer, Part, Stretch, frame_stretches};
+use wd_frame::{Answer, IndexRange, Part, frame_ranges};
 use wd_plan::{Call, FrameFunction, FrameRow, Function, Ranking, Shift};
 use wd_value::{Fault, OutOfMemory, Value};
 
@@ -31,7 +31,7 @@ enum Source<'a> {
     Ranking(Ranking),
     Shift(&'a Shift),
     /// The value of a column at a row of the frame, given by ranges of places.
-    Row(FrameRow, u16, Vec<Vec<Stretch>>),
+    Row(FrameRow, u16, Vec<Vec<IndexRange>>),
     /// One for each place.
     Answers(Vec<Answer<'a>>),
 }
@@ -87,7 +87,7 @@ fn source_of<'a>(
         Function::Ranking(ranking) => Ok(Source::Ranking(*ranking)),
         Function::Shift(shift) => Ok(Source::Shift(shift)),
         Function::OfFrame(function) => {
-            let lists = frame_stretches(alloc, part, &call.frame)?;
+            let lists = frame_ranges(alloc, part, &call.frame)?;
             let count = part.groups.len();
             frame_source(alloc, *function, partition, count, lists, null, zero)
         }
@@ -100,7 +100,7 @@ fn frame_source<'a>(
     function: FrameFunction,
     partition: &'a Partition,
     count: usize,
-    lists: Vec<Vec<Stretch>>,
+    lists: Vec<Vec<IndexRange>>,
     null: &'a Value,
     zero: &'a Value,
 ) -> Result<Source<'a>, OutOfMemory>
@@ -138,7 +138,7 @@ fn value_from(
             Ok(Ok(value))
         }
         Source::Row(row, column, lists) => {
-            let value = taken(alloc, *row, *column, partition, place, lists)?;
+            let value = copy_taken(alloc, *row, *column, partition, place, lists)?;
             Ok(Ok(value))
         }
         Source::Answers(answers) => match answers.get(place) {
@@ -150,13 +150,13 @@ fn value_from(
 
 /// A copy of the value of a column at the first, the last or the nth row of a frame, and NULL where
 /// there is none.
-fn taken(
+fn copy_taken(
     alloc: Global,
     row: FrameRow,
     column: u16,
     partition: &Partition,
     place: usize,
-    lists: &[Vec<Stretch>],
+    lists: &[Vec<IndexRange>],
 ) -> Result<Value, OutOfMemory>
     ensures { IfOk result (λ v. length (places_along (lists_of lists.now) place) < 2 ^ 64 → v ≡ calls.taken row (values_at (partition_of partition.now) column (places_along (lists_of lists.now) place))) }
 {
@@ -167,7 +167,7 @@ fn taken(
 }
 
 /// The number, from 0, of the row that a function takes from a frame.
-fn number_of(row: FrameRow, lists: &[Vec<Stretch>], place: usize) -> usize
+fn number_of(row: FrameRow, lists: &[Vec<IndexRange>], place: usize) -> usize
     ensures { length (places_along (lists_of lists.now) place) < 2 ^ 64 → result ≡ spec.number_of row (length (places_along (lists_of lists.now) place)) }
 {
     match row {

@@ -1,33 +1,33 @@
 //! The places of a row's frame, from the ranges of all frames.
 
 ghost use Rattle.std.specs.Prelude.{◌≡◌, ◌-◌, ◌^◌, length, min, slice_get};
-ghost use Rattle.wd_frame.specs.Stretches as spec;
-ghost use Rattle.wd_frame.specs.Stretches.{lists_of, places_along};
+ghost use Rattle.wd_frame.specs.IndexRanges as spec;
+ghost use Rattle.wd_frame.specs.IndexRanges.{lists_of, places_along};
 
-use wd_frame::Stretch;
+use wd_frame::IndexRange;
 
 /// How many places the frame of the row at a place has, as far as 64 bits count.
-pub(crate) fn count_at(lists: &[Vec<Stretch>], place: usize) -> usize
+pub(crate) fn count_at(lists: &[Vec<IndexRange>], place: usize) -> usize
     ensures { result ≡ min (length (places_along (lists_of lists.now) place)) (2 ^ 64 - 1) }
 {
     let mut count: usize = 0;
     for list in lists {
-        let stretch = stretch_at(list, place);
-        count = count.saturating_add(stretch.end.saturating_sub(stretch.start));
+        let range = range_at(list, place);
+        count = count.saturating_add(range.end.saturating_sub(range.start));
     }
     count
 }
 
 /// The place with this number, from 0, in the frame of the row at a place; none past the last.
-pub(crate) fn place_at(lists: &[Vec<Stretch>], place: usize, number: usize) -> Option<usize>
+pub(crate) fn place_at(lists: &[Vec<IndexRange>], place: usize, number: usize) -> Option<usize>
     ensures { result ≡ slice_get (places_along (lists_of lists.now) place) number }
 {
     let mut left = number;
     for list in lists {
-        let stretch = stretch_at(list, place);
-        let length = stretch.end.saturating_sub(stretch.start);
+        let range = range_at(list, place);
+        let length = range.end.saturating_sub(range.start);
         if left < length {
-            return Some(stretch.start + left);
+            return Some(range.start + left);
         }
         left -= length;
     }
@@ -35,11 +35,11 @@ pub(crate) fn place_at(lists: &[Vec<Stretch>], place: usize, number: usize) -> O
 }
 
 /// The range at a place; an empty one past the last.
-fn stretch_at(list: &[Stretch], place: usize) -> Stretch
-    ensures { result ≡ spec.stretch_at list.now place }
+fn range_at(list: &[IndexRange], place: usize) -> IndexRange
+    ensures { result ≡ spec.range_at list.now place }
 {
     match list.get(place) {
-        Some(stretch) => *stretch,
-        None => Stretch { start: 0, end: 0 },
+        Some(range) => *range,
+        None => IndexRange { start: 0, end: 0 },
     }
 }

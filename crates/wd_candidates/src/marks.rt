@@ -16,7 +16,7 @@ use wd_schema::Schema;
 use wd_value::{OutOfMemory, SortColumn};
 
 /// Marks for `columns` columns, none of them set.
-pub(crate) fn unmarked(alloc: Global, columns: usize) -> Result<Vec<bool>, OutOfMemory>
+pub(crate) fn no_marks(alloc: Global, columns: usize) -> Result<Vec<bool>, OutOfMemory>
     ensures long { IfOk result (λ v. length v.items ≡ columns) }
     ensures none { IfOk result (λ v. (c : ℕ) → is_marked v.items c ≡ false) }
 {
@@ -152,7 +152,7 @@ pub(crate) fn unmarked_tables(alloc: Global, schema: &Schema) -> Result<Vec<Vec<
 {
     let mut tables = Vec::with_capacity(alloc, schema.tables.len())?;
     for number in 0..schema.tables.len() {
-        let marks = unmarked(alloc, width_of(schema, number))?;
+        let marks = no_marks(alloc, width_of(schema, number))?;
         tables.push(marks)?;
     }
     Ok(tables)

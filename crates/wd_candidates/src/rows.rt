@@ -10,7 +10,7 @@ ghost use Rattle.wd_schema.specs.Tables.{key_of, table_of};
 ghost use Rattle.wd_value.specs.Bags.{positions};
 ghost use Rattle.wd_value.specs.Rows.{instance_of, rows_of};
 
-use crate::marks::{is_marked, mark_columns, unmarked};
+use crate::marks::{is_marked, mark_columns, no_marks};
 use crate::outline::Outline;
 use crate::shape::{Shape, Style};
 use crate::tied::TiedColumns;
@@ -102,7 +102,7 @@ fn candidate_rows(
 pub fn keyed_columns(alloc: Global, table: &Table) -> Result<Vec<bool>, OutOfMemory>
     ensures { IfOk result (λ v. (c : ℕ) → c < length table.now.columns.items → is_marked v.items c ≡ spec.is_keyed (map key_of table.now.keys.items) c) }
 {
-    let mut keyed = unmarked(alloc, table.columns.len())?;
+    let mut keyed = no_marks(alloc, table.columns.len())?;
     for key in &table.keys {
         mark_columns(&mut keyed, &key.columns);
     }

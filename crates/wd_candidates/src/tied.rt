@@ -19,7 +19,7 @@ ghost use Rattle.wd_schema.specs.Schemas.{schema_of};
 ghost use Rattle.wd_value.specs.Keys.{key_columns};
 
 use crate::marks::{
-    is_marked, mark_argument, mark_class, mark_keys, mark_table, mark_used, unmarked,
+    is_marked, mark_argument, mark_class, mark_keys, mark_table, mark_used, no_marks,
     unmarked_tables,
 };
 use std::alloc::Global;
@@ -134,7 +134,7 @@ fn tied_by_class(
     requires { AreNarrow (plan_of input.now) }
     ensures { IfOk result (AreTied (schema_of schema.now) (record { node = plan_of input.now; columns = class_columns (class_at (window_of window.now) call.now.class) })) }
 {
-    let mut wanted = unmarked(alloc, input.width() as usize)?;
+    let mut wanted = no_marks(alloc, input.width() as usize)?;
     mark_class_of(&mut wanted, window, call);
     let tied = tied_by(alloc, schema, input, &wanted)?;
     Ok(tied)
@@ -150,7 +150,7 @@ fn tied_by_keys(
     requires { AreNarrow (plan_of input.now) }
     ensures { IfOk result (AreTied (schema_of schema.now) (record { node = plan_of input.now; columns = key_columns keys.now })) }
 {
-    let mut wanted = unmarked(alloc, input.width() as usize)?;
+    let mut wanted = no_marks(alloc, input.width() as usize)?;
     mark_keys(&mut wanted, keys);
     let tied = tied_by(alloc, schema, input, &wanted)?;
     Ok(tied)
@@ -245,7 +245,7 @@ fn used_by_outputs(
     ensures long { IfOk result (λ v. length v.items ≡ width (plan_of input.now)) }
     ensures used { IfOk result (λ v. (c : ℕ) → c < width (plan_of input.now) → is_marked v.items c ≡ is_in_wanted (map used (map expression_of outputs.now)) (is_marked wanted.now) c) }
 {
-    let mut marks = unmarked(alloc, input.width() as usize)?;
+    let mut marks = no_marks(alloc, input.width() as usize)?;
     mark_outputs(&mut marks, outputs, wanted);
     Ok(marks)
 }
@@ -273,7 +273,7 @@ fn used_by_groups(
     ensures long { IfOk result (λ v. length v.items ≡ width (plan_of input.now)) }
     ensures used { IfOk result (λ v. (c : ℕ) → c < width (plan_of input.now) → is_marked v.items c ≡ is_in_wanted (group_columns (grouping_of group.now)) (is_marked wanted.now) c) }
 {
-    let mut marks = unmarked(alloc, input.width() as usize)?;
+    let mut marks = no_marks(alloc, input.width() as usize)?;
     mark_groups(&mut marks, group, wanted);
     Ok(marks)
 }

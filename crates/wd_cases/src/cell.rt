@@ -9,7 +9,7 @@ pub fn value_of(alloc: Global, word: &str) -> Result<Value, Failure> {
         "null" => Ok(Value::Null),
         "true" => Ok(Value::Bool(true)),
         "false" => Ok(Value::Bool(false)),
-        _ => match unquoted(word) {
+        _ => match strip_quotes(word) {
             Some(text) => Ok(Value::Text(Text::from_str(alloc, text)?)),
             None => Ok(Value::Int(word.parse()?)),
         },
@@ -17,7 +17,7 @@ pub fn value_of(alloc: Global, word: &str) -> Result<Value, Failure> {
 }
 
 /// What stands between single quotes.
-fn unquoted(word: &str) -> Option<&str> {
+fn strip_quotes(word: &str) -> Option<&str> {
     word.strip_prefix('\'')?.strip_suffix('\'')
 }
 

@@ -6,28 +6,28 @@ use wd_lex::{Token, lex};
 /// The bytes that a line stands for. `\n` is a line feed and `\xFF` the byte FF; `\3{ab}` is
 /// ababab, and so is `\3[ab]`, which may stand within the braces. In a part that repeats, `\#` is
 /// the number of the time, from 0.
-pub fn unescaped(alloc: Global, line: &str) -> Result<Vec<u8>, AllocError> {
-    let inner = repeated(alloc, line, '[', ']')?;
-    let outer = repeated(alloc, inner.as_str(), '{', '}')?;
+pub fn unescape(alloc: Global, line: &str) -> Result<Vec<u8>, AllocError> {
+    let inner = repeat_groups(alloc, line, '[', ']')?;
+    let outer = repeat_groups(alloc, inner.as_str(), '{', '}')?;
     bytes_of(alloc, outer.as_str())
 }
 
 /// The text that a line stands for.
 pub fn text_of(alloc: Global, line: &str) -> Result<String, Failure> {
-    String::from_utf8(unescaped(alloc, line)?).map_err(|_| Failure::NoCase)
+    String::from_utf8(unescape(alloc, line)?).map_err(|_| Failure::NoCase)
 }
 
 /// The tokens of the text that a line stands for.
 pub fn tokens_of(alloc: Global, line: &str) -> Result<Vec<Token>, Failure> {
-    let text = unescaped(alloc, line)?;
+    let text = unescape(alloc, line)?;
     Ok(lex(alloc, &text)?)
 }
 
 /// The text with each group between such brackets as often as the number before it says.
-fn repeated(alloc: Global, text: &str, open: char, close: char) -> Result<String, AllocError> {
+fn repeat_groups(alloc: Global, text: &str, open: char, close: char) -> Result<String, AllocError> {
     let mut out = String::new(alloc);
     for piece in text.split_inclusive(close) {
-        match group_behind(piece, open, close) {
+        match group_after(piece, open, close) {
             Some((front, times, part)) => {
                 out.push_str(front)?;
                 push_times(&mut out, times, part)?;
@@ -39,7 +39,7 @@ fn repeated(alloc: Global, text: &str, open: char, close: char) -> Result<String
 }
 
 /// What stands before the group that ends a piece, its number, and what is between its brackets.
-fn group_behind(piece: &str, open: char, close: char) -> Option<(&str, u32, &str)> {
+fn group_after(piece: &str, open: char, close: char) -> Option<(&str, u32, &str)> {
     let (front, part) = piece.strip_suffix(close)?.rsplit_once(open)?;
     let (front, times) = front.rsplit_once('\\')?;
     Some((front, times.parse().ok()?, part))

@@ -13,7 +13,7 @@ mod refused;
 mod schema;
 
 pub use cell::{is_nothing, row_of, rows_of, value_of};
-pub use escape::{in_one_line, text_of, tokens_of, unescaped};
+pub use escape::{in_one_line, text_of, tokens_of, unescape};
 pub use failure::Failure;
 pub use line::{Cases, answer_lines, or_nothing};
 pub use named::NamedTexts;

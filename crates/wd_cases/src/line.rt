@@ -29,7 +29,7 @@ fn answer_line<C: Cases>(
 ) -> io::Result<()> {
     match case_in(line) {
         Some((word, text)) => {
-            let found = shown(rt.alloc(), cases.answer(rt.alloc(), word, text))?;
+            let found = show(rt.alloc(), cases.answer(rt.alloc(), word, text))?;
             let found = or_nothing(found.as_str());
             println!(rt; "{line} => {found}")
         }
@@ -45,7 +45,7 @@ fn case_in(line: &str) -> Option<(&str, &str)> {
     Some(line.split_once(' ').unwrap_or((line, "")))
 }
 
-fn shown(alloc: Global, found: Result<String, Failure>) -> Result<String, AllocError> {
+fn show(alloc: Global, found: Result<String, Failure>) -> Result<String, AllocError> {
     match found {
         Ok(found) => Ok(found),
         Err(failure) => failure.shown(alloc),

@@ -1,4 +1,4 @@
-use crate::escape::unescaped;
+use crate::escape::unescape;
 use crate::failure::Failure;
 use std::alloc::Global;
 
@@ -44,7 +44,7 @@ impl NamedTexts {
 
 fn named_text(alloc: Global, name: &str, text: &str) -> Result<NamedText, Failure> {
     let name = String::from_str(alloc, name)?;
-    match unescaped(alloc, text) {
+    match unescape(alloc, text) {
         Ok(text) => Ok(NamedText { name, text }),
         Err(error) => Err(Failure::from(error)),
     }

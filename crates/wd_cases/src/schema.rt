@@ -1,4 +1,4 @@
-use crate::escape::unescaped;
+use crate::escape::unescape;
 use crate::failure::Failure;
 use std::alloc::Global;
 use wd_schema::{Schema, read_schema};
@@ -19,7 +19,7 @@ impl SchemaText {
 
     /// From here on the schema is this one. Gives how many tables it has.
     pub fn set(&mut self, alloc: Global, line: &str) -> Result<String, Failure> {
-        self.bytes = unescaped(alloc, line)?;
+        self.bytes = unescape(alloc, line)?;
         let count = self.tables(alloc)?.tables.len();
         Ok(format!(in alloc; "tables: {count}")?)
     }

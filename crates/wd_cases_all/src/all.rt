@@ -1,4 +1,4 @@
-use crate::altered::altered;
+use crate::altered::try_altered;
 use crate::subject::{Subject, SubjectCases};
 use std::alloc::Global;
 use wd_cases::{Cases, Failure};
@@ -28,7 +28,7 @@ impl Cases for AllCases {
     fn answer(&mut self, alloc: Global, word: &str, text: &str) -> Result<String, Failure> {
         match word {
             "cases" => self.turn_to(alloc, text),
-            "altered" => altered(alloc, &mut self.given, text),
+            "altered" => try_altered(alloc, &mut self.given, text),
             _ => self.given.answer(alloc, word, text),
         }
     }

@@ -1,6 +1,6 @@
 //! Texts that are cut after each byte, or have one byte changed, each put to a word as a case.
 use std::alloc::Global;
-use wd_cases::{Cases, Failure, unescaped};
+use wd_cases::{Cases, Failure, unescape};
 
 /// What each byte of a text is changed to: a digit, what begins a text and an object of JSON, and what is no UTF-8.
 const CHANGES: [u8; 4] = [b'0', b'"', b'{', 0xFF];
@@ -27,9 +27,9 @@ enum Alteration {
 /// `altered LEAST GREATEST WORD [BEFORE] : TEXT`: whether each beginning of the text, and the text with each of its bytes changed, is
 /// answered under the word, or refused by a number from the least to the greatest. Gives how many texts there were, or the first that
 /// is not.
-pub fn altered<C: Cases>(alloc: Global, cases: &mut C, text: &str) -> Result<String, Failure> {
+pub fn try_altered<C: Cases>(alloc: Global, cases: &mut C, text: &str) -> Result<String, Failure> {
     let (asked, text) = asked_of(text).ok_or(Failure::NoCase)?;
-    let text = unescaped(alloc, text)?;
+    let text = unescape(alloc, text)?;
     let mut count = 0u64;
     for place in 0..text.len() {
         if let Some(found) = altered_at(alloc, cases, asked, &text, place)? {
@@ -63,11 +63,11 @@ fn altered_at<C: Cases>(
     text: &[u8],
     place: usize,
 ) -> Result<Option<String>, Failure> {
-    if let Some(found) = judged(alloc, cases, asked, text, place, Alteration::Cut)? {
+    if let Some(found) = judge(alloc, cases, asked, text, place, Alteration::Cut)? {
         return Ok(Some(found));
     }
     for byte in CHANGES {
-        if let Some(found) = judged(alloc, cases, asked, text, place, Alteration::Change(byte))? {
+        if let Some(found) = judge(alloc, cases, asked, text, place, Alteration::Change(byte))? {
             return Ok(Some(found));
         }
     }
@@ -75,7 +75,7 @@ fn altered_at<C: Cases>(
 }
 
 /// An altered text and what it gives, where that is no answer and no such refusal.
-fn judged<C: Cases>(
+fn judge<C: Cases>(
     alloc: Global,
     cases: &mut C,
     asked: Asked<'_>,

@@ -1,7 +1,7 @@
 //! Which call each word of a line asks for.
 use crate::judged;
 use std::alloc::Global;
-use wd_cases::{Cases, Failure, SchemaText, unescaped};
+use wd_cases::{Cases, Failure, SchemaText, unescape};
 
 /// The texts of a schema and a query, which earlier lines gave.
 #[derive(Drop)]
@@ -21,7 +21,7 @@ impl CallCases {
 
     /// `query TEXT`: from here on the query is this one. Gives how many orderings its plan has.
     fn set_query(&mut self, alloc: Global, text: &str) -> Result<String, Failure> {
-        self.query = unescaped(alloc, text)?;
+        self.query = unescape(alloc, text)?;
         judged::orderings(alloc, self)
     }
 }

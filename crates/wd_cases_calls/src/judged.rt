@@ -9,7 +9,7 @@ use crate::case::CallCases;
 use crate::shown::{analysis_shown, certificate_shown, reasons_shown, witness_shown};
 use std::alloc::Global;
 use wd_analyse::{Analysis, analyse};
-use wd_cases::{Failure, in_one_line, unescaped};
+use wd_cases::{Failure, in_one_line, unescape};
 use wd_check::{Verdict, decide, run};
 use wd_plan::Outcome;
 use wd_query::{PlannedQuery, read_texts};
@@ -18,7 +18,7 @@ use wd_value::Text;
 use wd_witness::{refute, seek};
 
 /// The plan of the query.
-fn planned(alloc: Global, given: &CallCases) -> Result<PlannedQuery, Failure>
+fn plan_of_query(alloc: Global, given: &CallCases) -> Result<PlannedQuery, Failure>
     ensures { IfOk result (λ p. fits (schema_of p.schema) (plan_of p.resolved.plan) ≡ true) }
 {
     match read_texts(alloc, &given.schema.bytes, &given.query) {
@@ -29,7 +29,7 @@ fn planned(alloc: Global, given: &CallCases) -> Result<PlannedQuery, Failure>
 
 /// How many orderings the plan of the query has.
 pub fn orderings(alloc: Global, given: &CallCases) -> Result<String, Failure> {
-    let planned = planned(alloc, given)?;
+    let planned = plan_of_query(alloc, given)?;
     let count = planned.resolved.plan.orderings();
     Ok(format!(in alloc; "orderings: {count}")?)
 }
@@ -42,15 +42,15 @@ fn analysis(alloc: Global, planned: &PlannedQuery) -> Result<Analysis, Failure>
 }
 
 /// `analyse`: the certificate, or the reasons and the marks.
-pub fn analysed(alloc: Global, given: &CallCases) -> Result<String, Failure> {
-    let planned = planned(alloc, given)?;
+pub fn analyse_case(alloc: Global, given: &CallCases) -> Result<String, Failure> {
+    let planned = plan_of_query(alloc, given)?;
     let analysis = analysis(alloc, &planned)?;
     analysis_shown(alloc, &analysis)
 }
 
 /// `seek`: the witness, and how many evaluations there were.
-pub fn sought(alloc: Global, given: &CallCases) -> Result<String, Failure> {
-    let planned = planned(alloc, given)?;
+pub fn seek_case(alloc: Global, given: &CallCases) -> Result<String, Failure> {
+    let planned = plan_of_query(alloc, given)?;
     let analysis = analysis(alloc, &planned)?;
     let (witness, evaluations) = seek(alloc, &planned.schema, &planned.resolved.plan, &analysis)?;
     let found = match &witness {
@@ -61,8 +61,8 @@ pub fn sought(alloc: Global, given: &CallCases) -> Result<String, Failure> {
 }
 
 /// `refute TEXT`: whether the text is a true witness.
-pub fn refuted(alloc: Global, given: &CallCases, text: &str) -> Result<String, Failure> {
-    let text = unescaped(alloc, text)?;
+pub fn refute_case(alloc: Global, given: &CallCases, text: &str) -> Result<String, Failure> {
+    let text = unescape(alloc, text)?;
     match refute(alloc, &given.schema.bytes, &given.query, &text) {
         Ok(_) => Ok(String::from_str(alloc, "refuted")?),
         Err(error) => Err(Failure::refused(error.number(), error.place())),
@@ -70,7 +70,7 @@ pub fn refuted(alloc: Global, given: &CallCases, text: &str) -> Result<String, F
 }
 
 /// `decide`: the verdict, with its certificate, its witness or its reasons.
-pub fn decided(alloc: Global, given: &CallCases) -> Result<String, Failure> {
+pub fn decide_case(alloc: Global, given: &CallCases) -> Result<String, Failure> {
     match decide(alloc, &given.schema.bytes, &given.query) {
         Ok(verdict) => verdict_shown(alloc, &verdict),
         Err(error) => Err(Failure::refused(error.number(), error.place())),
@@ -80,19 +80,19 @@ pub fn decided(alloc: Global, given: &CallCases) -> Result<String, Failure> {
 /// `run TABLE TEXT`: the answer over the data of this table, in one line.
 pub fn ran(alloc: Global, given: &CallCases, text: &str) -> Result<String, Failure> {
     let (name, data) = text.split_once(' ').ok_or(Failure::NoCase)?;
-    let data = unescaped(alloc, data)?;
+    let data = unescape(alloc, data)?;
     ran_over(alloc, given, name, &data)
 }
 
 fn ran_over(alloc: Global, given: &CallCases, name: &str, data: &[u8]) -> Result<String, Failure> {
     match run(alloc, &given.schema.bytes, &given.query, &[(name, data)]) {
-        Ok((names, outcome)) => answered(alloc, &names, &outcome),
+        Ok((names, outcome)) => answer_line(alloc, &names, &outcome),
         Err(error) => Err(Failure::refused(error.number(), error.place())),
     }
 }
 
 /// The text of an answer, in one line.
-fn answered(alloc: Global, names: &[Text], outcome: &Outcome) -> Result<String, Failure> {
+fn answer_line(alloc: Global, names: &[Text], outcome: &Outcome) -> Result<String, Failure> {
     match outcome {
         Outcome::Rows(rows) => in_one_line(alloc, &answer_text(alloc, names, rows)?),
         Outcome::Fault(_) => Ok(String::from_str(alloc, "a fault")?),

@@ -17,7 +17,7 @@ use wd_close::{Derived, closure_derived};
 
 /// `closure COLUMNS ? NUMBER FACTS`: what columns give by facts over so many columns, at a Join `NUMBER/LEFT FACTS`; the same with the
 /// number of steps; the same with what the facts of its derivation reach, as far as each is reached and reaches something new.
-pub fn closed(alloc: Global, text: &str) -> Result<String, Failure> {
+pub fn close_case(alloc: Global, text: &str) -> Result<String, Failure> {
     let (columns, facts) = text.split_once('?').ok_or(Failure::NoCase)?;
     let columns = columns_of(alloc, columns)?;
     let facts = facts_over(alloc, facts.trim())?;
@@ -33,47 +33,47 @@ fn close(alloc: Global, facts: &Facts, columns: &[u16]) -> Result<String, Failur
     requires facts { spec.are_named (facts_of facts.now) ≡ true }
     requires columns { list_all (λ c. nat_lt c facts.now.columns) columns.now ≡ true }
 {
-    let given = given(alloc, facts, columns)?;
-    let counted = counted(alloc, facts, columns)?;
-    let derived = derived(alloc, facts, columns)?;
+    let given = show_closure(alloc, facts, columns)?;
+    let counted = show_counted(alloc, facts, columns)?;
+    let derived = show_derived(alloc, facts, columns)?;
     Ok(format!(in alloc; "{given}; {counted}; {derived}")?)
 }
 
-fn given(alloc: Global, facts: &Facts, columns: &[u16]) -> Result<String, Failure>
+fn show_closure(alloc: Global, facts: &Facts, columns: &[u16]) -> Result<String, Failure>
     requires split { spec.is_split_within facts.now.split facts.now.columns ≡ true }
     requires facts { spec.are_named (facts_of facts.now) ≡ true }
     requires columns { list_all (λ c. nat_lt c facts.now.columns) columns.now ≡ true }
 {
     let set = closure(alloc, facts, columns)?;
-    shown(alloc, facts, &set)
+    show_set(alloc, facts, &set)
 }
 
 /// What is given, by the closure that counts, and the steps.
-fn counted(alloc: Global, facts: &Facts, columns: &[u16]) -> Result<String, Failure>
+fn show_counted(alloc: Global, facts: &Facts, columns: &[u16]) -> Result<String, Failure>
     requires split { spec.is_split_within facts.now.split facts.now.columns ≡ true }
     requires facts { spec.are_named (facts_of facts.now) ≡ true }
     requires columns { list_all (λ c. nat_lt c facts.now.columns) columns.now ≡ true }
 {
     let (set, steps) = closure_counted(alloc, facts, columns)?;
-    let shown = shown(alloc, facts, &set)?;
+    let shown = show_set(alloc, facts, &set)?;
     Ok(format!(in alloc; "{shown} in {steps} steps")?)
 }
 
 /// What is given, by the closure with a derivation, and what the facts that it uses reach.
-fn derived(alloc: Global, facts: &Facts, columns: &[u16]) -> Result<String, Failure>
+fn show_derived(alloc: Global, facts: &Facts, columns: &[u16]) -> Result<String, Failure>
     requires split { spec.is_split_within facts.now.split facts.now.columns ≡ true }
     requires facts { spec.are_named (facts_of facts.now) ≡ true }
     requires columns { list_all (λ c. nat_lt c facts.now.columns) columns.now ≡ true }
 {
     let Derived { set, uses } = closure_derived(alloc, facts, columns)?;
-    let set = shown(alloc, facts, &set)?;
+    let set = show_set(alloc, facts, &set)?;
     let reached = follow(alloc, facts, columns, &uses)?;
-    let reached = shown(alloc, facts, &reached)?;
+    let reached = show_set(alloc, facts, &reached)?;
     Ok(format!(in alloc; "{set} by facts that reach {reached}")?)
 }
 
 /// A set's members: the columns in their order, the sides, the row.
-fn shown(alloc: Global, facts: &Facts, set: &Set) -> Result<String, Failure> {
+fn show_set(alloc: Global, facts: &Facts, set: &Set) -> Result<String, Failure> {
     let mut members = Vec::new(alloc);
     for column in 0..facts.columns {
         push_if_in(set, Member::Column(column), &mut members)?;

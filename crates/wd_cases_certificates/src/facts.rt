@@ -11,10 +11,10 @@ use crate::case::CertificateCases;
 use crate::notation::facts_of;
 use crate::plain::are_of_children;
 use crate::shown::push_facts;
-use crate::verdict::planned;
+use crate::verdict::plan_of_query;
 use std::alloc::Global;
 use wd_cases::Failure;
-use wd_cert::{Given, given};
+use wd_cert::{Given, show_closure};
 use wd_plan::Plan;
 use wd_schema::Schema;
 
@@ -34,7 +34,7 @@ fn given_of_node(
     first: &[Given],
     second: &[Given],
 ) -> Result<String, Failure> {
-    let planned = planned(alloc, texts)?;
+    let planned = plan_of_query(alloc, texts)?;
     match node_at(&planned.resolved.plan, number) {
         Some(plan) => given_of(alloc, plan, &planned.schema, first, second),
         None => Err(Failure::NoCase),
@@ -89,7 +89,7 @@ fn given_shown(
     requires fits { spec.fits (schema_of schema.now) (plan_of plan.now) ≡ true }
     requires named { AreOfChildren (plan_of plan.now) (map fact_of first.now) (map fact_of second.now) }
 {
-    let facts = given(alloc, plan, schema, &[first, second])?;
+    let facts = show_closure(alloc, plan, schema, &[first, second])?;
     let mut out = String::new(alloc);
     push_facts(&mut out, &facts)?;
     Ok(out)

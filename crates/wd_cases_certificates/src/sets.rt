@@ -12,12 +12,12 @@ pub fn set(alloc: Global, text: &str) -> Result<String, Failure> {
     let first = members_of(alloc, first)?;
     let others = members_of(alloc, others)?;
     let mut out = String::new(alloc);
-    let set = filled(alloc, &first, &mut out)?;
+    let set = fill(alloc, &first, &mut out)?;
     push_found(&set, &others, &mut out)?;
     Ok(out)
 }
 
-fn filled(alloc: Global, members: &[Member], out: &mut String) -> Result<Set, Failure> {
+fn fill(alloc: Global, members: &[Member], out: &mut String) -> Result<Set, Failure> {
     let mut set = Set::new(alloc);
     for member in members {
         let is_new = set.insert(*member)?;

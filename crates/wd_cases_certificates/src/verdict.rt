@@ -10,14 +10,14 @@ use crate::notation::certificate_of;
 use crate::refusal::failure_of;
 use crate::shown::push_nodes;
 use std::alloc::Global;
-use wd_cases::{Failure, unescaped};
+use wd_cases::{Failure, unescape};
 use wd_cert::{Certificate, VerifyError, VerifyOrigin, verify, verify_plan};
 use wd_plan::Plan;
 use wd_query::{PlannedQuery, TextError, read_texts};
 use wd_schema::Schema;
 
 /// The plan of the query.
-pub fn planned(alloc: Global, given: &CertificateCases) -> Result<PlannedQuery, Failure>
+pub fn plan_of_query(alloc: Global, given: &CertificateCases) -> Result<PlannedQuery, Failure>
     ensures { IfOk result (λ p. fits (schema_of p.schema) (plan_of p.resolved.plan) ≡ true) }
 {
     match read_texts(alloc, &given.schema.bytes, &given.query) {
@@ -32,7 +32,7 @@ fn refused_text(error: &TextError) -> Failure {
 
 /// The nodes of the query's plan.
 pub fn nodes(alloc: Global, given: &CertificateCases) -> Result<String, Failure> {
-    let planned = planned(alloc, given)?;
+    let planned = plan_of_query(alloc, given)?;
     nodes_of(alloc, &planned.resolved.plan)
 }
 
@@ -44,14 +44,14 @@ fn nodes_of(alloc: Global, plan: &Plan) -> Result<String, Failure> {
 
 /// `verify TEXT`: whether a certificate's text is accepted for the texts of the schema and the query.
 pub fn verify_text(alloc: Global, given: &CertificateCases, text: &str) -> Result<String, Failure> {
-    let text = unescaped(alloc, text)?;
+    let text = unescape(alloc, text)?;
     match verify(alloc, &given.schema.bytes, &given.query, &text) {
         Ok(_) => Ok(String::from_str(alloc, "accepted")?),
-        Err(error) => refused(alloc, &error),
+        Err(error) => show_refusal(alloc, &error),
     }
 }
 
-fn refused(alloc: Global, error: &VerifyError) -> Result<String, Failure> {
+fn show_refusal(alloc: Global, error: &VerifyError) -> Result<String, Failure> {
     let shown = failure_in(error).shown(alloc)?;
     let origin = origin_of(error);
     Ok(format!(in alloc; "{origin}: {shown}")?)
@@ -71,7 +71,7 @@ fn origin_of(error: &VerifyError) -> &'static str {
 
 /// `why TEXT`: the refusal of a certificate's text with its message.
 pub fn why(alloc: Global, given: &CertificateCases, text: &str) -> Result<String, Failure> {
-    let text = unescaped(alloc, text)?;
+    let text = unescape(alloc, text)?;
     match verify(alloc, &given.schema.bytes, &given.query, &text) {
         Ok(accepted) => Ok(format!(in alloc; "{accepted:?}")?),
         Err(error) => failure_in(&error).explained(alloc, &error),
@@ -95,7 +95,7 @@ fn verdict_of_plan(
     given: &CertificateCases,
     certificate: &Certificate,
 ) -> Result<String, Failure> {
-    let planned = planned(alloc, given)?;
+    let planned = plan_of_query(alloc, given)?;
     verdict_on(alloc, &planned.resolved.plan, &planned.schema, certificate)
 }
 

@@ -21,24 +21,24 @@ struct Ending {
 }
 
 /// `command WORDS | SETTINGS`: how the program ends on the words.
-pub fn ended(alloc: Global, given: &NamedTexts, text: &str) -> Result<String, Failure> {
+pub fn run_command(alloc: Global, given: &NamedTexts, text: &str) -> Result<String, Failure> {
     let ending = ending_of(alloc, given, text)?;
     let err = in_one_line(alloc, &ending.err)?;
-    shown(alloc, &ending, err.as_str())
+    show(alloc, &ending, err.as_str())
 }
 
 /// `fault WORDS | SETTINGS`: the same, but of standard error only whether there is text.
-pub fn faulted(alloc: Global, given: &NamedTexts, text: &str) -> Result<String, Failure> {
+pub fn run_faulty(alloc: Global, given: &NamedTexts, text: &str) -> Result<String, Failure> {
     let ending = ending_of(alloc, given, text)?;
     let err = if ending.err.is_empty() {
         ""
     } else {
         "some text"
     };
-    shown(alloc, &ending, err)
+    show(alloc, &ending, err)
 }
 
-fn shown(alloc: Global, ending: &Ending, err: &str) -> Result<String, Failure> {
+fn show(alloc: Global, ending: &Ending, err: &str) -> Result<String, Failure> {
     let out = in_one_line(alloc, &ending.out)?;
     let status = ending.status;
     let read = or_nothing(ending.read.as_str().trim());

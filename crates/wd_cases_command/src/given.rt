@@ -1,6 +1,6 @@
 //! What earlier lines gave, and what each word of a line asks for.
-use crate::ending::{ended, faulted};
-use crate::reported::reported;
+use crate::ending::{run_command, run_faulty};
+use crate::reported::report_failure;
 use std::alloc::Global;
 use wd_cases::{Cases, Failure, NamedTexts};
 
@@ -28,9 +28,9 @@ impl Cases for CommandCases {
     fn answer(&mut self, alloc: Global, word: &str, text: &str) -> Result<String, Failure> {
         match word {
             "file" => self.set_files(alloc, text),
-            "command" => ended(alloc, &self.files, text),
-            "fault" => faulted(alloc, &self.files, text),
-            "report" => reported(alloc, text),
+            "command" => run_command(alloc, &self.files, text),
+            "fault" => run_faulty(alloc, &self.files, text),
+            "report" => report_failure(alloc, text),
             _ => Err(Failure::NoCase),
         }
     }

@@ -7,15 +7,15 @@ use wd_run::RunError;
 use wd_value::{Fault, Text};
 
 /// `report FAILURE`: the status, and the line on standard error.
-pub fn reported(alloc: Global, text: &str) -> Result<String, Failure> {
+pub fn report_failure(alloc: Global, text: &str) -> Result<String, Failure> {
     let (name, word) = text.split_once(' ').unwrap_or((text, ""));
     match failure_of(name, word) {
-        Some(failure) => shown(alloc, &failure),
-        None => refused(alloc, name, word),
+        Some(failure) => show(alloc, &failure),
+        None => report_refusal(alloc, name, word),
     }
 }
 
-fn shown(alloc: Global, failure: &wd_command::Failure<'_>) -> Result<String, Failure> {
+fn show(alloc: Global, failure: &wd_command::Failure<'_>) -> Result<String, Failure> {
     let mut err = Vec::new(alloc);
     let status = report(failure, &mut err);
     let err = in_one_line(alloc, &err)?;
@@ -36,21 +36,21 @@ fn failure_of<'a>(name: &str, word: &'a str) -> Option<wd_command::Failure<'a>> 
 }
 
 /// A refusal of a run.
-fn refused(alloc: Global, name: &str, word: &str) -> Result<String, Failure> {
+fn report_refusal(alloc: Global, name: &str, word: &str) -> Result<String, Failure> {
     let error = refusal_of(alloc, name, word)?;
-    shown(alloc, &wd_command::Failure::from(error))
+    show(alloc, &wd_command::Failure::from(error))
 }
 
 fn refusal_of(alloc: Global, name: &str, word: &str) -> Result<RunError, Failure> {
     match name {
-        "given" => given(alloc, word),
+        "given" => given_error(alloc, word),
         "too_many_rows" => Ok(RunError::Evaluation(EvalError::TooManyRows)),
         "run_out_of_memory" => Ok(RunError::OutOfMemory),
         _ => Err(Failure::NoCase),
     }
 }
 
-fn given(alloc: Global, name: &str) -> Result<RunError, Failure> {
+fn given_error(alloc: Global, name: &str) -> Result<RunError, Failure> {
     let name = Text::from_str(alloc, name)?;
     Ok(RunError::Given { name })
 }

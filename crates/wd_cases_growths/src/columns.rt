@@ -9,7 +9,7 @@ pub fn rows_pushed(alloc: Global, rounds: u16) -> Result<Tally, OutOfMemory> {
     let mut tally = Tally::NONE;
     let mut columns = empty_columns(alloc, 3)?;
     for round in 0..rounds {
-        let before = copied(alloc, &columns)?;
+        let before = copy_columns(alloc, &columns)?;
         let row = row_of(alloc, i64::from(round))?;
         let pushed = push_row(&mut columns, row);
         tally.count(pushed, are_same(&columns, &before));
@@ -25,7 +25,7 @@ fn row_of(alloc: Global, number: i64) -> Result<Row, OutOfMemory> {
     Ok(row)
 }
 
-fn copied(alloc: Global, columns: &[Vec<Value>]) -> Result<Vec<Vec<Value>>, OutOfMemory> {
+fn copy_columns(alloc: Global, columns: &[Vec<Value>]) -> Result<Vec<Vec<Value>>, OutOfMemory> {
     let mut copies = Vec::with_capacity(alloc, columns.len())?;
     for column in columns {
         copies.push(copy_row(alloc, column)?)?;

@@ -1,6 +1,6 @@
 //! Whole queries over the schema's tables.
 use crate::given::Given;
-use crate::tree::written;
+use crate::tree::debug_text;
 use std::alloc::{AllocError, Global};
 use wd_cases::Failure;
 use wd_plan::Plan;
@@ -22,13 +22,13 @@ const SHORT: &[(&str, &str)] = &[
     ),
 ];
 
-fn resolved(alloc: Global, given: &Given, query: &Query) -> Result<Resolved, Failure> {
+fn resolve_query(alloc: Global, given: &Given, query: &Query) -> Result<Resolved, Failure> {
     let schema = given.schema.tables(alloc)?;
     Ok(resolve(alloc, &schema, query)?)
 }
 
 /// The text with `by` in place of each `part`.
-fn replaced(alloc: Global, text: &str, part: &str, by: &str) -> Result<String, AllocError> {
+fn replace_all(alloc: Global, text: &str, part: &str, by: &str) -> Result<String, AllocError> {
     let mut out = String::new(alloc);
     for (place, piece) in text.split(part).enumerate() {
         out.push_str(if place > 0 { by } else { "" })?;
@@ -37,10 +37,10 @@ fn replaced(alloc: Global, text: &str, part: &str, by: &str) -> Result<String, A
     Ok(out)
 }
 
-fn shortened(alloc: Global, plan: &Plan) -> Result<String, AllocError> {
+fn shorten(alloc: Global, plan: &Plan) -> Result<String, AllocError> {
     let mut text = format!(in alloc; "{plan:?}")?;
     for &(long, short) in SHORT {
-        text = replaced(alloc, text.as_str(), long, short)?;
+        text = replace_all(alloc, text.as_str(), long, short)?;
     }
     Ok(text)
 }
@@ -54,25 +54,25 @@ fn push_names(out: &mut String, names: &[Text]) -> Result<(), AllocError> {
 }
 
 fn with_names(alloc: Global, resolved: &Resolved) -> Result<String, Failure> {
-    let mut out = shortened(alloc, &resolved.plan)?;
+    let mut out = shorten(alloc, &resolved.plan)?;
     push_names(&mut out, &resolved.names)?;
     Ok(out)
 }
 
 /// `plan QUERY`: its plan, written short, and the names of its outputs.
 pub fn plan(alloc: Global, given: &Given, query: &Query) -> Result<String, Failure> {
-    let resolved = resolved(alloc, given, query)?;
+    let resolved = resolve_query(alloc, given, query)?;
     with_names(alloc, &resolved)
 }
 
 /// `refusal QUERY`: why it has no plan, or that it has one.
 pub fn refusal(alloc: Global, given: &Given, query: &Query) -> Result<String, Failure> {
-    resolved(alloc, given, query)?;
+    resolve_query(alloc, given, query)?;
     Ok(String::from_str(alloc, "a plan")?)
 }
 
 /// `orderings QUERY`: how many orderings a choice for its plan has.
 pub fn orderings(alloc: Global, given: &Given, query: &Query) -> Result<String, Failure> {
-    let resolved = resolved(alloc, given, query)?;
-    written(alloc, &resolved.plan.orderings())
+    let resolved = resolve_query(alloc, given, query)?;
+    debug_text(alloc, &resolved.plan.orderings())
 }

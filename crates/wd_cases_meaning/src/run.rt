@@ -1,14 +1,14 @@
 //! Queries over data.
 use crate::given::Given;
 use std::alloc::Global;
-use wd_cases::{Failure, in_one_line, unescaped};
+use wd_cases::{Failure, in_one_line, unescape};
 use wd_plan::Outcome;
 use wd_run::{Origin, RunError};
 use wd_tables::answer_text;
 use wd_value::{Fault, Row, Text};
 
 /// The text of an answer, in one line.
-fn answered(alloc: Global, names: &[Text], rows: &[Row]) -> Result<String, Failure> {
+fn answer_line(alloc: Global, names: &[Text], rows: &[Row]) -> Result<String, Failure> {
     let text = answer_text(alloc, names, rows)?;
     in_one_line(alloc, &text)
 }
@@ -20,7 +20,7 @@ fn fault_name(fault: Fault) -> &'static str {
     }
 }
 
-fn refused(alloc: Global, error: &RunError) -> Result<String, Failure> {
+fn show_refusal(alloc: Global, error: &RunError) -> Result<String, Failure> {
     let shown = Failure::refused(error.number(), error.place()).shown(alloc)?;
     Ok(match error.origin() {
         Origin::Schema => format!(in alloc; "schema {shown}")?,
@@ -32,7 +32,7 @@ fn refused(alloc: Global, error: &RunError) -> Result<String, Failure> {
 
 /// `run QUERY`: its answer over the schema and the data, its fault or its refusal.
 pub fn ran(alloc: Global, given: &Given, text: &str) -> Result<String, Failure> {
-    let query = unescaped(alloc, text)?;
+    let query = unescape(alloc, text)?;
     ran_over(alloc, given, &query)
 }
 
@@ -40,13 +40,13 @@ fn ran_over(alloc: Global, given: &Given, query: &[u8]) -> Result<String, Failur
     let data = given.data.pairs(alloc)?;
     match wd_run::run(alloc, &given.schema.bytes, query, &data) {
         Ok((names, outcome)) => outcome_shown(alloc, &names, &outcome),
-        Err(error) => refused(alloc, &error),
+        Err(error) => show_refusal(alloc, &error),
     }
 }
 
 fn outcome_shown(alloc: Global, names: &[Text], outcome: &Outcome) -> Result<String, Failure> {
     match outcome {
-        Outcome::Rows(rows) => answered(alloc, names, rows),
+        Outcome::Rows(rows) => answer_line(alloc, names, rows),
         Outcome::Fault(fault) => Ok(String::from_str(alloc, fault_name(*fault))?),
     }
 }

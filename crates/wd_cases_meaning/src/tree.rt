@@ -12,6 +12,6 @@ pub fn query_of(alloc: Global, text: &str) -> Result<Query, Failure> {
 }
 
 /// A value, as its `Debug` writes it.
-pub fn written<T: Debug>(alloc: Global, value: &T) -> Result<String, Failure> {
+pub fn debug_text<T: Debug>(alloc: Global, value: &T) -> Result<String, Failure> {
     Ok(format!(in alloc; "{value:?}")?)
 }

@@ -6,7 +6,7 @@ use std::alloc::Global;
 use wd_cases::{Cases, Failure, text_of};
 use wd_cases_notation::{Line, State};
 use wd_eval::laws::{has_one_tied_outcome, has_tied_choice};
-use wd_frame::laws::{bounds_are_frames, exclusions_are_stretches, places_are_frames};
+use wd_frame::laws::{bounds_are_frames, exclusions_are_ranges, places_are_frames};
 use wd_laws::laws::agreeing_is_an_equivalence;
 use wd_value::laws::compare_is_a_total_order;
 
@@ -46,13 +46,13 @@ fn answer(alloc: Global, state: &mut State, line: Line, out: &mut String) -> Res
         "copies" | "compare" | "same_bag" | "copy_row" | "text" => values::answer(alloc, line, out),
         _ => {
             state.read(alloc, line)?;
-            asked(alloc, state, line, out)
+            answer_word(alloc, state, line, out)
         }
     }
 }
 
 /// What is asked of the words and lists that were read.
-fn asked(alloc: Global, state: &State, line: Line, out: &mut String) -> Result<(), Failure> {
+fn answer_word(alloc: Global, state: &State, line: Line, out: &mut String) -> Result<(), Failure> {
     match line.word.name {
         "sorted_positions" | "sorted_from" | "is_sorted" | "compare_rows_at" | "value_numbers" => {
             sorts::answer(alloc, state, line.word.name, out)
@@ -84,7 +84,7 @@ fn laws(out: &mut String) -> Result<(), Failure> {
     compare_is_a_total_order();
     places_are_frames();
     bounds_are_frames();
-    exclusions_are_stretches();
+    exclusions_are_ranges();
     agreeing_is_an_equivalence();
     has_tied_choice();
     has_one_tied_outcome();

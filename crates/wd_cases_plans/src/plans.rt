@@ -8,7 +8,7 @@ ghost use Rattle.wd_schema.specs.Schemas.{schema_of};
 ghost use Rattle.wd_eval.specs.Windows.{AreFew};
 
 use crate::shown::{push, push_between, push_number, push_outcome, push_refusal, push_truth};
-use crate::steps::{copied, fault_of};
+use crate::steps::{copy_rows, fault_of};
 use std::alloc::Global;
 use wd_cases::Failure;
 use wd_cases_notation::{Line, State, Word};
@@ -28,7 +28,7 @@ const MOST_ROWS: u64 = 10_000_000;
 pub fn window(alloc: Global, state: &State, word: Word, out: &mut String) -> Result<(), Failure> {
     let first = word.number(0).ok_or(Failure::NoCase)? as usize;
     let input = input_of(alloc, state.rows(), word.argument(1))?;
-    match evaluated(alloc, state, input, first) {
+    match evaluate(alloc, state, input, first) {
         Ok(outcome) => push_outcome(out, &outcome),
         Err(EvalError::NotValid(place)) => push_not_valid(out, place),
         Err(EvalError::TooManyRows | EvalError::OutOfMemory) => Err(Failure::OUT_OF_MEMORY),
@@ -37,7 +37,7 @@ pub fn window(alloc: Global, state: &State, word: Word, out: &mut String) -> Res
 
 fn input_of(alloc: Global, rows: &[Row], fault: Option<&str>) -> Result<Outcome, Failure> {
     match fault {
-        None => Ok(Outcome::Rows(copied(alloc, rows)?)),
+        None => Ok(Outcome::Rows(copy_rows(alloc, rows)?)),
         _ => Ok(Outcome::Fault(fault_of(fault).ok_or(Failure::NoCase)?)),
     }
 }
@@ -47,7 +47,7 @@ fn push_not_valid(out: &mut String, place: u64) -> Result<(), Failure> {
 }
 
 /// What the Window gives; out of memory where it can't be asked.
-fn evaluated(
+fn evaluate(
     alloc: Global,
     state: &State,
     input: Outcome,

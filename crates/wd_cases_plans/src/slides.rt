@@ -55,14 +55,14 @@ pub fn answer(alloc: Global, state: &State, line: Line, out: &mut String) -> Res
         desc: false,
     };
     let (pushes, pops) = (Cell::new(0), Cell::new(0));
-    let answers = counted(alloc, &part, &state.stacks.frame, &values, &pushes, &pops)?;
+    let answers = count_answers(alloc, &part, &state.stacks.frame, &values, &pushes, &pops)?;
     let most = u64::from(count);
     let few = pushes.get() <= most && pops.get() <= most;
     Ok(write!(out, "{answers} {few}")?)
 }
 
 /// How many answers there are.
-fn counted<'a>(
+fn count_answers<'a>(
     alloc: Global,
     part: &Part,
     frame: &Frame,

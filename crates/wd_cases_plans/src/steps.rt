@@ -48,7 +48,7 @@ fn push_filtered(
     rows: &[Row],
     out: &mut String,
 ) -> Result<(), Failure> {
-    let kept = filtered(alloc, condition, rows)?;
+    let kept = filter_copy(alloc, condition, rows)?;
     push_outcome(out, &kept)
 }
 
@@ -71,7 +71,7 @@ fn push_is_true(out: &mut String, value: &Result<Value, Fault>) -> Result<(), Fa
 }
 
 /// A list of copies of the rows.
-pub fn copied(alloc: Global, rows: &[Row]) -> Result<Vec<Row>, OutOfMemory> {
+pub fn copy_rows(alloc: Global, rows: &[Row]) -> Result<Vec<Row>, OutOfMemory> {
     let mut copied = Vec::new(alloc);
     for row in rows {
         copied.push(copy_row(alloc, row)?)?;
@@ -79,8 +79,8 @@ pub fn copied(alloc: Global, rows: &[Row]) -> Result<Vec<Row>, OutOfMemory> {
     Ok(copied)
 }
 
-fn filtered(alloc: Global, condition: &Expr, rows: &[Row]) -> Result<Outcome, OutOfMemory> {
-    let copied = copied(alloc, rows)?;
+fn filter_copy(alloc: Global, condition: &Expr, rows: &[Row]) -> Result<Outcome, OutOfMemory> {
+    let copied = copy_rows(alloc, rows)?;
     filter_rows(alloc, condition, copied)
 }
 
@@ -96,7 +96,7 @@ pub fn answer(alloc: Global, state: &State, line: Line, out: &mut String) -> Res
 }
 
 fn distinct(alloc: Global, rows: &[Row]) -> Result<Vec<Row>, OutOfMemory> {
-    let copied = copied(alloc, rows)?;
+    let copied = copy_rows(alloc, rows)?;
     distinct_rows(alloc, copied)
 }
 

@@ -5,7 +5,7 @@ use wd_cases::Failure;
 use wd_lex::{Terminal, Token, TokenKind};
 use wd_read_cursor::{Name, Refusal, eat, eat_name, expect, name_at};
 
-fn refused(alloc: Global, refusal: Refusal) -> Result<String, Failure> {
+fn show_refusal(alloc: Global, refusal: Refusal) -> Result<String, Failure> {
     Ok(match refusal {
         Refusal::Unexpected { left } => format!(in alloc; "unexpected, {left} left")?,
         Refusal::PastLimit { left } => format!(in alloc; "past a limit, {left} left")?,
@@ -17,13 +17,13 @@ fn none(alloc: Global) -> Result<String, Failure> {
     Ok(String::from_str(alloc, "none")?)
 }
 
-fn left(alloc: Global, rest: &[Token]) -> Result<String, Failure> {
+fn show_rest(alloc: Global, rest: &[Token]) -> Result<String, Failure> {
     let count = rest.len();
     Ok(format!(in alloc; "{count} left")?)
 }
 
 /// A name, in double quotes where it is quoted.
-fn named(alloc: Global, name: &Name, rest: &[Token]) -> Result<String, Failure> {
+fn show_name(alloc: Global, name: &Name, rest: &[Token]) -> Result<String, Failure> {
     let text = name.text.as_str();
     let quote = if name.quoted { "\"" } else { "" };
     let count = rest.len();
@@ -47,36 +47,36 @@ fn first_terminal(tokens: &[Token]) -> Result<(Terminal, &[Token]), Failure> {
 }
 
 /// `eat TERMINAL TEXT`
-pub fn eaten(alloc: Global, tokens: &[Token]) -> Result<String, Failure> {
+pub fn eat_case(alloc: Global, tokens: &[Token]) -> Result<String, Failure> {
     let (terminal, tokens) = first_terminal(tokens)?;
     match eat(tokens, terminal) {
-        Some(rest) => left(alloc, rest),
+        Some(rest) => show_rest(alloc, rest),
         None => none(alloc),
     }
 }
 
 /// `expect TERMINAL TEXT`
-pub fn expected(alloc: Global, tokens: &[Token]) -> Result<String, Failure> {
+pub fn expect_case(alloc: Global, tokens: &[Token]) -> Result<String, Failure> {
     let (terminal, tokens) = first_terminal(tokens)?;
     match expect(tokens, terminal) {
-        Ok(rest) => left(alloc, rest),
-        Err(refusal) => refused(alloc, refusal),
+        Ok(rest) => show_rest(alloc, rest),
+        Err(refusal) => show_refusal(alloc, refusal),
     }
 }
 
 /// `eat_name TEXT`
 pub fn eaten_name(alloc: Global, tokens: &[Token]) -> Result<String, Failure> {
     match eat_name(alloc, tokens) {
-        Ok(Some((name, rest))) => named(alloc, &name, rest),
+        Ok(Some((name, rest))) => show_name(alloc, &name, rest),
         Ok(None) => none(alloc),
-        Err(refusal) => refused(alloc, refusal),
+        Err(refusal) => show_refusal(alloc, refusal),
     }
 }
 
 /// `name_at TEXT`
 pub fn name(alloc: Global, tokens: &[Token]) -> Result<String, Failure> {
     match name_at(alloc, tokens) {
-        Ok((name, rest)) => named(alloc, &name, rest),
-        Err(refusal) => refused(alloc, refusal),
+        Ok((name, rest)) => show_name(alloc, &name, rest),
+        Err(refusal) => show_refusal(alloc, refusal),
     }
 }

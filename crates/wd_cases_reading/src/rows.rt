@@ -1,7 +1,7 @@
 //! The rows of a table from its text, and the text of an answer.
 use crate::refusal::of_rows;
 use std::alloc::Global;
-use wd_cases::{Failure, SchemaText, in_one_line, rows_of, text_of, unescaped};
+use wd_cases::{Failure, SchemaText, in_one_line, rows_of, text_of, unescape};
 use wd_schema::Table;
 use wd_tables::{DataError, answer_text, load};
 use wd_value::{Row, Text, Value};
@@ -15,7 +15,7 @@ fn names_of(alloc: Global, table: &Table) -> Result<Vec<Text>, Failure> {
 }
 
 /// The text of an answer, in one line.
-fn answered(alloc: Global, names: &[Text], rows: &[Row]) -> Result<String, Failure> {
+fn answer_line(alloc: Global, names: &[Text], rows: &[Row]) -> Result<String, Failure> {
     let text = answer_text(alloc, names, rows)?;
     in_one_line(alloc, &text)
 }
@@ -27,11 +27,11 @@ fn rows_shown(alloc: Global, table: &Table, rows: &[Row]) -> Result<String, Fail
         return Ok(format!(in alloc; "rows: {count}")?);
     }
     let names = names_of(alloc, table)?;
-    answered(alloc, &names, rows)
+    answer_line(alloc, &names, rows)
 }
 
 fn loaded_into(alloc: Global, table: &Table, text: &str) -> Result<String, Failure> {
-    let text = unescaped(alloc, text)?;
+    let text = unescape(alloc, text)?;
     match load(alloc, table, &text) {
         Ok(rows) => rows_shown(alloc, table, &rows),
         Err(error) => Err(of_rows(&error)),
@@ -39,7 +39,7 @@ fn loaded_into(alloc: Global, table: &Table, text: &str) -> Result<String, Failu
 }
 
 /// `load NAME TEXT`: the rows of a table of the schema, from their text.
-pub fn loaded(alloc: Global, schema: &SchemaText, text: &str) -> Result<String, Failure> {
+pub fn load_case(alloc: Global, schema: &SchemaText, text: &str) -> Result<String, Failure> {
     let (name, text) = text.split_once(' ').unwrap_or((text, ""));
     let schema = schema.tables(alloc)?;
     match schema.table(name) {
@@ -49,7 +49,7 @@ pub fn loaded(alloc: Global, schema: &SchemaText, text: &str) -> Result<String, 
 }
 
 fn refusal_of(alloc: Global, table: &Table, text: &str) -> Result<Option<DataError>, Failure> {
-    let text = unescaped(alloc, text)?;
+    let text = unescape(alloc, text)?;
     Ok(load(alloc, table, &text).err())
 }
 
@@ -61,7 +61,7 @@ fn why_not(alloc: Global, table: &Table, text: &str) -> Result<String, Failure> 
 }
 
 /// `why NAME TEXT`: why such data is refused.
-pub fn explained(alloc: Global, schema: &SchemaText, text: &str) -> Result<String, Failure> {
+pub fn explain_case(alloc: Global, schema: &SchemaText, text: &str) -> Result<String, Failure> {
     let (name, text) = text.split_once(' ').unwrap_or((text, ""));
     let schema = schema.tables(alloc)?;
     match schema.table(name) {
@@ -84,7 +84,7 @@ fn names_in(alloc: Global, row: &[Value]) -> Result<Vec<Text>, Failure> {
 
 fn answer_of(alloc: Global, names: &[Value], rows: &[Row]) -> Result<String, Failure> {
     let names = names_in(alloc, names)?;
-    answered(alloc, &names, rows)
+    answer_line(alloc, &names, rows)
 }
 
 fn rows_in(alloc: Global, text: &str) -> Result<Vec<Row>, Failure> {

@@ -1,5 +1,5 @@
 use std::alloc::{AllocError, Global};
-use wd_cases::{Failure, SchemaText, rows_of, text_of, unescaped};
+use wd_cases::{Failure, SchemaText, rows_of, text_of, unescape};
 use wd_schema::{Column, Key, Schema, Table, meets, read_schema};
 use wd_value::Instance;
 
@@ -48,7 +48,7 @@ fn schema_shown(alloc: Global, schema: &Schema) -> Result<String, Failure> {
 }
 
 fn schema_of(alloc: Global, text: &str) -> Result<Schema, Failure> {
-    let text = unescaped(alloc, text)?;
+    let text = unescape(alloc, text)?;
     Ok(read_schema(alloc, &text)?)
 }
 
@@ -87,7 +87,7 @@ fn instance_in(alloc: Global, text: &str) -> Result<Instance, Failure> {
 }
 
 /// `meets TABLES`: whether tables with these rows meet the schema.
-pub fn met(alloc: Global, schema: &SchemaText, text: &str) -> Result<String, Failure> {
+pub fn meets_case(alloc: Global, schema: &SchemaText, text: &str) -> Result<String, Failure> {
     let instance = instance_in(alloc, text)?;
     met_by(alloc, schema, &instance)
 }

@@ -1,17 +1,17 @@
 use std::alloc::{AllocError, Global};
-use wd_cases::{Failure, unescaped};
+use wd_cases::{Failure, unescape};
 use wd_lex::{Span, Token, TokenKind, lex};
 
 /// `tokens TEXT`: each token as `kind@start..end`, or why there are none.
 pub fn tokens(alloc: Global, text: &str) -> Result<String, Failure> {
-    let text = unescaped(alloc, text)?;
+    let text = unescape(alloc, text)?;
     match lex(alloc, &text) {
-        Ok(tokens) => Ok(listed(alloc, &tokens)?),
+        Ok(tokens) => Ok(list_tokens(alloc, &tokens)?),
         Err(error) => Failure::from(error).explained(alloc, &error),
     }
 }
 
-fn listed(alloc: Global, tokens: &[Token]) -> Result<String, AllocError> {
+fn list_tokens(alloc: Global, tokens: &[Token]) -> Result<String, AllocError> {
     let mut out = String::new(alloc);
     for token in tokens {
         if !out.is_empty() {

@@ -41,13 +41,13 @@ pub fn certify_simpler(
     certain_has_one();
     let planned = match read_texts(alloc, schema, query) {
         Ok(planned) => planned,
-        Err(error) => return refused(error),
+        Err(error) => return without_certificate(error),
     };
-    certified(alloc, planned)
+    certify(alloc, planned)
 }
 
 /// The answer for a text that is refused: nothing is certified.
-fn refused(error: TextError) -> Result<Option<Certain>, OutOfMemory>
+fn without_certificate(error: TextError) -> Result<Option<Certain>, OutOfMemory>
     ensures none { IfOk result (λ o. o ≡ None) }
     ensures memory { IfErr result (λ _. text_number error ≡ None) }
 {
@@ -58,7 +58,7 @@ fn refused(error: TextError) -> Result<Option<Certain>, OutOfMemory>
 }
 
 /// The simpler plan of a plan that reads the texts, where it is certified.
-fn certified(alloc: Global, planned: PlannedQuery) -> Result<Option<Certain>, OutOfMemory>
+fn certify(alloc: Global, planned: PlannedQuery) -> Result<Option<Certain>, OutOfMemory>
     requires { fits (schema_of planned.schema) (plan_of planned.resolved.plan) ≡ true }
     ensures certain { IfOk result (λ o. IfSome o (λ certain. IsCertainOf certain (schema_of planned.schema) (plan_of planned.resolved.plan))) }
     ensures open { IfOk result (λ o. IfNone o (IsOpenStill (schema_of planned.schema) (plan_of planned.resolved.plan))) }

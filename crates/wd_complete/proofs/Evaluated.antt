@@ -192,9 +192,9 @@ column_before [] v c h = absurd (omega (arith, h))
 column_before (x ∷ row) v zero h = refl
 column_before (x ∷ row) v (suc c) h = column_before row v c (omega (arith, h))
 
-column_behind : (row : Row) (v : Value) → column_of (row ++ v ∷ []) (length row) ≡ v
-column_behind [] v = refl
-column_behind (x ∷ row) v = column_behind row v
+column_after : (row : Row) (v : Value) → column_of (row ++ v ∷ []) (length row) ≡ v
+column_after [] v = refl
+column_after (x ∷ row) v = column_after row v
 
 pub not_once : (eq : Row → Row → Bool) (x y z w : Row) → eq x x ≡ true → eq x z ≡ false → eq x w ≡ false → SameBag eq (x ∷ y ∷ []) (z ∷ w ∷ []) → ⊥
 not_once eq x y z w own e f bag = by (eq x y) refl
@@ -227,7 +227,7 @@ module _ (p : PlainPlan) (r q : Row) where
       long row = length-map p.read (column_of row)
 
       number_at : (row : Row) (n : ℕ) → column_of (numbered (columns_of p.read row) n) (length p.read) ≡ Int (pos n)
-      number_at row n = ap (column_of (numbered (columns_of p.read row) n)) (sym (long row)) ∙ column_behind (columns_of p.read row) (Int (pos n))
+      number_at row n = ap (column_of (numbered (columns_of p.read row) n)) (sym (long row)) ∙ column_after (columns_of p.read row) (Int (pos n))
 
       by_number : same (column_of (numbered a 1) (length p.read)) (column_of (numbered a 2) (length p.read)) ≡ false
       by_number = λ i. same (number_at r 1 i) (number_at r 2 i)

@@ -5,11 +5,11 @@ use Rattle.wd_syntax.specs.Tree as tree
 use Rattle.wd_syntax.specs.Tree.{shown}
 use Rattle.wd_plan.specs.declared.expression.ValueKind.TheVariants.{Text, Truth}
 use Rattle.wd_plan.specs.Plans.{Scan}
-use Rattle.wd_resolve_operand.specs.Formulas.{Leaf}
+use Rattle.wd_resolve_operand.specs.BoundExpressions.{Reference}
 use Rattle.wd_resolve_call.proofs.Meanings.{ok_is}
 use Rattle.wd_resolve_scope.specs.Resolving.{all_defined}
 use Rattle.wd_resolve_call.specs.Rows.{column}
-use Rattle.wd_resolve_call.specs.Windows.{KnownMeaning, WindowMeaning, default_frame}
+use Rattle.wd_resolve_call.specs.Windows.{NamedBoundWindow, BoundWindow, default_frame}
 use Rattle.wd_resolve.specs.Selected.{JoinedTables}
 use Rattle.wd_complete.specs.Examples.{ExampleIsPlain, the_over, unquoted}
 use Rattle.wd_complete.specs.Queries.{IsPlainWindow, in_list, over_meant}
@@ -25,17 +25,17 @@ the_from = record {
 }
 
 -- the window: no partition, in the order of the first column
-abbrev the_window : WindowMeaning
-the_window = record { partition = []; order = record { expression = Leaf (column 0); kind = Truth; key = record { desc = false; nulls_first = false } } ∷ []; frame = default_frame; framed = false }
+abbrev the_window : BoundWindow
+the_window = record { partition = []; order = record { expression = Reference (column 0); kind = Truth; key = record { desc = false; nulls_first = false } } ∷ []; frame = default_frame; framed = false }
 
 the_window_is : IsPlainWindow the_window
 the_window_is = record { partition = tt; order = (tt, tt) }
 
-abbrev PlainKnown : List KnownMeaning → Type 0
-PlainKnown known = (w : WindowMeaning) → over_meant (in_list the_from.scope known) the_over ≡ Ok w → IsPlainWindow w
+abbrev PlainKnown : List NamedBoundWindow → Type 0
+PlainKnown known = (w : BoundWindow) → over_meant (in_list the_from.scope known) the_over ≡ Ok w → IsPlainWindow w
 
 abbrev PlainFrom : JoinedTables → Type 0
-PlainFrom from = (known : List KnownMeaning) → all_defined from.scope None [] [] ≡ Ok known → (w : WindowMeaning) → over_meant (in_list from.scope known) the_over ≡ Ok w → IsPlainWindow w
+PlainFrom from = (known : List NamedBoundWindow) → all_defined from.scope None [] [] ≡ Ok known → (w : BoundWindow) → over_meant (in_list from.scope known) the_over ≡ Ok w → IsPlainWindow w
 
 pub example : ExampleIsPlain
 example = record {

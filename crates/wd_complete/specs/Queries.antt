@@ -11,13 +11,13 @@ use Rattle.wd_schema.specs.Tables.{TableRule}
 use Rattle.wd_plan.specs.declared.function.FunctionName.TheVariants.{RowNumber}
 use Rattle.wd_resolve_operand.specs.declared.cause.Cause.TheVariants.{WrongCall}
 use Rattle.wd_resolve_operand.specs.Causes.{Meant}
-use Rattle.wd_resolve_operand.specs.Formulas.{Leaf}
+use Rattle.wd_resolve_operand.specs.BoundExpressions.{Reference}
 use Rattle.wd_resolve_call.specs.Functions.{function_named}
 use Rattle.wd_resolve_scope.specs.Grouped.{is_grouped}
 use Rattle.wd_resolve_scope.specs.Resolving.{ContextRule, all_defined, window_resolved}
-use Rattle.wd_resolve_call.specs.Rows.{RowFormula, column}
+use Rattle.wd_resolve_call.specs.Rows.{RowExpression, column}
 use Rattle.wd_resolve_scope.specs.Scopes.{ScopeRule}
-use Rattle.wd_resolve_call.specs.Windows.{KeyMeaning, KnownMeaning, WindowMeaning, window_named}
+use Rattle.wd_resolve_call.specs.Windows.{BoundKey, NamedBoundWindow, BoundWindow, window_named}
 use Rattle.wd_resolve_scope.specs.declared.context.Place.TheVariants.{SelectList}
 use Rattle.wd_resolve.specs.Lowering.{is_distinct}
 use Rattle.wd_resolve.specs.Selected.{JoinedTables, called, named_table}
@@ -30,21 +30,21 @@ IsPlainItem (shown (tree.Column name) alias) = ⊤
 IsPlainItem (shown (tree.Qualified table name) alias) = ⊤
 IsPlainItem (shown a alias) = ⊥
 
-abbrev pub IsColumn : RowFormula → Type 0
-IsColumn (Leaf (column c)) = ⊤
+abbrev pub IsColumn : RowExpression → Type 0
+IsColumn (Reference (column c)) = ⊤
 IsColumn f = ⊥
 
 -- a window's partition and its order are columns
-pub record IsPlainWindow (w : WindowMeaning) : Type 0 where
+pub record IsPlainWindow (w : BoundWindow) : Type 0 where
   pub partition : AllByRecursion IsColumn w.partition
-  pub order : AllByRecursion (λ (key : KeyMeaning). IsColumn key.expression) w.order
+  pub order : AllByRecursion (λ (key : BoundKey). IsColumn key.expression) w.order
 
 -- the select list of a select that is not grouped
-abbrev pub in_list : ScopeRule → List KnownMeaning → ContextRule
+abbrev pub in_list : ScopeRule → List NamedBoundWindow → ContextRule
 in_list scope known = record { scope = scope; groups = None; windows = known; place = SelectList }
 
 -- the window that OVER means
-abbrev pub over_meant : ContextRule → OverTree → Meant WindowMeaning
+abbrev pub over_meant : ContextRule → OverTree → Meant BoundWindow
 over_meant c no_over = Err WrongCall
 over_meant c (over_name name) = window_named c.windows name.text
 over_meant c (over_window w) = window_resolved c w
@@ -76,5 +76,5 @@ pub record IsPlainQuery (tables : List TableRule) (q : QueryTree) : Type 0 where
   pub row_number : function_named function.text ≡ Some RowNumber
   -- the window that OVER means has plain columns
   pub window : (from : JoinedTables) → named_table tables table.text (called table alias) ≡ Ok from
-      → (known : List KnownMeaning) → all_defined from.scope None [] windows ≡ Ok known
-      → (w : WindowMeaning) → over_meant (in_list from.scope known) over ≡ Ok w → IsPlainWindow w
+      → (known : List NamedBoundWindow) → all_defined from.scope None [] windows ≡ Ok known
+      → (w : BoundWindow) → over_meant (in_list from.scope known) over ≡ Ok w → IsPlainWindow w

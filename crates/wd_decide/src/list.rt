@@ -74,7 +74,7 @@ impl Examined {
         let Examined { planned, analysis } = self;
         let (witness, _) = seek(alloc, &planned.schema, &planned.resolved.plan, &analysis)?;
         match verdict_of(analysis, witness) {
-            Verdict::Deterministic(certificate) => listed(alloc, &planned, certificate),
+            Verdict::Deterministic(certificate) => verdict_of_list(alloc, &planned, certificate),
             Verdict::Depends(witness) => Ok(ListVerdict::Depends(witness)),
             Verdict::Unknown(reasons) => Ok(ListVerdict::Unknown(reasons)),
         }
@@ -82,7 +82,7 @@ impl Examined {
 }
 
 /// The verdict on the list of a query whose plan has this certificate.
-fn listed(
+fn verdict_of_list(
     alloc: Global,
     planned: &PlannedQuery,
     certificate: Certificate,

@@ -6,7 +6,7 @@ use Rattle.std.proofs.lemmas.Cmp.{nat_eq_equiv}
 use Rattle.wd_plan.specs.declared.window.Call.{Call}
 use Rattle.wd_plan.specs.Plans.{WindowRule}
 use Rattle.wd_frame.specs.Laws.{has_range_offset}
-use Rattle.wd_eval.specs.Listings.{AreAskedBy, asks_keys}
+use Rattle.wd_eval.specs.ClassIndexes.{AreAskedBy, asks_keys}
 
 -- a call of a Window whose frame needs keys asks for those of its class
 pub asked_by_own : (w : WindowRule) (i : ℕ) (call : Call) → i < length w.calls → call ≡ get_or w.calls i call → AreAskedBy call.frame (asks_keys w call.class)

@@ -19,7 +19,7 @@ use Rattle.wd_plan.specs.Plans.{WindowRule}
 use Rattle.wd_steps.proofs.Filtering.{items}
 use Rattle.wd_eval.specs.Beside.{beside, own_value, value_or_null, with_column, with_columns, with_values_of}
 use Rattle.wd_eval.specs.Columns.{AreColumns}
-use Rattle.wd_eval.specs.Listings.{calls_at, first_calls}
+use Rattle.wd_eval.specs.ClassIndexes.{calls_at, first_calls}
 use Rattle.wd_eval.proofs.CallColumns.{one_at}
 
 -- a result with a row in front

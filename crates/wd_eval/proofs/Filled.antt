@@ -18,7 +18,7 @@ use Rattle.wd_frame.specs.Laws.{is_descending}
 use Rattle.wd_partition.specs.Members.{MemberRule, member_of}
 use Rattle.wd_calls.specs.Parts.{AreValues}
 use Rattle.wd_eval.specs.Columns.{AreAt, AreFilled, IsSpread, first_of}
-use Rattle.wd_eval.specs.Listings.{AreAskedBy}
+use Rattle.wd_eval.specs.ClassIndexes.{AreAskedBy}
 use Rattle.wd_eval.proofs.Listed.{own_part, part_by}
 
 module _ (class : ClassRule) (rows : List Row) (ordering : List ℕ) (lawful : IsOrdering class rows ordering) where

@@ -19,7 +19,7 @@ use Rattle.wd_frame.specs.Laws.{is_descending}
 use Rattle.wd_frame.specs.Places.{PartRule}
 use Rattle.wd_partition.specs.Members.{MemberRule, key_numbers, member_of, members_of, number_part}
 use Rattle.wd_calls.specs.Parts.{HasKeys, IsPartOf}
-use Rattle.wd_eval.specs.Listings.{AreAskedBy}
+use Rattle.wd_eval.specs.ClassIndexes.{AreAskedBy}
 
 -- whole numbers alone have a distance
 number_distance : (desc : Bool) (a b : Value) → value_distance desc (number_part a) (number_part b) ≡ value_distance desc a b

@@ -15,14 +15,14 @@ use Rattle.wd_join.specs.declared.error.StepError.{StepError}
 use Rattle.wd_join.specs.declared.error.StepError.TheVariants as step
 use Rattle.wd_eval.specs.Errors.{error_of}
 use Rattle.wd_eval.specs.Steps.{has_larger_step, is_larger}
-use Rattle.wd_nodes.specs.Produced.{produced_of, IsSmall, IsLarge, group_over, join_over}
-use Rattle.wd_eval.specs.Nodes.{IsEvaluated, IsStopped, cut_over, IsCut}
+use Rattle.wd_nodes.specs.Relation.{relation_of, IsSmall, IsLarge, group_over, join_over}
+use Rattle.wd_eval.specs.Nodes.{IsEvaluated, IsStopped, cut_over, IsLimited}
 use Rattle.wd_eval.specs.Windows.{IsUnserved, IsExtended, IsLeast, IsWrong, IsWrongIn, window_over}
 use Rattle.wd_eval.specs.Wrong.{IsWrongFrom}
 use Rattle.wd_eval.specs.declared.error.EvalError.{EvalError}
 use Rattle.wd_eval.specs.declared.error.EvalError.TheVariants.{NotValid, TooManyRows, OutOfMemory}
-use Rattle.wd_nodes.specs.declared.produced.Produced.{Produced}
-use Rattle.wd_nodes.specs.declared.produced.Produced.TheVariants.{Made}
+use Rattle.wd_nodes.specs.declared.relation.Relation.{Relation}
+use Rattle.wd_nodes.specs.declared.relation.Relation.TheVariants.{Made}
 use Rattle.wd_eval.specs.declared.node.Evaluated.{Evaluated}
 use Rattle.wd_eval.proofs.Wrong.{none_wrong, wrong_within}
 use Rattle.wd_eval.proofs.Sizes.{fewer_filter, fewer_map, fewer_distinct, fewer_window, fewer_cut}
@@ -50,7 +50,7 @@ module _ (most : ℕ) (tables instance : Instance) (choice : List (List ℕ)) (f
 
   -- ---- Scan
 
-  pub scan_done : (table columns : ℕ) (o : Produced) → IsSmall most (Ok (table_at instance table)) (produced_of tables o) → IsEvaluated most (Scan table columns) tables instance choice first (record { outcome = o; next = first })
+  pub scan_done : (table columns : ℕ) (o : Relation) → IsSmall most (Ok (table_at instance table)) (relation_of tables o) → IsEvaluated most (Scan table columns) tables instance choice first (record { outcome = o; next = first })
   scan_done table columns o s = record { is = s.is; next = omega arith; served = record { present = omega arith; lawful = tt }; small = s.small; each = s.small }
 
   pub scan_stopped : (table columns : ℕ) (e : StepError) → IsLarge most (Ok (table_at instance table)) e → IsStopped most (Scan table columns) instance choice first (error_of e)
@@ -59,8 +59,8 @@ module _ (most : ℕ) (tables instance : Instance) (choice : List (List ℕ)) (f
 
   -- ---- Filter, Map and Distinct
 
-  module _ (input : PlanTree) (below : Evaluated) (b : IsEvaluated most input tables instance choice first below) (o : Produced) where
-    pub filter_done : (condition : Expression) → produced_of tables o ≡ and_then (produced_of tables below.outcome) (filter_outcome condition) → IsEvaluated most (Filter condition input) tables instance choice first (record { outcome = o; next = below.next })
+  module _ (input : PlanTree) (below : Evaluated) (b : IsEvaluated most input tables instance choice first below) (o : Relation) where
+    pub filter_done : (condition : Expression) → relation_of tables o ≡ and_then (relation_of tables below.outcome) (filter_outcome condition) → IsEvaluated most (Filter condition input) tables instance choice first (record { outcome = o; next = below.next })
     filter_done condition is = record {
       is = is ∙ ap (λ r. and_then r (filter_outcome condition)) b.is;
       next = b.next;
@@ -69,7 +69,7 @@ module _ (most : ℕ) (tables instance : Instance) (choice : List (List ℕ)) (f
       each = neither (has_larger_step most input instance rest) (is_larger most (Filter condition input) instance rest) b.each (fewer_filter most condition (outcome input instance rest) b.small);
     }
 
-    pub map_done : (outputs : List Expression) → produced_of tables o ≡ and_then (produced_of tables below.outcome) (map_outcome outputs) → IsEvaluated most (Map outputs input) tables instance choice first (record { outcome = o; next = below.next })
+    pub map_done : (outputs : List Expression) → relation_of tables o ≡ and_then (relation_of tables below.outcome) (map_outcome outputs) → IsEvaluated most (Map outputs input) tables instance choice first (record { outcome = o; next = below.next })
     map_done outputs is = record {
       is = is ∙ ap (λ r. and_then r (map_outcome outputs)) b.is;
       next = b.next;
@@ -78,7 +78,7 @@ module _ (most : ℕ) (tables instance : Instance) (choice : List (List ℕ)) (f
       each = neither (has_larger_step most input instance rest) (is_larger most (Map outputs input) instance rest) b.each (fewer_map most outputs (outcome input instance rest) b.small);
     }
 
-    pub distinct_done : produced_of tables o ≡ and_then (produced_of tables below.outcome) (λ rows. Ok (distinct rows)) → IsEvaluated most (Distinct input) tables instance choice first (record { outcome = o; next = below.next })
+    pub distinct_done : relation_of tables o ≡ and_then (relation_of tables below.outcome) (λ rows. Ok (distinct rows)) → IsEvaluated most (Distinct input) tables instance choice first (record { outcome = o; next = below.next })
     distinct_done is = record {
       is = is ∙ ap (λ r. and_then r (λ rows. Ok (distinct rows))) b.is;
       next = b.next;
@@ -105,10 +105,10 @@ module _ (most : ℕ) (tables instance : Instance) (choice : List (List ℕ)) (f
   -- ---- Group
 
   module _ (rule : GroupRule) (input : PlanTree) (below : Evaluated) (b : IsEvaluated most input tables instance choice first below) where
-    group_is : group_over rule (produced_of tables below.outcome) ≡ outcome (Group rule input) instance rest
+    group_is : group_over rule (relation_of tables below.outcome) ≡ outcome (Group rule input) instance rest
     group_is = ap (group_over rule) b.is
 
-    pub group_done : (o : Outcome) → IsSmall most (group_over rule (produced_of tables below.outcome)) (outcome_of o) → IsEvaluated most (Group rule input) tables instance choice first (record { outcome = Made o; next = below.next })
+    pub group_done : (o : Outcome) → IsSmall most (group_over rule (relation_of tables below.outcome)) (outcome_of o) → IsEvaluated most (Group rule input) tables instance choice first (record { outcome = Made o; next = below.next })
     group_done o s = record {
       is = s.is ∙ group_is;
       next = b.next;
@@ -117,7 +117,7 @@ module _ (most : ℕ) (tables instance : Instance) (choice : List (List ℕ)) (f
       each = neither (has_larger_step most input instance rest) (is_larger most (Group rule input) instance rest) b.each (ap (has_more_rows most) (sym group_is) ∙ s.small);
     }
 
-    pub group_stopped : (e : StepError) → IsLarge most (group_over rule (produced_of tables below.outcome)) e → IsStopped most (Group rule input) instance choice first (error_of e)
+    pub group_stopped : (e : StepError) → IsLarge most (group_over rule (relation_of tables below.outcome)) e → IsStopped most (Group rule input) instance choice first (error_of e)
     group_stopped step.TooManyRows h = or_right (has_larger_step most input instance rest) (is_larger most (Group rule input) instance rest) (ap (has_more_rows most) (sym group_is) ∙ h)
     group_stopped step.OutOfMemory h = tt
 
@@ -138,7 +138,7 @@ module _ (most : ℕ) (tables instance : Instance) (choice : List (List ℕ)) (f
     own_is : take (length w.classes) (drop below.next choice) ≡ own_window w input
     own_is = ap (take (length w.classes)) (behind (ordering_count input) below.next b.next)
 
-    pub window_done : (o : Produced) (next : ℕ) → IsExtended w (produced_of tables below.outcome) choice below.next (produced_of tables o) → next ≡ below.next + length w.classes → IsEvaluated most (Window w input) tables instance choice first (record { outcome = o; next = next })
+    pub window_done : (o : Relation) (next : ℕ) → IsExtended w (relation_of tables below.outcome) choice below.next (relation_of tables o) → next ≡ below.next + length w.classes → IsEvaluated most (Window w input) tables instance choice first (record { outcome = o; next = next })
     window_done o next x e =
         let long = long_rest within in
         let there = x.served.present in
@@ -148,14 +148,14 @@ module _ (most : ℕ) (tables instance : Instance) (choice : List (List ℕ)) (f
           next = omega arith;
           served = record {
             present = omega arith;
-            lawful = (b.served.lawful, subst (λ (r : RowsOrFault). IsLawfulWindow w r (own_window w input)) b.is (subst (IsLawfulWindow w (produced_of tables below.outcome)) own_is x.served.lawful));
+            lawful = (b.served.lawful, subst (λ (r : RowsOrFault). IsLawfulWindow w r (own_window w input)) b.is (subst (IsLawfulWindow w (relation_of tables below.outcome)) own_is x.served.lawful));
           };
           small = fewer_window most w (own_window w input) (outcome input instance rest) b.small;
           each = neither (has_larger_step most input instance rest) (is_larger most (Window w input) instance rest) b.each (fewer_window most w (own_window w input) (outcome input instance rest) b.small);
         }
 
   pub window_stopped : (w : WindowRule) (input : PlanTree) (below : Evaluated) → IsEvaluated most input tables instance choice first below → (e : EvalError)
-      → IsUnserved (IsLeast (IsWrongIn w (produced_of tables below.outcome) choice below.next)) e → IsStopped most (Window w input) instance choice first e
+      → IsUnserved (IsLeast (IsWrongIn w (relation_of tables below.outcome) choice below.next)) e → IsStopped most (Window w input) instance choice first e
   window_stopped w input below b (NotValid p) h =
       let own = subst (λ (n : ℕ). IsLeast (IsWrongIn w (outcome input instance rest) choice n) p) b.next (subst (λ (r : RowsOrFault). IsLeast (IsWrongIn w r choice below.next) p) b.is h) in (
         inr own.0,
@@ -187,10 +187,10 @@ module _ (most : ℕ) (tables instance : Instance) (choice : List (List ℕ)) (f
     own_at : ordering_at choice below.next ≡ ordering_at rest (ordering_count input)
     own_at = ap (ordering_at choice) b.next ∙ sym (get_or-drop first choice (ordering_count input) [])
 
-    lawful_here : IsLawfulLimit limit (produced_of tables below.outcome) (ordering_at choice below.next) → IsLawfulLimit limit (outcome input instance rest) (ordering_at rest (ordering_count input))
-    lawful_here h = subst (λ (r : RowsOrFault). IsLawfulLimit limit r (ordering_at rest (ordering_count input))) b.is (subst (IsLawfulLimit limit (produced_of tables below.outcome)) own_at h)
+    lawful_here : IsLawfulLimit limit (relation_of tables below.outcome) (ordering_at choice below.next) → IsLawfulLimit limit (outcome input instance rest) (ordering_at rest (ordering_count input))
+    lawful_here h = subst (λ (r : RowsOrFault). IsLawfulLimit limit r (ordering_at rest (ordering_count input))) b.is (subst (IsLawfulLimit limit (relation_of tables below.outcome)) own_at h)
 
-    pub limit_done : (o : Produced) (next : ℕ) → IsCut limit (produced_of tables below.outcome) choice below.next (produced_of tables o) → next ≡ below.next + 1 → IsEvaluated most (Limit limit input) tables instance choice first (record { outcome = o; next = next })
+    pub limit_done : (o : Relation) (next : ℕ) → IsLimited limit (relation_of tables below.outcome) choice below.next (relation_of tables o) → next ≡ below.next + 1 → IsEvaluated most (Limit limit input) tables instance choice first (record { outcome = o; next = next })
     limit_done o next x e =
         let long = long_rest within in
         let there = x.served.present in
@@ -205,7 +205,7 @@ module _ (most : ℕ) (tables instance : Instance) (choice : List (List ℕ)) (f
         }
 
   pub limit_stopped : (limit : LimitRule) (input : PlanTree) (below : Evaluated) → IsEvaluated most input tables instance choice first below → (e : EvalError)
-      → IsUnserved (IsWrong (limit_class limit) (produced_of tables below.outcome) choice below.next) e → IsStopped most (Limit limit input) instance choice first e
+      → IsUnserved (IsWrong (limit_class limit) (relation_of tables below.outcome) choice below.next) e → IsStopped most (Limit limit input) instance choice first e
   limit_stopped limit input below b (NotValid p) h =
       let own = subst (λ (n : ℕ). IsWrong (limit_class limit) (outcome input instance rest) choice n p) b.next (subst (λ (r : RowsOrFault). IsWrong (limit_class limit) r choice below.next p) b.is h) in (
         inr own,
@@ -268,21 +268,21 @@ module _ (most : ℕ) (tables instance : Instance) (choice : List (List ℕ)) (f
 
     module _ (r : Evaluated) (b : IsEvaluated most right tables instance choice l.next r) where
       abbrev below : RowsOrFault
-      below = join_over condition (produced_of tables l.outcome) (produced_of tables r.outcome)
+      below = join_over condition (relation_of tables l.outcome) (relation_of tables r.outcome)
 
       below_is : below ≡ outcome (Join condition left right) instance all
       below_is = λ i. join_over condition (a.is i) (right_outcome i)
         where
-          right_outcome : produced_of tables r.outcome ≡ outcome right instance on_right
+          right_outcome : relation_of tables r.outcome ≡ outcome right instance on_right
           right_outcome = b.is ∙ ap (outcome right instance) right_is
 
-      pub join_done : (o : Produced) → IsSmall most below (produced_of tables o) → IsEvaluated most (Join condition left right) tables instance choice first (record { outcome = o; next = r.next })
+      pub join_done : (o : Relation) → IsSmall most below (relation_of tables o) → IsEvaluated most (Join condition left right) tables instance choice first (record { outcome = o; next = r.next })
       join_done o s =
           let here = a.next in
           let there = b.next in
           let on_left = a.served.present in
           let d = length-drop (ordering_count left) all in
-          let behind_left : ordering_count right ≤ length on_right = subst (λ ch. ordering_count right ≤ length ch) right_is b.served.present in
+          let after_left : ordering_count right ≤ length on_right = subst (λ ch. ordering_count right ≤ length ch) right_is b.served.present in
           record {
             is = s.is ∙ below_is;
             next = omega arith;

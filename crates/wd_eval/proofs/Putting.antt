@@ -10,15 +10,15 @@ use Rattle.wd_plan.specs.Outcomes.{RowsOrFault, class_at, ordering_at}
 use Rattle.wd_plan.specs.Plans.{ClassRule, LimitRule, WindowRule}
 use Rattle.wd_plan.specs.Sorting.{IsOrdering, limit_class}
 use Rattle.wd_partition.proofs.Grouping.{IsOrdering-from_given}
-use Rattle.wd_eval.specs.Nodes.{IsCut, cut_over}
+use Rattle.wd_eval.specs.Nodes.{IsLimited, cut_over}
 use Rattle.wd_eval.specs.Windows.{HasOrdering, IsWindowServed}
-use Rattle.wd_eval.specs.Listings.{AreListings, IsListingIn}
-use Rattle.wd_eval.specs.declared.listing.Listing.{Listing}
+use Rattle.wd_eval.specs.ClassIndexes.{AreClassIndexes, IsClassIndexIn}
+use Rattle.wd_eval.specs.declared.class_index.ClassIndex.{ClassIndex}
 use Rattle.wd_eval.specs.Tied.{IsSortedOver, turn_of}
 use Rattle.wd_eval.specs.Ties.{ArePut, AreSortedOver, IsPutEmpty, IsTiedLimit, IsTiedWindow}
 use Rattle.wd_partition.specs.declared.turn.Turn.{Turn}
 use Rattle.wd_eval.specs.declared.turned.Turned.{Turned}
-use Rattle.wd_eval.proofs.Serving.{all_from_each, listings_more}
+use Rattle.wd_eval.proofs.Serving.{all_from_each, indexes_more}
 
 pub lawful_over : (class : ClassRule) (turn : Turn) (input : RowsOrFault) (ordering : List ℕ) → IsSortedOver class turn input ordering → AtRows input (λ rows. IsOrdering class rows ordering) (ordering ≡ [])
 lawful_over class turn (Ok rows) ordering s = IsOrdering-from_given class rows turn ordering s
@@ -43,7 +43,7 @@ module _ (limit : LimitRule) (input : RowsOrFault) (turned : Option Turned) (old
     own = own;
     grown = grown;
     sorted = subst (λ (t : Turn). IsSortedOver (limit_class limit) t input own) (e ∙ ap (turn_of turned) at) sorted;
-    is = subst (λ (n : ℕ). IsCut limit input new n found) at (record { served = limit_put; is = is ∙ ap (λ ordering. cut_over limit ordering input) (sym own_is) });
+    is = subst (λ (n : ℕ). IsLimited limit input new n found) at (record { served = limit_put; is = is ∙ ap (λ ordering. cut_over limit ordering input) (sym own_is) });
   }
 
 -- ---- a Window
@@ -132,24 +132,24 @@ one_put w input turned n number old mid new turn ordering p at taken sorted e =
 
 -- ---- the partitions under them
 
-listings_grown : (w : WindowRule) (rows : List Row) (choice more : List (List ℕ)) (first n : ℕ) (ls : List Listing) → AreListings w rows choice first n ls → AreListings w rows (choice ++ more) first n ls
-listings_grown w rows choice more first n ls a =
+indexes_grown : (w : WindowRule) (rows : List Row) (choice more : List (List ℕ)) (first n : ℕ) (ls : List ClassIndex) → AreClassIndexes w rows choice first n ls → AreClassIndexes w rows (choice ++ more) first n ls
+indexes_grown w rows choice more first n ls a =
     let there = a.present in
     let long = length-append choice more in
     record {
       long = a.long;
       present = omega arith;
-      each = λ k l h. subst (λ (o : List ℕ). IsListingIn w k rows o (get_or ls k l)) (sym (get_or_append_left choice more [] (first + k) (omega arith))) (a.each k l h);
+      each = λ k l h. subst (λ (o : List ℕ). IsClassIndexIn w k rows o (get_or ls k l)) (sym (get_or_append_left choice more [] (first + k) (omega arith))) (a.each k l h);
     }
 
-pub none_listed : (w : WindowRule) (rows : List Row) (old : List (List ℕ)) → AreListings w rows old (length old) 0 []
+pub none_listed : (w : WindowRule) (rows : List Row) (old : List (List ℕ)) → AreClassIndexes w rows old (length old) 0 []
 none_listed w rows old = record { long = refl; present = omega arith; each = λ k l h. absurd (omega arith) }
 
 -- those of one class more
-pub one_listed : (w : WindowRule) (rows : List Row) (first n : ℕ) (mid new : List (List ℕ)) (ordering : List ℕ) (ls more : List Listing) (l : Listing)
-    → first + n ≡ length mid → new ≡ mid ++ ordering ∷ [] → AreListings w rows mid first n ls → IsListingIn w n rows ordering l → more ≡ ls ++ l ∷ [] → AreListings w rows new first (n + 1) more
+pub one_listed : (w : WindowRule) (rows : List Row) (first n : ℕ) (mid new : List (List ℕ)) (ordering : List ℕ) (ls more : List ClassIndex) (l : ClassIndex)
+    → first + n ≡ length mid → new ≡ mid ++ ordering ∷ [] → AreClassIndexes w rows mid first n ls → IsClassIndexIn w n rows ordering l → more ≡ ls ++ l ∷ [] → AreClassIndexes w rows new first (n + 1) more
 one_listed w rows first n mid new ordering ls more l at e a b f =
-    let grown : AreListings w rows new first n ls = subst (λ (ch : List (List ℕ)). AreListings w rows ch first n ls) (sym e) (listings_grown w rows mid (ordering ∷ []) first n ls a) in
+    let grown : AreClassIndexes w rows new first n ls = subst (λ (ch : List (List ℕ)). AreClassIndexes w rows ch first n ls) (sym e) (indexes_grown w rows mid (ordering ∷ []) first n ls a) in
     let long = ap length e ∙ length-append mid (ordering ∷ []) in
     let here : ordering_at new (first + n) ≡ ordering = ap (ordering_at new) at ∙ ap (λ ch. ordering_at ch (length mid)) e ∙ get_or-append_seam mid ordering [] [] in
-    listings_more w rows new first n ls more l grown (record { present = omega arith; is = subst (λ (o : List ℕ). IsListingIn w n rows o l) (sym here) b }) f
+    indexes_more w rows new first n ls more l grown (record { present = omega arith; is = subst (λ (o : List ℕ). IsClassIndexIn w n rows o l) (sym here) b }) f

@@ -13,8 +13,8 @@ use Rattle.wd_plan.specs.Sorting.{IsOrdering}
 use Rattle.wd_eval.specs.Windows.{AreUnserved, HasOrdering, IsExtended, IsLeast, IsUnserved, IsWindowServed, IsWrong}
 use Rattle.wd_eval.specs.declared.error.EvalError.{EvalError}
 use Rattle.wd_eval.specs.declared.error.EvalError.TheVariants.{NotValid, TooManyRows, OutOfMemory}
-use Rattle.wd_eval.specs.Listings.{AreEmpty, AreListed, AreListings, IsEmptyAt, IsListed, IsListingIn, IsNotEmptyIn, WhereListed, asks_keys}
-use Rattle.wd_eval.specs.declared.listing.Listing.{Listing}
+use Rattle.wd_eval.specs.ClassIndexes.{AreEmpty, AreIndexed, AreClassIndexes, IsEmptyAt, IsIndexed, IsClassIndexIn, IsNotEmptyIn, WhereIndexed, asks_keys}
+use Rattle.wd_eval.specs.declared.class_index.ClassIndex.{ClassIndex}
 
 own_at : (choice : List (List ℕ)) (first m k : ℕ) → k < m → ordering_at (take m (drop first choice)) k ≡ ordering_at choice (first + k)
 own_at choice first m k h = get_or-take m (drop first choice) k [] h ∙ get_or-drop first choice k []
@@ -27,9 +27,9 @@ pub class_is : (window : Window) (class : Class) (n : ℕ) → n < length window
 class_is window class n lt is = sym (get_or-map class_of window.classes.items n class (record { partition = []; order = [] }) lt ∙ ap class_of (sym is))
 
 -- the first class that does not serve stops its Window
-pub class_unserved : (window : Window) (class : Class) (rows : List Row) (choice : List (List ℕ)) (first k : ℕ) (listings : List Listing) → k < length window.classes.items → class ≡ get_or window.classes.items k class
-    → AreListings (window_of window) rows choice first k listings → (HasOrdering (class_of class) (Ok rows) choice (first + k) → ⊥) → AreUnserved (window_of window) (Ok rows) choice first (NotValid (first + k))
-class_unserved window class rows choice first k listings lt is a h =
+pub class_unserved : (window : Window) (class : Class) (rows : List Row) (choice : List (List ℕ)) (first k : ℕ) (indexes : List ClassIndex) → k < length window.classes.items → class ≡ get_or window.classes.items k class
+    → AreClassIndexes (window_of window) rows choice first k indexes → (HasOrdering (class_of class) (Ok rows) choice (first + k) → ⊥) → AreUnserved (window_of window) (Ok rows) choice first (NotValid (first + k))
+class_unserved window class rows choice first k indexes lt is a h =
     let classes = window.classes.items in
     let long = length-map classes class_of in
     let there = a.present in (
@@ -48,44 +48,44 @@ class_unserved window class rows choice first k listings lt is a h =
     )
 
 -- the partitions of one class more
-pub listings_more : (w : WindowRule) (rows : List Row) (choice : List (List ℕ)) (first n : ℕ) (ls more : List Listing) (l : Listing)
-    → AreListings w rows choice first n ls → IsListed (class_at w n) (asks_keys w n) rows choice (first + n) l → more ≡ ls ++ l ∷ [] → AreListings w rows choice first (n + 1) more
-listings_more w rows choice first n ls more l a b e =
+pub indexes_more : (w : WindowRule) (rows : List Row) (choice : List (List ℕ)) (first n : ℕ) (ls more : List ClassIndex) (l : ClassIndex)
+    → AreClassIndexes w rows choice first n ls → IsIndexed (class_at w n) (asks_keys w n) rows choice (first + n) l → more ≡ ls ++ l ∷ [] → AreClassIndexes w rows choice first (n + 1) more
+indexes_more w rows choice first n ls more l a b e =
     let there = b.present in
     let long = a.long in
-    let last : (d : Listing) → get_or more n d ≡ l = λ d. ap (λ xs. get_or xs n d) e ∙ ap (λ k. get_or (ls ++ l ∷ []) k d) (sym long) ∙ get_or-append_seam ls l [] d in
-    let earlier : (k : ℕ) → k < n → (d : Listing) → IsListingIn w k rows (ordering_at choice (first + k)) (get_or more k d) =
-    λ k h d. (let within : k < length ls = omega arith in subst (λ (x : Listing). IsListingIn w k rows (ordering_at choice (first + k)) x) (sym (ap (λ xs. get_or xs k d) e ∙ get_or_append_left ls (l ∷ []) d k within)) (a.each k d h)) in
-    let here : (d : Listing) → IsListingIn w n rows (ordering_at choice (first + n)) (get_or more n d) =
-    λ d. subst (λ (x : Listing). IsListingIn w n rows (ordering_at choice (first + n)) x) (sym (last d)) b.is in
+    let last : (d : ClassIndex) → get_or more n d ≡ l = λ d. ap (λ xs. get_or xs n d) e ∙ ap (λ k. get_or (ls ++ l ∷ []) k d) (sym long) ∙ get_or-append_seam ls l [] d in
+    let earlier : (k : ℕ) → k < n → (d : ClassIndex) → IsClassIndexIn w k rows (ordering_at choice (first + k)) (get_or more k d) =
+    λ k h d. (let within : k < length ls = omega arith in subst (λ (x : ClassIndex). IsClassIndexIn w k rows (ordering_at choice (first + k)) x) (sym (ap (λ xs. get_or xs k d) e ∙ get_or_append_left ls (l ∷ []) d k within)) (a.each k d h)) in
+    let here : (d : ClassIndex) → IsClassIndexIn w n rows (ordering_at choice (first + n)) (get_or more n d) =
+    λ d. subst (λ (x : ClassIndex). IsClassIndexIn w n rows (ordering_at choice (first + n)) x) (sym (last d)) b.is in
     record {
       long = ap length e ∙ length-append ls (l ∷ []) ∙ ap (λ k. k + 1) long;
       present = omega arith;
-      each = λ k d h. below_more (λ i. (d : Listing) → IsListingIn w i rows (ordering_at choice (first + i)) (get_or more i d)) n earlier here k h d;
+      each = λ k d h. below_more (λ i. (d : ClassIndex) → IsClassIndexIn w i rows (ordering_at choice (first + i)) (get_or more i d)) n earlier here k h d;
     }
 
 module _ (w : WindowRule) (rows : List Row) (choice : List (List ℕ)) (first : ℕ) where
   abbrev own : List (List ℕ)
   own = take (length w.classes) (drop first choice)
 
-  pub listed : (listings : List Listing) → AreListings w rows choice first (length w.classes) listings → AreListed w rows own listings
-  listed listings a = record {
+  pub listed : (indexes : List ClassIndex) → AreClassIndexes w rows choice first (length w.classes) indexes → AreIndexed w rows own indexes
+  listed indexes a = record {
     long = a.long;
-    each = λ k l h. subst (λ (o : List ℕ). IsListingIn w k rows o (get_or listings k l)) (sym (own_at choice first (length w.classes) k h)) (a.each k l h);
+    each = λ k l h. subst (λ (o : List ℕ). IsClassIndexIn w k rows o (get_or indexes k l)) (sym (own_at choice first (length w.classes) k h)) (a.each k l h);
   }
 
-  pub served : (listings : List Listing) → AreListings w rows choice first (length w.classes) listings → IsWindowServed w (Ok rows) choice first
-  served listings a = record {
+  pub served : (indexes : List ClassIndex) → AreClassIndexes w rows choice first (length w.classes) indexes → IsWindowServed w (Ok rows) choice first
+  served indexes a = record {
     present = a.present;
     lawful = record {
       number = length_own choice first (length w.classes) a.present;
-      each = λ k h. ((listed listings a).each k (record { partitions = []; desc = false }) h).lawful;
+      each = λ k h. ((listed indexes a).each k (record { partitions = []; desc = false }) h).lawful;
     };
   }
 
-  pub rows_done : (listings : List Listing) (found : RowsOrFault) → AreListings w rows choice first (length w.classes) listings
-      → WhereListed w rows listings (λ orderings. found ≡ window_outcome w rows orderings) → IsExtended w (Ok rows) choice first found
-  rows_done listings found a is = record { served = served listings a; is = is own (listed listings a) }
+  pub rows_done : (indexes : List ClassIndex) (found : RowsOrFault) → AreClassIndexes w rows choice first (length w.classes) indexes
+      → WhereIndexed w rows indexes (λ orderings. found ≡ window_outcome w rows orderings) → IsExtended w (Ok rows) choice first found
+  rows_done indexes found a is = record { served = served indexes a; is = is own (listed indexes a) }
 
 -- ---- an input that is a fault
 

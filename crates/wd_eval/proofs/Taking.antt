@@ -4,11 +4,11 @@ use Rattle.std.proofs.lemmas.List.{get_or_default}
 use Rattle.wd_value.specs.Bags.{EachOnce}
 use Rattle.wd_plan.specs.Partitions.{place_in}
 use Rattle.wd_partition.proofs.Marks.{below_once, own_place}
-use Rattle.wd_steps.specs.Cuts.{IsStretchOf}
+use Rattle.wd_steps.specs.Cuts.{IsSliceOf}
 use Rattle.wd_columns.specs.Moves.{AreDifferent, AreWithin}
 
 -- in a list that has each position once, also in a part of it
-pub different : (n : ℕ) (ordering part : List ℕ) → EachOnce n ordering → IsStretchOf ordering part → AreDifferent part
+pub different : (n : ℕ) (ordering part : List ℕ) → EachOnce n ordering → IsSliceOf ordering part → AreDifferent part
 different n ordering part once p = λ i j before within same. (
     let fits = p.within in
     let here = own_place n ordering (p.start + i) once (omega arith) in
@@ -18,7 +18,7 @@ different n ordering part once p = λ i j before within same. (
     omega arith)
 
 -- and each position in such a part is one of a row
-pub within : (n : ℕ) (ordering part : List ℕ) → EachOnce n ordering → IsStretchOf ordering part → AreWithin n part
+pub within : (n : ℕ) (ordering part : List ℕ) → EachOnce n ordering → IsSliceOf ordering part → AreWithin n part
 within n ordering part once p = λ k d low. (
     let fits = p.within in
     let below : get_or ordering (p.start + k) 0 < n = below_once n ordering (p.start + k) once (omega arith) in

@@ -16,7 +16,7 @@ use Rattle.wd_join.specs.declared.error.StepError.{StepError}
 use Rattle.wd_join.specs.declared.error.StepError.TheVariants as step
 use Rattle.wd_eval.specs.Errors.{error_of}
 use Rattle.wd_eval.specs.Judged.{IsOutcome}
-use Rattle.wd_nodes.specs.Produced.{produced_of, IsLarge, IsSmall, group_over, join_over, most_rows}
+use Rattle.wd_nodes.specs.Relation.{relation_of, IsLarge, IsSmall, group_over, join_over, most_rows}
 use Rattle.wd_eval.specs.Nodes.{IsEvaluated, cut_over}
 use Rattle.wd_eval.specs.Windows.{window_over}
 use Rattle.wd_eval.specs.Steps.{has_large_step, is_large}
@@ -24,8 +24,8 @@ use Rattle.wd_eval.specs.Tied.{AreTied, IsSortedOver, IsValidTurnedChoice, turn_
 use Rattle.wd_eval.specs.Ties.{IsTied, IsTiedLimit, IsTiedWindow, IsUntied, IsOutOfMemory}
 use Rattle.wd_eval.specs.declared.error.EvalError.{EvalError}
 use Rattle.wd_eval.specs.declared.error.EvalError.TheVariants.{NotValid, TooManyRows, OutOfMemory}
-use Rattle.wd_nodes.specs.declared.produced.Produced.{Produced}
-use Rattle.wd_nodes.specs.declared.produced.Produced.TheVariants.{Made}
+use Rattle.wd_nodes.specs.declared.relation.Relation.{Relation}
+use Rattle.wd_nodes.specs.declared.relation.Relation.TheVariants.{Made}
 use Rattle.wd_eval.specs.declared.node.Evaluated.{Evaluated}
 use Rattle.wd_partition.specs.declared.turn.Turn.{Turn}
 use Rattle.wd_eval.specs.declared.turned.Turned.{Turned}
@@ -154,7 +154,7 @@ module _ (tables instance : Instance) (turned : Option Turned) (old : List (List
   grown_long : (mid own : List (List ℕ)) → mid ≡ old ++ own → length old ≤ length mid
   grown_long mid own e = let long = ap length e ∙ length-append old own in omega arith
 
-  pub scan_tied : (table columns : ℕ) (o : Produced) → IsSmall most_rows (Ok (table_at instance table)) (produced_of tables o) → IsTied (Scan table columns) tables instance turned old old o
+  pub scan_tied : (table columns : ℕ) (o : Relation) → IsSmall most_rows (Ok (table_at instance table)) (relation_of tables o) → IsTied (Scan table columns) tables instance turned old old o
   scan_tied table columns o s = record {
     own = [];
     grown = sym (append-nil old);
@@ -162,8 +162,8 @@ module _ (tables instance : Instance) (turned : Option Turned) (old : List (List
     tied = tt;
   }
 
-  module _ (input : PlanTree) (new : List (List ℕ)) (below : Produced) (b : IsTied input tables instance turned old new below) (o : Produced) where
-    pub filter_tied : (condition : Expression) → produced_of tables o ≡ and_then (produced_of tables below) (filter_outcome condition) → IsTied (Filter condition input) tables instance turned old new o
+  module _ (input : PlanTree) (new : List (List ℕ)) (below : Relation) (b : IsTied input tables instance turned old new below) (o : Relation) where
+    pub filter_tied : (condition : Expression) → relation_of tables o ≡ and_then (relation_of tables below) (filter_outcome condition) → IsTied (Filter condition input) tables instance turned old new o
     filter_tied condition is = record {
       own = b.own;
       grown = b.grown;
@@ -171,7 +171,7 @@ module _ (tables instance : Instance) (turned : Option Turned) (old : List (List
       tied = b.tied;
     }
 
-    pub map_tied : (outputs : List Expression) → produced_of tables o ≡ and_then (produced_of tables below) (map_outcome outputs) → IsTied (Map outputs input) tables instance turned old new o
+    pub map_tied : (outputs : List Expression) → relation_of tables o ≡ and_then (relation_of tables below) (map_outcome outputs) → IsTied (Map outputs input) tables instance turned old new o
     map_tied outputs is = record {
       own = b.own;
       grown = b.grown;
@@ -179,7 +179,7 @@ module _ (tables instance : Instance) (turned : Option Turned) (old : List (List
       tied = b.tied;
     }
 
-    pub distinct_tied : produced_of tables o ≡ and_then (produced_of tables below) (λ rows. Ok (distinct rows)) → IsTied (Distinct input) tables instance turned old new o
+    pub distinct_tied : relation_of tables o ≡ and_then (relation_of tables below) (λ rows. Ok (distinct rows)) → IsTied (Distinct input) tables instance turned old new o
     distinct_tied is = record {
       own = b.own;
       grown = b.grown;
@@ -207,8 +207,8 @@ module _ (tables instance : Instance) (turned : Option Turned) (old : List (List
   group_untied_below rule input TooManyRows h = λ choice long s. or_left (has_large_step input instance choice) (is_large (Group rule input) instance choice) (h choice long s)
   group_untied_below rule input OutOfMemory h = tt
 
-  module _ (rule : GroupRule) (input : PlanTree) (new : List (List ℕ)) (below : Produced) (b : IsTied input tables instance turned old new below) where
-    pub group_tied : (o : Outcome) → IsSmall most_rows (group_over rule (produced_of tables below)) (outcome_of o) → IsTied (Group rule input) tables instance turned old new (Made o)
+  module _ (rule : GroupRule) (input : PlanTree) (new : List (List ℕ)) (below : Relation) (b : IsTied input tables instance turned old new below) where
+    pub group_tied : (o : Outcome) → IsSmall most_rows (group_over rule (relation_of tables below)) (outcome_of o) → IsTied (Group rule input) tables instance turned old new (Made o)
     group_tied o s = record {
       own = b.own;
       grown = b.grown;
@@ -216,12 +216,12 @@ module _ (tables instance : Instance) (turned : Option Turned) (old : List (List
       tied = b.tied;
     }
 
-    large_group : has_more_rows most_rows (group_over rule (produced_of tables below)) ≡ true → (choice : List (List ℕ)) → ordering_count input ≤ length choice → AreTied input instance turned (length old) choice → is_large (Group rule input) instance choice ≡ true
+    large_group : has_more_rows most_rows (group_over rule (relation_of tables below)) ≡ true → (choice : List (List ℕ)) → ordering_count input ≤ length choice → AreTied input instance turned (length old) choice → is_large (Group rule input) instance choice ≡ true
     large_group h choice long s =
         let same : outcome input instance choice ≡ outcome input instance (drop (length old) new) = one_outcome instance turned input (length old) choice (drop (length old) new) long b.evaluated.served.present s b.tied in
         ap (λ r. has_more_rows most_rows (group_over rule r)) (same ∙ sym b.evaluated.is) ∙ h
 
-    pub group_untied : (e : StepError) → IsLarge most_rows (group_over rule (produced_of tables below)) e → IsUntied (Group rule input) instance turned (length old) (error_of e)
+    pub group_untied : (e : StepError) → IsLarge most_rows (group_over rule (relation_of tables below)) e → IsUntied (Group rule input) instance turned (length old) (error_of e)
     group_untied step.TooManyRows h = λ choice long s. or_right (has_large_step input instance choice) (is_large (Group rule input) instance choice) (large_group h choice long s)
     group_untied step.OutOfMemory h = tt
 
@@ -237,7 +237,7 @@ module _ (tables instance : Instance) (turned : Option Turned) (old : List (List
 
   -- ---- what stands after the orderings of a node below
 
-  module _ (plan : PlanTree) (mid own new : List (List ℕ)) (o : Produced) (b : IsTied plan tables instance turned old mid o) (e : new ≡ mid ++ own) where
+  module _ (plan : PlanTree) (mid own new : List (List ℕ)) (o : Relation) (b : IsTied plan tables instance turned old mid o) (e : new ≡ mid ++ own) where
     abbrev at_mid : Evaluated
     at_mid = record { outcome = o; next = length mid }
 
@@ -260,13 +260,13 @@ module _ (tables instance : Instance) (turned : Option Turned) (old : List (List
         ∙ ap (λ ch. get_or ch (length mid + k) []) e
         ∙ get_or-append-add mid own k []
 
-    pub below_is : produced_of tables o ≡ outcome plan instance (drop (length old) new)
+    pub below_is : relation_of tables o ≡ outcome plan instance (drop (length old) new)
     below_is = still.is
 
     pub grown_more : new ≡ old ++ (b.own ++ own)
     grown_more = e ∙ ap (λ ch. ch ++ own) b.grown ∙ append_assoc old b.own own
 
-  pub window_tied : (w : WindowRule) (input : PlanTree) (mid new : List (List ℕ)) (below o : Produced) → IsTied input tables instance turned old mid below → IsTiedWindow w (produced_of tables below) turned mid new (produced_of tables o) → IsTied (Window w input) tables instance turned old new o
+  pub window_tied : (w : WindowRule) (input : PlanTree) (mid new : List (List ℕ)) (below o : Relation) → IsTied input tables instance turned old mid below → IsTiedWindow w (relation_of tables below) turned mid new (relation_of tables o) → IsTied (Window w input) tables instance turned old new o
   window_tied w input mid new below o b x =
       let own = x.put.own in
       let e = x.put.grown in
@@ -286,11 +286,11 @@ module _ (tables instance : Instance) (turned : Option Turned) (old : List (List
               let number : length mid + k ≡ length old + ordering_count input + k = omega arith in
               subst (IsSortedOver (class_at w k) (turn_of turned (length old + ordering_count input + k)) (outcome input instance (drop (length old) new))) (sym (put_at input mid own new below b e k))
               (subst (λ (r : RowsOrFault). IsSortedOver (class_at w k) (turn_of turned (length old + ordering_count input + k)) r (ordering_at own k)) (below_is input mid own new below b e)
-              (subst (λ (n : ℕ). IsSortedOver (class_at w k) (turn_of turned n) (produced_of tables below) (ordering_at own k)) number (sorted.each k l)))),
+              (subst (λ (n : ℕ). IsSortedOver (class_at w k) (turn_of turned n) (relation_of tables below) (ordering_at own k)) number (sorted.each k l)))),
         );
       }
 
-  pub limit_tied : (limit : LimitRule) (input : PlanTree) (mid new : List (List ℕ)) (below o : Produced) → IsTied input tables instance turned old mid below → IsTiedLimit limit (produced_of tables below) turned mid new (produced_of tables o) → IsTied (Limit limit input) tables instance turned old new o
+  pub limit_tied : (limit : LimitRule) (input : PlanTree) (mid new : List (List ℕ)) (below o : Relation) → IsTied input tables instance turned old mid below → IsTiedLimit limit (relation_of tables below) turned mid new (relation_of tables o) → IsTied (Limit limit input) tables instance turned old new o
   limit_tied limit input mid new below o b x =
       let own = x.own ∷ [] in
       let e = x.grown in
@@ -308,7 +308,7 @@ module _ (tables instance : Instance) (turned : Option Turned) (old : List (List
           still_tied input mid own new below b e,
           subst (IsSortedOver (limit_class limit) (turn_of turned (length old + ordering_count input)) (outcome input instance (drop (length old) new))) (sym at)
               (subst (λ (r : RowsOrFault). IsSortedOver (limit_class limit) (turn_of turned (length old + ordering_count input)) r x.own) (below_is input mid own new below b e)
-              (subst (λ (n : ℕ). IsSortedOver (limit_class limit) (turn_of turned n) (produced_of tables below) x.own) number x.sorted)),
+              (subst (λ (n : ℕ). IsSortedOver (limit_class limit) (turn_of turned n) (relation_of tables below) x.own) number x.sorted)),
         );
       }
 
@@ -323,7 +323,7 @@ module _ (tables instance : Instance) (turned : Option Turned) (old : List (List
         or_left (on_left || on_right) (is_large (Join condition left right) instance choice) (or_left on_left on_right (h choice (omega arith) s.0)))
     join_untied_left OutOfMemory h = tt
 
-    module _ (mid : List (List ℕ)) (lo : Produced) (l : IsTied left tables instance turned old mid lo) where
+    module _ (mid : List (List ℕ)) (lo : Relation) (l : IsTied left tables instance turned old mid lo) where
       pub join_untied_right : (e : EvalError) → IsUntied right instance turned (length mid) e → IsUntied (Join condition left right) instance turned (length old) e
       join_untied_right (NotValid p) h = h
       join_untied_right TooManyRows h = λ choice long s. (
@@ -335,7 +335,7 @@ module _ (tables instance : Instance) (turned : Option Turned) (old : List (List
           (or_right on_left on_right (h (drop n choice) (omega arith) (subst (λ (k : ℕ). AreTied right instance turned k (drop n choice)) (sym l.evaluated.next) s.1))))
       join_untied_right OutOfMemory h = tt
 
-      module _ (new : List (List ℕ)) (ro : Produced) (r : IsTied right tables instance turned mid new ro) where
+      module _ (new : List (List ℕ)) (ro : Relation) (r : IsTied right tables instance turned mid new ro) where
         right_rest : drop (ordering_count left) (drop (length old) new) ≡ drop (length mid) new
         right_rest = drop-drop (ordering_count left) (length old) new ∙ ap (λ k. drop k new) (sym l.evaluated.next)
 
@@ -345,7 +345,7 @@ module _ (tables instance : Instance) (turned : Option Turned) (old : List (List
         both_tied : AreTied (Join condition left right) instance turned (length old) (drop (length old) new)
         both_tied = (still_tied left mid r.own new lo l r.grown, right_tied)
 
-        pub join_tied : (o : Produced) → IsSmall most_rows (join_over condition (produced_of tables lo) (produced_of tables ro)) (produced_of tables o) → IsTied (Join condition left right) tables instance turned old new o
+        pub join_tied : (o : Relation) → IsSmall most_rows (join_over condition (relation_of tables lo) (relation_of tables ro)) (relation_of tables o) → IsTied (Join condition left right) tables instance turned old new o
         join_tied o s = record {
           own = l.own ++ r.own;
           grown = grown_more left mid r.own new lo l r.grown;
@@ -353,24 +353,24 @@ module _ (tables instance : Instance) (turned : Option Turned) (old : List (List
           tied = both_tied;
         }
 
-        large_here : has_more_rows most_rows (join_over condition (produced_of tables lo) (produced_of tables ro)) ≡ true → (choice : List (List ℕ)) → ordering_count left + ordering_count right ≤ length choice → AreTied (Join condition left right) instance turned (length old) choice → is_large (Join condition left right) instance choice ≡ true
+        large_here : has_more_rows most_rows (join_over condition (relation_of tables lo) (relation_of tables ro)) ≡ true → (choice : List (List ℕ)) → ordering_count left + ordering_count right ≤ length choice → AreTied (Join condition left right) instance turned (length old) choice → is_large (Join condition left right) instance choice ≡ true
         large_here h choice long s =
             let next = l.evaluated.next in
             let last = r.evaluated.next in
             let size = length-drop (length old) new in
             let enough : ordering_count left + ordering_count right ≤ length (drop (length old) new) = omega arith in
             let same : outcome (Join condition left right) instance choice ≡ outcome (Join condition left right) instance (drop (length old) new) = one_outcome instance turned (Join condition left right) (length old) choice (drop (length old) new) long enough s both_tied in
-            let on_left : produced_of tables lo ≡ outcome left instance (drop (length old) new) = below_is left mid r.own new lo l r.grown in
-            let on_right : produced_of tables ro ≡ outcome right instance (drop (ordering_count left) (drop (length old) new)) = r.evaluated.is ∙ ap (outcome right instance) (sym right_rest) in
+            let on_left : relation_of tables lo ≡ outcome left instance (drop (length old) new) = below_is left mid r.own new lo l r.grown in
+            let on_right : relation_of tables ro ≡ outcome right instance (drop (ordering_count left) (drop (length old) new)) = r.evaluated.is ∙ ap (outcome right instance) (sym right_rest) in
             ap (has_more_rows most_rows) same ∙ (λ i. has_more_rows most_rows (join_over condition (sym on_left i) (sym on_right i))) ∙ h
 
-        pub join_untied : (e : StepError) → IsLarge most_rows (join_over condition (produced_of tables lo) (produced_of tables ro)) e → IsUntied (Join condition left right) instance turned (length old) (error_of e)
+        pub join_untied : (e : StepError) → IsLarge most_rows (join_over condition (relation_of tables lo) (relation_of tables ro)) e → IsUntied (Join condition left right) instance turned (length old) (error_of e)
         join_untied step.TooManyRows h = λ choice long s. or_right (has_large_step left instance choice || has_large_step right instance (drop (ordering_count left) choice)) (is_large (Join condition left right) instance choice) (large_here h choice long s)
         join_untied step.OutOfMemory h = tt
 
 -- ---- whole plans
 
-module _ (plan : PlanTree) (tables instance : Instance) (turned : Option Turned) (new : List (List ℕ)) (g : Produced) (t : IsTied plan tables instance turned [] new g) where
+module _ (plan : PlanTree) (tables instance : Instance) (turned : Option Turned) (new : List (List ℕ)) (g : Relation) (t : IsTied plan tables instance turned [] new g) where
   pub tied_valid : IsValidTurnedChoice plan instance turned new
   tied_valid = record {
     tied = record { number = t.evaluated.next ∙ omega arith; tied = t.tied };
@@ -378,5 +378,5 @@ module _ (plan : PlanTree) (tables instance : Instance) (turned : Option Turned)
     small = t.evaluated.each;
   }
 
-  pub tied_outcome : (o : RowsOrFault) → o ≡ produced_of tables g → IsOutcome plan instance new o
+  pub tied_outcome : (o : RowsOrFault) → o ≡ relation_of tables g → IsOutcome plan instance new o
   tied_outcome o e = record { valid = tied_valid.valid; small = t.evaluated.each; is = e ∙ t.evaluated.is }

@@ -16,14 +16,14 @@ use Rattle.wd_join.specs.declared.error.StepError.{StepError}
 use Rattle.wd_join.specs.declared.error.StepError.TheVariants as step
 use Rattle.wd_eval.specs.Errors.{error_of}
 use Rattle.wd_eval.specs.Windows.{AreFew, orderings_of}
-use Rattle.wd_nodes.specs.Produced.{produced_of, IsSmall, IsLarge, group_over, join_over, most_rows}
+use Rattle.wd_nodes.specs.Relation.{relation_of, IsSmall, IsLarge, group_over, join_over, most_rows}
 use Rattle.wd_eval.specs.Nodes.{IsStopped}
 use Rattle.wd_eval.specs.Ties.{IsUntied}
 use Rattle.wd_eval.specs.Walks.{IsAt, IsHalted, IsLimitStep, IsWalked, IsWindowStep, most_of}
 use Rattle.wd_eval.specs.declared.error.EvalError.{EvalError}
 use Rattle.wd_eval.specs.declared.error.EvalError.TheVariants.{NotValid, TooManyRows, OutOfMemory}
-use Rattle.wd_nodes.specs.declared.produced.Produced.{Produced}
-use Rattle.wd_nodes.specs.declared.produced.Produced.TheVariants.{Made}
+use Rattle.wd_nodes.specs.declared.relation.Relation.{Relation}
+use Rattle.wd_nodes.specs.declared.relation.Relation.TheVariants.{Made}
 use Rattle.wd_eval.specs.declared.node.Evaluated.{Evaluated}
 use Rattle.wd_eval.specs.declared.orderings.Orderings.{Orderings}
 use Rattle.wd_eval.specs.declared.orderings.Orderings.TheVariants.{Chosen, Sorted}
@@ -63,8 +63,8 @@ module _ (plan : PlanTree) (instance : Instance) (first : ℕ) where
 within_choice : (choice : List (Vec ℕ Global)) (first : ℕ) → first ≤ length choice → first ≤ length (orderings_of choice)
 within_choice choice first h = let long = length-map choice (λ v. v.items) in omega arith
 
-behind_made : (made : List (Vec ℕ Global)) (first : ℕ) → first ≡ length made → first ≡ length (orderings_of made)
-behind_made made first e = e ∙ sym (length-map made (λ v. v.items))
+after_made : (made : List (Vec ℕ Global)) (first : ℕ) → first ≡ length made → first ≡ length (orderings_of made)
+after_made made first e = e ∙ sym (length-map made (λ v. v.items))
 
 module _ (tables instance : Instance) (first : ℕ) (old new : List (Vec ℕ Global)) where
   -- behind a node
@@ -77,11 +77,11 @@ module _ (tables instance : Instance) (first : ℕ) (old new : List (Vec ℕ Glo
       omega arith
   at_next (Sorted turned) plan e at b = b.0
 
-  pub few_below : (orderings : Orderings) (plan : PlanTree) (e : Evaluated) → most_of orderings ≤ most_rows → IsWalked plan tables instance orderings first old new e → AreFew (2 ^ 32 - 1) (produced_of tables e.outcome)
+  pub few_below : (orderings : Orderings) (plan : PlanTree) (e : Evaluated) → most_of orderings ≤ most_rows → IsWalked plan tables instance orderings first old new e → AreFew (2 ^ 32 - 1) (relation_of tables e.outcome)
   few_below (Chosen choice most) plan e bound b = subst (AreFew (2 ^ 32 - 1)) (sym b.is) (few_from most (outcome plan instance (drop first (orderings_of choice.now))) bound b.small)
   few_below (Sorted turned) plan e bound b = subst (AreFew (2 ^ 32 - 1)) (sym b.1.evaluated.is) (few_from most_rows (outcome plan instance (drop (length (orderings_of old)) (orderings_of new))) bound b.1.evaluated.small)
 
-  pub small_below : (orderings : Orderings) (plan : PlanTree) (e : Evaluated) → IsWalked plan tables instance orderings first old new e → has_more_rows (most_of orderings) (produced_of tables e.outcome) ≡ false
+  pub small_below : (orderings : Orderings) (plan : PlanTree) (e : Evaluated) → IsWalked plan tables instance orderings first old new e → has_more_rows (most_of orderings) (relation_of tables e.outcome) ≡ false
   small_below (Chosen choice most) plan e b = ap (has_more_rows most) b.is ∙ b.small
   small_below (Sorted turned) plan e b = ap (has_more_rows most_rows) b.1.evaluated.is ∙ b.1.evaluated.small
 
@@ -93,13 +93,13 @@ module _ (tables instance : Instance) (first : ℕ) (old : List (Vec ℕ Global)
       → IsHalted plan instance orderings first e → IsHalted above instance orderings first e
   halted_below (Chosen choice most) plan above e at f g h = from_stopped above instance first choice most e (f (orderings_of choice.now) (to_stopped plan instance first choice most e h))
   halted_below (Sorted turned) plan above e at f g h =
-      let here = behind_made old first at in
+      let here = after_made old first at in
       from_untied above instance first turned e
       (subst (λ (n : ℕ). IsUntied above instance turned n e) (sym here) (g turned (subst (λ (n : ℕ). IsUntied plan instance turned n e) here (to_untied plan instance first turned e h))))
 
   -- ---- Scan
 
-  pub scan_walked : (orderings : Orderings) (table columns : ℕ) (o : Produced) → IsAt orderings first old → IsSmall (most_of orderings) (Ok (table_at instance table)) (produced_of tables o)
+  pub scan_walked : (orderings : Orderings) (table columns : ℕ) (o : Relation) → IsAt orderings first old → IsSmall (most_of orderings) (Ok (table_at instance table)) (relation_of tables o)
       → IsWalked (Scan table columns) tables instance orderings first old old (record { outcome = o; next = first })
   scan_walked (Chosen choice most) table columns o at s = scan_done most tables instance (orderings_of choice.now) first table columns o s
   scan_walked (Sorted turned) table columns o at s = (at, scan_tied tables instance turned (orderings_of old) table columns o s)
@@ -111,18 +111,18 @@ module _ (tables instance : Instance) (first : ℕ) (old : List (Vec ℕ Global)
 
   -- ---- Filter, Map and Distinct
 
-  module _ (input : PlanTree) (new : List (Vec ℕ Global)) (below : Evaluated) (o : Produced) where
-    pub filter_walked : (orderings : Orderings) (condition : Expression) → IsWalked input tables instance orderings first old new below → produced_of tables o ≡ and_then (produced_of tables below.outcome) (filter_outcome condition)
+  module _ (input : PlanTree) (new : List (Vec ℕ Global)) (below : Evaluated) (o : Relation) where
+    pub filter_walked : (orderings : Orderings) (condition : Expression) → IsWalked input tables instance orderings first old new below → relation_of tables o ≡ and_then (relation_of tables below.outcome) (filter_outcome condition)
         → IsWalked (Filter condition input) tables instance orderings first old new (record { outcome = o; next = below.next })
     filter_walked (Chosen choice most) condition b is = filter_done most tables instance (orderings_of choice.now) first input below b o condition is
     filter_walked (Sorted turned) condition b is = (b.0, filter_tied tables instance turned (orderings_of old) input (orderings_of new) below.outcome b.1 o condition is)
 
-    pub map_walked : (orderings : Orderings) (outputs : List Expression) → IsWalked input tables instance orderings first old new below → produced_of tables o ≡ and_then (produced_of tables below.outcome) (map_outcome outputs)
+    pub map_walked : (orderings : Orderings) (outputs : List Expression) → IsWalked input tables instance orderings first old new below → relation_of tables o ≡ and_then (relation_of tables below.outcome) (map_outcome outputs)
         → IsWalked (Map outputs input) tables instance orderings first old new (record { outcome = o; next = below.next })
     map_walked (Chosen choice most) outputs b is = map_done most tables instance (orderings_of choice.now) first input below b o outputs is
     map_walked (Sorted turned) outputs b is = (b.0, map_tied tables instance turned (orderings_of old) input (orderings_of new) below.outcome b.1 o outputs is)
 
-    pub distinct_walked : (orderings : Orderings) → IsWalked input tables instance orderings first old new below → produced_of tables o ≡ and_then (produced_of tables below.outcome) (λ rows. Ok (distinct rows))
+    pub distinct_walked : (orderings : Orderings) → IsWalked input tables instance orderings first old new below → relation_of tables o ≡ and_then (relation_of tables below.outcome) (λ rows. Ok (distinct rows))
         → IsWalked (Distinct input) tables instance orderings first old new (record { outcome = o; next = below.next })
     distinct_walked (Chosen choice most) b is = distinct_done most tables instance (orderings_of choice.now) first input below b o is
     distinct_walked (Sorted turned) b is = (b.0, distinct_tied tables instance turned (orderings_of old) input (orderings_of new) below.outcome b.1 o is)
@@ -130,50 +130,50 @@ module _ (tables instance : Instance) (first : ℕ) (old : List (Vec ℕ Global)
   -- ---- Group
 
   module _ (rule : GroupRule) (input : PlanTree) (new : List (Vec ℕ Global)) (below : Evaluated) where
-    pub group_walked : (orderings : Orderings) (o : Outcome) → IsWalked input tables instance orderings first old new below → IsSmall (most_of orderings) (group_over rule (produced_of tables below.outcome)) (outcome_of o)
+    pub group_walked : (orderings : Orderings) (o : Outcome) → IsWalked input tables instance orderings first old new below → IsSmall (most_of orderings) (group_over rule (relation_of tables below.outcome)) (outcome_of o)
         → IsWalked (Group rule input) tables instance orderings first old new (record { outcome = Made o; next = below.next })
     group_walked (Chosen choice most) o b s = group_done most tables instance (orderings_of choice.now) first rule input below b o s
     group_walked (Sorted turned) o b s = (b.0, group_tied tables instance turned (orderings_of old) rule input (orderings_of new) below.outcome b.1 o s)
 
     pub group_halted : (orderings : Orderings) (e : StepError) → IsAt orderings first old → IsWalked input tables instance orderings first old new below
-        → IsLarge (most_of orderings) (group_over rule (produced_of tables below.outcome)) e → IsHalted (Group rule input) instance orderings first (error_of e)
+        → IsLarge (most_of orderings) (group_over rule (relation_of tables below.outcome)) e → IsHalted (Group rule input) instance orderings first (error_of e)
     group_halted (Chosen choice most) e at b h = from_stopped (Group rule input) instance first choice most (error_of e) (group_stopped most tables instance (orderings_of choice.now) first rule input below b e h)
     group_halted (Sorted turned) e at b h =
         from_untied (Group rule input) instance first turned (error_of e)
-        (subst (λ (n : ℕ). IsUntied (Group rule input) instance turned n (error_of e)) (sym (behind_made old first at))
+        (subst (λ (n : ℕ). IsUntied (Group rule input) instance turned n (error_of e)) (sym (after_made old first at))
         (group_untied tables instance turned (orderings_of old) rule input (orderings_of new) below.outcome b.1 e h))
 
   -- ---- Window and Limit
 
   module _ (input : PlanTree) (mid : List (Vec ℕ Global)) (below : Evaluated) (new : List (Vec ℕ Global)) where
-    pub window_walked : (orderings : Orderings) (w : WindowRule) (o : Produced) (next : ℕ) → IsAt orderings first old → IsWalked input tables instance orderings first old mid below
-        → IsWindowStep (produced_of tables) w (produced_of tables below.outcome) orderings below.next mid new (Ok o) → next ≡ below.next + length w.classes
+    pub window_walked : (orderings : Orderings) (w : WindowRule) (o : Relation) (next : ℕ) → IsAt orderings first old → IsWalked input tables instance orderings first old mid below
+        → IsWindowStep (relation_of tables) w (relation_of tables below.outcome) orderings below.next mid new (Ok o) → next ≡ below.next + length w.classes
         → IsWalked (Window w input) tables instance orderings first old new (record { outcome = o; next = next })
     window_walked (Chosen choice most) w o next at b x e = window_done most tables instance (orderings_of choice.now) first w input below (within_choice choice.now first at) b o next x.ok e
     window_walked (Sorted turned) w o next at b x e =
-        let here = behind_made mid below.next b.0 in
+        let here = after_made mid below.next b.0 in
         let long = ap length x.ok.put.grown ∙ length-append (orderings_of mid) x.ok.put.own in
         let size = x.ok.put.sorted.long in
         let all = length-map new (λ v. v.items) in
         (omega arith, window_tied tables instance turned (orderings_of old) w input (orderings_of mid) (orderings_of new) below.outcome o b.1 x.ok)
 
     pub window_halted : (orderings : Orderings) (w : WindowRule) (e : EvalError) → IsWalked input tables instance orderings first old mid below
-        → IsWindowStep (produced_of tables) w (produced_of tables below.outcome) orderings below.next mid new (Err e) → IsHalted (Window w input) instance orderings first e
+        → IsWindowStep (relation_of tables) w (relation_of tables below.outcome) orderings below.next mid new (Err e) → IsHalted (Window w input) instance orderings first e
     window_halted (Chosen choice most) w e b x = from_stopped (Window w input) instance first choice most e (window_stopped most tables instance (orderings_of choice.now) first w input below b e x.refused)
     window_halted (Sorted turned) w e b x = from_untied (Window w input) instance first turned e (memory_untied (Window w input) instance turned first e x.refused)
 
-    pub limit_walked : (orderings : Orderings) (limit : LimitRule) (o : Produced) (next : ℕ) → IsAt orderings first old → IsWalked input tables instance orderings first old mid below
-        → IsLimitStep (produced_of tables) limit (produced_of tables below.outcome) orderings below.next mid new (Ok o) → next ≡ below.next + 1
+    pub limit_walked : (orderings : Orderings) (limit : LimitRule) (o : Relation) (next : ℕ) → IsAt orderings first old → IsWalked input tables instance orderings first old mid below
+        → IsLimitStep (relation_of tables) limit (relation_of tables below.outcome) orderings below.next mid new (Ok o) → next ≡ below.next + 1
         → IsWalked (Limit limit input) tables instance orderings first old new (record { outcome = o; next = next })
     limit_walked (Chosen choice most) limit o next at b x e = limit_done most tables instance (orderings_of choice.now) first limit input below (within_choice choice.now first at) b o next x.ok e
     limit_walked (Sorted turned) limit o next at b x e =
-        let here = behind_made mid below.next b.0 in
+        let here = after_made mid below.next b.0 in
         let long = ap length x.ok.grown ∙ length-append (orderings_of mid) (x.ok.own ∷ []) in
         let all = length-map new (λ v. v.items) in
         (omega arith, limit_tied tables instance turned (orderings_of old) limit input (orderings_of mid) (orderings_of new) below.outcome o b.1 x.ok)
 
     pub limit_halted : (orderings : Orderings) (limit : LimitRule) (e : EvalError) → IsWalked input tables instance orderings first old mid below
-        → IsLimitStep (produced_of tables) limit (produced_of tables below.outcome) orderings below.next mid new (Err e) → IsHalted (Limit limit input) instance orderings first e
+        → IsLimitStep (relation_of tables) limit (relation_of tables below.outcome) orderings below.next mid new (Err e) → IsHalted (Limit limit input) instance orderings first e
     limit_halted (Chosen choice most) limit e b x = from_stopped (Limit limit input) instance first choice most e (limit_stopped most tables instance (orderings_of choice.now) first limit input below b e x.refused)
     limit_halted (Sorted turned) limit e b x = from_untied (Limit limit input) instance first turned e (memory_untied (Limit limit input) instance turned first e x.refused)
 
@@ -183,25 +183,25 @@ module _ (tables instance : Instance) (first : ℕ) (old : List (Vec ℕ Global)
     pub join_halted_right : (orderings : Orderings) (e : EvalError) → IsAt orderings first old → IsWalked left tables instance orderings first old mid l → IsHalted right instance orderings l.next e → IsHalted (Join condition left right) instance orderings first e
     join_halted_right (Chosen choice most) e at a h = from_stopped (Join condition left right) instance first choice most e (join_stopped_right most tables instance (orderings_of choice.now) first condition left right l a e (to_stopped right instance l.next choice most e h))
     join_halted_right (Sorted turned) e at a h =
-        let here = behind_made old first at in
-        let there = behind_made mid l.next a.0 in
+        let here = after_made old first at in
+        let there = after_made mid l.next a.0 in
         from_untied (Join condition left right) instance first turned e
         (subst (λ (n : ℕ). IsUntied (Join condition left right) instance turned n e) (sym here)
         (join_untied_right tables instance turned (orderings_of old) condition left right (orderings_of mid) l.outcome a.1 e
         (subst (λ (n : ℕ). IsUntied right instance turned n e) there (to_untied right instance l.next turned e h))))
 
     module _ (new : List (Vec ℕ Global)) (r : Evaluated) where
-      pub join_walked : (orderings : Orderings) (o : Produced) → IsWalked left tables instance orderings first old mid l → IsWalked right tables instance orderings l.next mid new r
-          → IsSmall (most_of orderings) (join_over condition (produced_of tables l.outcome) (produced_of tables r.outcome)) (produced_of tables o) → IsWalked (Join condition left right) tables instance orderings first old new (record { outcome = o; next = r.next })
+      pub join_walked : (orderings : Orderings) (o : Relation) → IsWalked left tables instance orderings first old mid l → IsWalked right tables instance orderings l.next mid new r
+          → IsSmall (most_of orderings) (join_over condition (relation_of tables l.outcome) (relation_of tables r.outcome)) (relation_of tables o) → IsWalked (Join condition left right) tables instance orderings first old new (record { outcome = o; next = r.next })
       join_walked (Chosen choice most) o a b s = join_done most tables instance (orderings_of choice.now) first condition left right l a r b o s
       join_walked (Sorted turned) o a b s = (b.0, join_tied tables instance turned (orderings_of old) condition left right (orderings_of mid) l.outcome a.1 (orderings_of new) r.outcome b.1 o s)
 
       pub join_halted : (orderings : Orderings) (e : StepError) → IsAt orderings first old → IsWalked left tables instance orderings first old mid l → IsWalked right tables instance orderings l.next mid new r
-          → IsLarge (most_of orderings) (join_over condition (produced_of tables l.outcome) (produced_of tables r.outcome)) e → IsHalted (Join condition left right) instance orderings first (error_of e)
+          → IsLarge (most_of orderings) (join_over condition (relation_of tables l.outcome) (relation_of tables r.outcome)) e → IsHalted (Join condition left right) instance orderings first (error_of e)
       join_halted (Chosen choice most) e at a b h = from_stopped (Join condition left right) instance first choice most (error_of e) (join_stopped most tables instance (orderings_of choice.now) first condition left right l a r b e h)
       join_halted (Sorted turned) e at a b h =
           from_untied (Join condition left right) instance first turned (error_of e)
-          (subst (λ (n : ℕ). IsUntied (Join condition left right) instance turned n (error_of e)) (sym (behind_made old first at))
+          (subst (λ (n : ℕ). IsUntied (Join condition left right) instance turned n (error_of e)) (sym (after_made old first at))
           (join_untied tables instance turned (orderings_of old) condition left right (orderings_of mid) l.outcome a.1 (orderings_of new) r.outcome b.1 e h))
 
 -- ---- out of memory

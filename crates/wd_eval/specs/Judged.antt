@@ -5,7 +5,7 @@ use Rattle.wd_plan.specs.declared.plan.Outcome.{Outcome}
 use Rattle.wd_plan.specs.Choices.{IsValidChoice}
 use Rattle.wd_plan.specs.Outcomes.{RowsOrFault, outcome, outcome_of}
 use Rattle.wd_plan.specs.Plans.{PlanTree}
-use Rattle.wd_nodes.specs.Produced.{most_rows}
+use Rattle.wd_nodes.specs.Relation.{most_rows}
 use Rattle.wd_eval.specs.Windows.{IsLeast}
 use Rattle.wd_eval.specs.Steps.{has_large_step, has_larger_step}
 use Rattle.wd_eval.specs.Wrong.{IsWrongOrdering}

@@ -1,6 +1,6 @@
 pub mod Errors
 pub mod Windows
-pub mod Listings
+pub mod ClassIndexes
 pub mod Columns
 pub mod Beside
 pub mod Steps
@@ -11,5 +11,5 @@ pub mod Tied
 pub mod Ties
 pub mod Walks
 pub mod Runs
-pub mod Kept
+pub mod KeptRows
 pub mod Laws

@@ -3,13 +3,13 @@ use Rattle.std.specs.Prelude.{◌≡◌, ℕ, ◌+◌, ◌≤◌, true, false, L
 use Rattle.wd_value.specs.Rows.{Instance, rows_at}
 use Rattle.wd_plan.specs.Choices.{AreLawful}
 use Rattle.wd_plan.specs.Faults.{and_then}
-use Rattle.wd_plan.specs.Outcomes.{RowsOrFault, cut, ordering_at, outcome}
+use Rattle.wd_plan.specs.Outcomes.{RowsOrFault, limit_step, ordering_at, outcome}
 use Rattle.wd_plan.specs.Plans.{PlanTree, LimitRule, ordering_count}
 use Rattle.wd_plan.specs.Sorting.{limit_class}
 use Rattle.wd_join.specs.Joins.{has_more_rows}
 use Rattle.wd_eval.specs.Windows.{HasOrdering, IsLeast, IsUnserved, IsWrong}
 use Rattle.wd_eval.specs.Steps.{has_larger_step}
-use Rattle.wd_nodes.specs.Produced.{produced_of}
+use Rattle.wd_nodes.specs.Relation.{relation_of}
 use Rattle.wd_eval.specs.Wrong.{IsWrongFrom}
 use Rattle.wd_eval.specs.declared.error.EvalError.{EvalError}
 use Rattle.wd_eval.specs.declared.error.EvalError.TheVariants.{NotValid, TooManyRows, OutOfMemory}
@@ -23,7 +23,7 @@ pub record IsServed (plan : PlanTree) (instance : Instance) (choice : List (List
 -- the plan's outcome over the instance under the orderings from `first` on, as these tables show it, with the number of the next
 -- one; no step has more than `most` rows
 pub record IsEvaluated (most : ℕ) (plan : PlanTree) (tables instance : Instance) (choice : List (List ℕ)) (first : ℕ) (e : Evaluated) : Type 0 where
-  pub is : produced_of tables e.outcome ≡ outcome plan instance (drop first choice)
+  pub is : relation_of tables e.outcome ≡ outcome plan instance (drop first choice)
   pub next : e.next ≡ first + ordering_count plan
   pub served : IsServed plan instance (drop first choice)
   pub small : has_more_rows most (outcome plan instance (drop first choice)) ≡ false
@@ -39,14 +39,14 @@ IsStopped most plan instance choice first OutOfMemory = ⊤
 
 -- what a Limit gives over its input
 abbrev pub cut_over : LimitRule → List ℕ → RowsOrFault → RowsOrFault
-cut_over limit ordering input = and_then input (λ rows. Ok (cut limit (rows_at rows ordering)))
+cut_over limit ordering input = and_then input (λ rows. Ok (limit_step limit (rows_at rows ordering)))
 
 -- the limit's ordering with this number is lawful, and what is found is what the Limit gives under it
-pub record IsCut (limit : LimitRule) (input : RowsOrFault) (choice : List (List ℕ)) (number : ℕ) (found : RowsOrFault) : Type 0 where
+pub record IsLimited (limit : LimitRule) (input : RowsOrFault) (choice : List (List ℕ)) (number : ℕ) (found : RowsOrFault) : Type 0 where
   pub served : HasOrdering (limit_class limit) input choice number
   pub is : found ≡ cut_over limit (ordering_at choice number) input
 
 -- what a Limit gives over its input under the ordering with this number, as the view of a value has it, or why that is not lawful
-pub record IsCutOrUnserved {X : Type 0} (view : X → RowsOrFault) (limit : LimitRule) (input : RowsOrFault) (choice : List (List ℕ)) (number : ℕ) (r : Result X EvalError) : Type 0 where
-  pub ok : IfOk r (λ x. IsCut limit input choice number (view x))
+pub record IsLimitedOrUnserved {X : Type 0} (view : X → RowsOrFault) (limit : LimitRule) (input : RowsOrFault) (choice : List (List ℕ)) (number : ℕ) (r : Result X EvalError) : Type 0 where
+  pub ok : IfOk r (λ x. IsLimited limit input choice number (view x))
   pub refused : IfErr r (λ e. IsUnserved (IsWrong (limit_class limit) input choice number) e)

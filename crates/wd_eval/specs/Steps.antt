@@ -4,7 +4,7 @@ use Rattle.wd_value.specs.Rows.{Instance}
 use Rattle.wd_plan.specs.Outcomes.{outcome}
 use Rattle.wd_plan.specs.Plans.{PlanTree, Scan, Join, Filter, Map, Group, Window, Distinct, Limit, ordering_count}
 use Rattle.wd_join.specs.Joins.{has_more_rows}
-use Rattle.wd_nodes.specs.Produced.{most_rows}
+use Rattle.wd_nodes.specs.Relation.{most_rows}
 
 -- whether the plan's last step has more than `most` rows
 abbrev pub is_larger : ℕ → PlanTree → Instance → List (List ℕ) → Bool

@@ -6,14 +6,14 @@ use Rattle.wd_value.specs.Rows.{Instance}
 use Rattle.wd_plan.specs.Outcomes.{RowsOrFault, class_at, ordering_at}
 use Rattle.wd_plan.specs.Plans.{LimitRule, PlanTree, WindowRule, ordering_count}
 use Rattle.wd_plan.specs.Sorting.{limit_class}
-use Rattle.wd_nodes.specs.Produced.{most_rows}
-use Rattle.wd_eval.specs.Nodes.{IsCut, IsEvaluated}
+use Rattle.wd_nodes.specs.Relation.{most_rows}
+use Rattle.wd_eval.specs.Nodes.{IsLimited, IsEvaluated}
 use Rattle.wd_eval.specs.Windows.{IsExtended, orderings_of}
 use Rattle.wd_eval.specs.Steps.{has_large_step}
 use Rattle.wd_eval.specs.Tied.{AreTied, IsSortedOver, turn_of}
 use Rattle.wd_eval.specs.declared.error.EvalError.{EvalError}
 use Rattle.wd_eval.specs.declared.turned.Turned.{Turned}
-use Rattle.wd_nodes.specs.declared.produced.Produced.{Produced}
+use Rattle.wd_nodes.specs.declared.relation.Relation.{Relation}
 use Rattle.wd_eval.specs.declared.error.EvalError.TheVariants.{NotValid, TooManyRows, OutOfMemory}
 
 -- the sorted orderings of the first n classes of a Window over its input, the first of them with this number
@@ -41,10 +41,10 @@ pub record IsTiedLimit (limit : LimitRule) (input : RowsOrFault) (turned : Optio
   pub own : List ℕ
   pub grown : new ≡ old ++ own ∷ []
   pub sorted : IsSortedOver (limit_class limit) (turn_of turned (length old)) input own
-  pub is : IsCut limit input new (length old) found
+  pub is : IsLimited limit input new (length old) found
 
 -- the plan's sorted orderings were put after those that were there, and the outcome is that under them
-pub record IsTied (plan : PlanTree) (tables instance : Instance) (turned : Option Turned) (old new : List (List ℕ)) (o : Produced) : Type 0 where
+pub record IsTied (plan : PlanTree) (tables instance : Instance) (turned : Option Turned) (old new : List (List ℕ)) (o : Relation) : Type 0 where
   pub own : List (List ℕ)
   pub grown : new ≡ old ++ own
   pub evaluated : IsEvaluated most_rows plan tables instance new (length old) (record { outcome = o; next = length new })

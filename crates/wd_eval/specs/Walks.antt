@@ -6,9 +6,9 @@ use Rattle.wd_value.specs.Rows.{Instance}
 use Rattle.wd_plan.specs.Outcomes.{RowsOrFault}
 use Rattle.wd_plan.specs.Plans.{LimitRule, PlanTree, WindowRule}
 use Rattle.wd_eval.specs.Windows.{IsLeast, orderings_of, IsExtendedOrUnserved}
-use Rattle.wd_eval.specs.Nodes.{IsCutOrUnserved, IsEvaluated}
+use Rattle.wd_eval.specs.Nodes.{IsLimitedOrUnserved, IsEvaluated}
 use Rattle.wd_eval.specs.Steps.{has_larger_step}
-use Rattle.wd_nodes.specs.Produced.{most_rows}
+use Rattle.wd_nodes.specs.Relation.{most_rows}
 use Rattle.wd_eval.specs.Ties.{IsTied, IsTiedLimitOrNoMemory, IsTiedTooLargeFrom, IsTiedWindowOrNoMemory}
 use Rattle.wd_eval.specs.Wrong.{IsWrongFrom}
 use Rattle.wd_eval.specs.declared.error.EvalError.{EvalError}
@@ -61,5 +61,5 @@ IsWindowStep view w input (Chosen choice most) first old new r = IsExtendedOrUns
 IsWindowStep view w input (Sorted turned) first old new r = IsTiedWindowOrNoMemory view w input turned old new r
 
 abbrev pub IsLimitStep : {X : Type 0} → (X → RowsOrFault) → LimitRule → RowsOrFault → Orderings → ℕ → List (Vec ℕ Global) → List (Vec ℕ Global) → Result X EvalError → Type 0
-IsLimitStep view limit input (Chosen choice most) first old new r = IsCutOrUnserved view limit input (orderings_of choice.now) first r
+IsLimitStep view limit input (Chosen choice most) first old new r = IsLimitedOrUnserved view limit input (orderings_of choice.now) first r
 IsLimitStep view limit input (Sorted turned) first old new r = IsTiedLimitOrNoMemory view limit input turned old new r

@@ -1,21 +1,21 @@
 //! What a plan gives, however its rows are kept.
 
 ghost use Rattle.std.specs.Prelude.{◌≡◌, IfOk};
-ghost use Rattle.wd_eval.specs.Kept.{outcome_kept};
-ghost use Rattle.wd_nodes.specs.Produced.{produced_of};
+ghost use Rattle.wd_eval.specs.KeptRows.{outcome_kept};
+ghost use Rattle.wd_nodes.specs.Relation.{relation_of};
 ghost use Rattle.wd_plan.specs.Outcomes.{outcome_of};
 ghost use Rattle.wd_value.specs.Rows.{instance_of};
 
 use std::alloc::Global;
 use std::marker::Model;
 use wd_columns::{Columns, RowSource};
-use wd_nodes::{Produced, outcome_from};
+use wd_nodes::{Relation, outcome_from};
 use wd_plan::Outcome;
 use wd_value::{Fault, OutOfMemory, Row};
 
 /// How the rows of an answer are kept.
 #[derive(Drop)]
-enum Kept {
+enum KeptRows {
     ByColumn(Columns),
     Made(Outcome),
 }
@@ -23,7 +23,7 @@ enum Kept {
 /// What a plan gives. Contracts see its rows, or its fault.
 #[derive(Drop)]
 pub struct Answer {
-    kept: Kept,
+    kept: KeptRows,
 }
 
 impl Model for Answer {
@@ -31,7 +31,7 @@ impl Model for Answer {
 
     ghost Value = { RowsOrFault };
 
-    ghost use Rattle.wd_eval.specs.Kept.{outcome_kept};
+    ghost use Rattle.wd_eval.specs.KeptRows.{outcome_kept};
 
     ghost view = { λ a. outcome_kept a.kept };
 }
@@ -53,25 +53,25 @@ impl Answer {
     }
 }
 
-fn rows_in(kept: &Kept) -> Result<RowSource<'_>, Fault>
+fn rows_in(kept: &KeptRows) -> Result<RowSource<'_>, Fault>
     ensures { result ≡ outcome_kept kept.now }
 {
     match kept {
-        Kept::ByColumn(columns) => Ok(RowSource::of_columns(columns)),
-        Kept::Made(Outcome::Rows(rows)) => Ok(RowSource::of_rows(rows)),
-        Kept::Made(Outcome::Fault(fault)) => Err(*fault),
+        KeptRows::ByColumn(columns) => Ok(RowSource::of_columns(columns)),
+        KeptRows::Made(Outcome::Rows(rows)) => Ok(RowSource::of_rows(rows)),
+        KeptRows::Made(Outcome::Fault(fault)) => Err(*fault),
     }
 }
 
-fn outcome_in(alloc: Global, kept: Kept) -> Result<Outcome, OutOfMemory>
+fn outcome_in(alloc: Global, kept: KeptRows) -> Result<Outcome, OutOfMemory>
     ensures { IfOk result (λ o. outcome_of o ≡ outcome_kept kept) }
 {
     match kept {
-        Kept::ByColumn(columns) => {
+        KeptRows::ByColumn(columns) => {
             let rows = columns.into_rows(alloc, 0)?;
             Ok(Outcome::Rows(rows))
         }
-        Kept::Made(outcome) => Ok(outcome),
+        KeptRows::Made(outcome) => Ok(outcome),
     }
 }
 
@@ -79,18 +79,18 @@ fn outcome_in(alloc: Global, kept: Kept) -> Result<Outcome, OutOfMemory>
 pub(crate) fn answer_of(
     alloc: Global,
     instance: &[Vec<Row>],
-    produced: Produced,
+    relation: Relation,
 ) -> Result<Answer, OutOfMemory>
-    ensures { IfOk result (λ a. a ≡ produced_of (instance_of instance.now) produced) }
+    ensures { IfOk result (λ a. a ≡ relation_of (instance_of instance.now) relation) }
 {
-    match produced {
-        Produced::ByColumn(columns) => Ok(Answer {
-            kept: Kept::ByColumn(columns),
+    match relation {
+        Relation::ByColumn(columns) => Ok(Answer {
+            kept: KeptRows::ByColumn(columns),
         }),
         other => {
             let outcome = outcome_from(alloc, instance, other, 0)?;
             Ok(Answer {
-                kept: Kept::Made(outcome),
+                kept: KeptRows::Made(outcome),
             })
         }
     }

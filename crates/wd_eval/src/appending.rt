@@ -13,7 +13,7 @@ ghost use Rattle.wd_value.specs.declared.value.Value as value;
 ghost use Rattle.wd_eval.specs.Beside as spec;
 ghost use Rattle.wd_eval.specs.Beside.{own_value};
 ghost use Rattle.wd_eval.specs.Columns.{AreColumns, columns_of};
-ghost use Rattle.wd_eval.specs.Listings.{calls_at};
+ghost use Rattle.wd_eval.specs.ClassIndexes.{calls_at};
 
 use crate::column::Column;
 use std::alloc::Global;

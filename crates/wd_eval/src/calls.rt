@@ -2,14 +2,14 @@
 
 ghost use Rattle.std.specs.Prelude.{◌≡◌, IfOk, length};
 ghost use Rattle.wd_eval.specs.Beside.{IsBeside};
-ghost use Rattle.wd_eval.specs.Listings.{WhereListed};
+ghost use Rattle.wd_eval.specs.ClassIndexes.{WhereIndexed};
 ghost use Rattle.wd_plan.specs.Outcomes.{outcome_of, window_outcome};
 ghost use Rattle.wd_plan.specs.Plans.{NameBelow, window_of};
 ghost use Rattle.wd_value.specs.Rows.{rows_of};
 
 use crate::appending::{fault_among, with_columns, with_values};
+use crate::class_index::ClassIndex;
 use crate::column::{Column, call_columns};
-use crate::listing::Listing;
 use std::alloc::Global;
 use wd_columns::{Columns, RowSource};
 use wd_plan::{Outcome, Window};
@@ -21,12 +21,12 @@ pub(crate) fn with_calls(
     alloc: Global,
     window: &Window,
     rows: Vec<Row>,
-    listings: &[Listing],
+    indexes: &[ClassIndex],
 ) -> Result<Outcome, OutOfMemory>
-    requires { NameBelow (length listings.now) (window_of window.now).calls }
-    ensures { let w = window_of window.now in IfOk result (λ o. WhereListed w (rows_of rows.items) listings.now (λ orderings. outcome_of o ≡ window_outcome w (rows_of rows.items) orderings)) }
+    requires { NameBelow (length indexes.now) (window_of window.now).calls }
+    ensures { let w = window_of window.now in IfOk result (λ o. WhereIndexed w (rows_of rows.items) indexes.now (λ orderings. outcome_of o ≡ window_outcome w (rows_of rows.items) orderings)) }
 {
-    match values_beside(alloc, window, &RowSource::of_rows(&rows), listings)? {
+    match values_beside(alloc, window, &RowSource::of_rows(&rows), indexes)? {
         Err(fault) => Ok(Outcome::Fault(fault)),
         Ok(columns) => {
             let extended = with_columns(rows, columns)?;
@@ -41,12 +41,12 @@ pub(crate) fn with_calls_by_column(
     alloc: Global,
     window: &Window,
     rows: Columns,
-    listings: &[Listing],
+    indexes: &[ClassIndex],
 ) -> Result<Result<Columns, Fault>, OutOfMemory>
-    requires { NameBelow (length listings.now) (window_of window.now).calls }
-    ensures { let w = window_of window.now in IfOk result (λ r. WhereListed w rows listings.now (λ orderings. r ≡ window_outcome w rows orderings)) }
+    requires { NameBelow (length indexes.now) (window_of window.now).calls }
+    ensures { let w = window_of window.now in IfOk result (λ r. WhereIndexed w rows indexes.now (λ orderings. r ≡ window_outcome w rows orderings)) }
 {
-    match values_beside(alloc, window, &RowSource::of_columns(&rows), listings)? {
+    match values_beside(alloc, window, &RowSource::of_columns(&rows), indexes)? {
         Err(fault) => Ok(Err(fault)),
         Ok(columns) => {
             let extended = with_values(alloc, rows, columns)?;
@@ -60,12 +60,12 @@ fn values_beside(
     alloc: Global,
     window: &Window,
     rows: &RowSource,
-    listings: &[Listing],
+    indexes: &[ClassIndex],
 ) -> Result<Result<Vec<Column>, Fault>, OutOfMemory>
-    requires { NameBelow (length listings.now) (window_of window.now).calls }
-    ensures { let w = window_of window.now in IfOk result (λ r. WhereListed w rows.now listings.now (λ orderings. IsBeside w rows.now orderings r)) }
+    requires { NameBelow (length indexes.now) (window_of window.now).calls }
+    ensures { let w = window_of window.now in IfOk result (λ r. WhereIndexed w rows.now indexes.now (λ orderings. IsBeside w rows.now orderings r)) }
 {
-    let columns = call_columns(alloc, window, rows, listings)?;
+    let columns = call_columns(alloc, window, rows, indexes)?;
     match fault_among(&columns, rows.len()) {
         Some(fault) => Ok(Err(fault)),
         None => Ok(Ok(columns)),

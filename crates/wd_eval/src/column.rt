@@ -5,9 +5,9 @@ ghost use Rattle.wd_plan.specs.Plans.{NameBelow, WindowRule, window_of};
 ghost use Rattle.wd_value.specs.declared.value.Fault as fault;
 ghost use Rattle.wd_value.specs.declared.value.Value as value;
 ghost use Rattle.wd_eval.specs.Columns.{AreAt, AreColumns, AreFilled, FillsNext, IsColumn, IsSpread, columns_of};
-ghost use Rattle.wd_eval.specs.Listings.{AreAskedBy, WhereListed, WhereListing, asks_keys};
+ghost use Rattle.wd_eval.specs.ClassIndexes.{AreAskedBy, WhereIndexed, WhereClassIndex, asks_keys};
 
-use crate::listing::Listing;
+use crate::class_index::ClassIndex;
 use std::alloc::Global;
 use wd_calls::{Partition, call_values};
 use wd_columns::RowSource;
@@ -23,14 +23,14 @@ pub(crate) fn call_columns(
     alloc: Global,
     window: &Window,
     rows: &RowSource,
-    listings: &[Listing],
+    indexes: &[ClassIndex],
 ) -> Result<Vec<Column>, OutOfMemory>
-    requires { NameBelow (length listings.now) (window_of window.now).calls }
-    ensures { let w = window_of window.now in IfOk result (λ v. WhereListed w rows.now listings.now (λ orderings. AreColumns w rows.now orderings (columns_of v.items))) }
+    requires { NameBelow (length indexes.now) (window_of window.now).calls }
+    ensures { let w = window_of window.now in IfOk result (λ v. WhereIndexed w rows.now indexes.now (λ orderings. AreColumns w rows.now orderings (columns_of v.items))) }
 {
     let mut columns = Vec::with_capacity(alloc, window.calls.len())?;
     for call in &window.calls {
-        let column = call_column(alloc, call, rows, listings)?;
+        let column = call_column(alloc, call, rows, indexes)?;
         columns.push(column)?;
     }
     Ok(columns)
@@ -41,12 +41,12 @@ fn call_column(
     alloc: Global,
     call: &Call,
     rows: &RowSource,
-    listings: &[Listing],
+    indexes: &[ClassIndex],
 ) -> Result<Column, OutOfMemory>
-    requires { call.now.class < length listings.now }
-    ensures { IfOk result (λ v. (w : WindowRule) → AreAskedBy call.now.frame (asks_keys w call.now.class) → WhereListed w rows.now listings.now (λ orderings. IsColumn w rows.now orderings call.now v.items)) }
+    requires { call.now.class < length indexes.now }
+    ensures { IfOk result (λ v. (w : WindowRule) → AreAskedBy call.now.frame (asks_keys w call.now.class) → WhereIndexed w rows.now indexes.now (λ orderings. IsColumn w rows.now orderings call.now v.items)) }
 {
-    let column = column_of(alloc, call, rows, &listings[call.class as usize])?;
+    let column = column_of(alloc, call, rows, &indexes[call.class as usize])?;
     Ok(column)
 }
 
@@ -55,13 +55,13 @@ fn column_of(
     alloc: Global,
     call: &Call,
     rows: &RowSource,
-    listing: &Listing,
+    class_index: &ClassIndex,
 ) -> Result<Column, OutOfMemory>
-    ensures { IfOk result (λ v. WhereListing call.now.frame rows.now listing.now (λ class ordering. AreFilled class call.now rows.now ordering (length rows.now) v.items)) }
+    ensures { IfOk result (λ v. WhereClassIndex call.now.frame rows.now class_index.now (λ class ordering. AreFilled class call.now rows.now ordering (length rows.now) v.items)) }
 {
     let mut column = blank(alloc, rows.len())?;
     for position in 0..rows.len() {
-        fill(alloc, call, rows, listing, position, &mut column)?;
+        fill(alloc, call, rows, class_index, position, &mut column)?;
     }
     Ok(column)
 }
@@ -83,14 +83,14 @@ fn fill(
     alloc: Global,
     call: &Call,
     rows: &RowSource,
-    listing: &Listing,
+    class_index: &ClassIndex,
     position: usize,
     column: &mut Column,
 ) -> Result<(), OutOfMemory>
     requires { position < length rows.now }
-    ensures { OnOk result (WhereListing call.now.frame rows.now listing.now (λ class ordering. FillsNext class call.now rows.now ordering position column.old.items column.new.items)) }
+    ensures { OnOk result (WhereClassIndex call.now.frame rows.now class_index.now (λ class ordering. FillsNext class call.now rows.now ordering position column.old.items column.new.items)) }
 {
-    match listing.partitions.member(position) {
+    match class_index.partitions.member(position) {
         None => Ok(()),
         Some(member) if member.place > 0 => Ok(()),
         Some(member) => {
@@ -101,7 +101,7 @@ fn fill(
             let part = Part {
                 groups: member.groups,
                 keys: member.numbers,
-                desc: listing.desc,
+                desc: class_index.desc,
             };
             let values = call_values(alloc, call, &partition, &part)?;
             spread(column, member.positions, values);

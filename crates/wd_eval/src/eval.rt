@@ -5,7 +5,7 @@ ghost use Rattle.wd_eval.specs.Judged.{IsAllowedOrRefused, IsOutcome, IsOutcomeO
 ghost use Rattle.wd_eval.specs.Windows.{orderings_of};
 ghost use Rattle.wd_eval.specs.Runs.{IsRunOrRefused, IsTiedOutcomeOrRefused, IsTurnedOutcomeOrRefused};
 ghost use Rattle.wd_eval.specs.Tied.{IsTiedOrRefused, IsTurnedOrRefused};
-ghost use Rattle.wd_nodes.specs.Produced.{most_rows, produced_of};
+ghost use Rattle.wd_nodes.specs.Relation.{most_rows, relation_of};
 ghost use Rattle.wd_plan.specs.Fits.{fits};
 ghost use Rattle.wd_plan.specs.Outcomes.{outcome_of};
 ghost use Rattle.wd_plan.specs.Plans.{plan_of};
@@ -19,7 +19,7 @@ use crate::orderings::{MOST_ROWS, Orderings};
 use crate::turned::{Turned, reversed_at};
 use std::alloc::Global;
 use wd_columns::Columns;
-use wd_nodes::{Produced, handed_over, outcome_from};
+use wd_nodes::{Relation, outcome_from, take_first_table};
 use wd_plan::{Choice, Outcome, Plan};
 use wd_schema::Schema;
 use wd_value::{Instance, OutOfMemory};
@@ -55,8 +55,8 @@ pub fn eval_within(
     requires bounded { most ≤ most_rows }
     ensures { IsOutcomeWithinOrRefused most (plan_of plan.now) (instance_of instance.now.items) (orderings_of choice.now.orderings.items) result }
 {
-    let produced = produced_within(alloc, plan, schema, instance, choice, most)?;
-    let outcome = outcome_from(alloc, instance, produced, 0)?;
+    let relation = relation_within(alloc, plan, schema, instance, choice, most)?;
+    let outcome = outcome_from(alloc, instance, relation, 0)?;
     Ok(outcome)
 }
 
@@ -72,23 +72,23 @@ pub fn answer_with(
     ensures outcome { IfOk result (λ a. IsOutcome (plan_of plan.now) (instance_of instance.now.items) (orderings_of choice.now.orderings.items) a) }
     ensures refused { IfErr result (λ e. IsRefused (plan_of plan.now) (instance_of instance.now.items) (orderings_of choice.now.orderings.items) e) }
 {
-    let produced = produced_within(alloc, plan, schema, instance, choice, MOST_ROWS)?;
-    let answer = answer_of(alloc, instance, produced)?;
+    let relation = relation_within(alloc, plan, schema, instance, choice, MOST_ROWS)?;
+    let answer = answer_of(alloc, instance, relation)?;
     Ok(answer)
 }
 
 /// What the plan's last step gives under a choice, where a step may have at most `most` rows.
-fn produced_within(
+fn relation_within(
     alloc: Global,
     plan: &Plan,
     schema: &Schema,
     instance: &Instance,
     choice: &Choice,
     most: usize,
-) -> Result<Produced, EvalError>
+) -> Result<Relation, EvalError>
     requires fits { fits (schema_of schema.now) (plan_of plan.now) ≡ true }
     requires bounded { most ≤ most_rows }
-    ensures outcome { IfOk result (λ p. IsOutcomeWithin most (plan_of plan.now) (instance_of instance.now.items) (orderings_of choice.now.orderings.items) (produced_of (instance_of instance.now.items) p)) }
+    ensures outcome { IfOk result (λ p. IsOutcomeWithin most (plan_of plan.now) (instance_of instance.now.items) (orderings_of choice.now.orderings.items) (relation_of (instance_of instance.now.items) p)) }
     ensures refused { IfErr result (λ e. IsRefusedWithin most (plan_of plan.now) (instance_of instance.now.items) (orderings_of choice.now.orderings.items) e) }
 {
     let mut made = Vec::new(alloc);
@@ -235,11 +235,11 @@ pub fn run_columns(
     ensures { IsRunOrRefused (λ a. a) (plan_of plan.now) tables.items result }
 {
     let mut left = tables;
-    let handed = handed_over(alloc, plan, &mut left);
+    let moved_in = take_first_table(alloc, plan, &mut left);
     let others = rows_of_all(alloc, left)?;
     let mut orderings = Vec::new(alloc);
     let sorted = Orderings::Sorted(None);
-    let evaluated = evaluate(alloc, plan, &others, handed, sorted, 0, &mut orderings)?;
+    let evaluated = evaluate(alloc, plan, &others, moved_in, sorted, 0, &mut orderings)?;
     let answer = answer_of(alloc, &others, evaluated.outcome)?;
     Ok(answer)
 }

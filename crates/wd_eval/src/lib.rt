@@ -1,20 +1,20 @@
 //! The evaluator: what a plan gives over an instance under a choice of orderings.
 //!
 //! `node` walks the plan once, under the orderings of a choice, which are checked, or under sorted ones, which it makes (`orderings`,
-//! `turned`); `eval` has the public calls. The steps without an ordering are those of wd_nodes. `window` and `cut` are a Window and a
-//! Limit: `listing` has the partitions of each class (wd_partition), `calls`, `column` and `appending` the values of the calls (wd_calls)
+//! `turned`); `eval` has the public calls. The steps without an ordering are those of wd_nodes. `window` and `limit_step` are a Window and a
+//! Limit: `class_index` has the partitions of each class (wd_partition), `calls`, `column` and `appending` the values of the calls (wd_calls)
 //! as further columns. `answer` keeps what the last step gave as it is.
 #![tactic(auto)]
 
 mod answer;
 mod appending;
 mod calls;
+mod class_index;
 mod column;
-mod cut;
 mod error;
 mod eval;
 pub mod laws;
-mod listing;
+mod limit_step;
 mod node;
 mod orderings;
 mod turned;

@@ -3,24 +3,24 @@
 ghost use Rattle.wd_nodes.specs.Held.{IsHeld, IsHeldForSome};
 ghost use Rattle.std.specs.Prelude.{◌≤◌};
 ghost use Rattle.wd_eval.specs.Walks.{IsAt, IsWalkedOrHalted, most_of};
-ghost use Rattle.wd_nodes.specs.Produced.{most_rows};
+ghost use Rattle.wd_nodes.specs.Relation.{most_rows};
 ghost use Rattle.wd_plan.specs.Plans.{EachNamesClasses, plan_of};
 ghost use Rattle.wd_value.specs.Rows.{Instance, instance_of};
 
-use crate::cut::limited;
 use crate::error::EvalError;
+use crate::limit_step::limit_rows;
 use crate::orderings::Orderings;
-use crate::window::extended;
+use crate::window::extend_rows;
 use std::alloc::Global;
 use wd_columns::Columns;
-use wd_nodes::{Produced, distinct, filtered, grouped, joined, mapped, scanned};
+use wd_nodes::{Relation, distinct, filter_input, group_input, join_inputs, map_input, scan_table};
 use wd_plan::Plan;
 use wd_value::Row;
 
 /// What a node gives, and the number of the first ordering after its own.
 #[derive(Drop)]
 pub(crate) struct Evaluated {
-    pub outcome: Produced,
+    pub outcome: Relation,
     pub next: usize,
 }
 
@@ -32,7 +32,7 @@ pub(crate) fn evaluate(
     alloc: Global,
     plan: &Plan,
     tables: &[Vec<Row>],
-    handed: Option<Columns>,
+    moved_in: Option<Columns>,
     orderings: Orderings,
     first: usize,
     made: &mut Vec<Vec<u64>>,
@@ -40,13 +40,13 @@ pub(crate) fn evaluate(
     requires at { IsAt orderings first made.old.items }
     requires bounded { most_of orderings ≤ most_rows }
     requires named { EachNamesClasses (plan_of plan.now) }
-    requires held { IsHeldForSome (plan_of plan.now) (instance_of tables.now) handed }
-    ensures { (instance : Instance) → IsHeld (plan_of plan.now) (instance_of tables.now) handed instance → IsWalkedOrHalted (plan_of plan.now) (instance_of tables.now) instance orderings.entry first made.old.items made.new.items result }
+    requires held { IsHeldForSome (plan_of plan.now) (instance_of tables.now) moved_in }
+    ensures { (instance : Instance) → IsHeld (plan_of plan.now) (instance_of tables.now) moved_in instance → IsWalkedOrHalted (plan_of plan.now) (instance_of tables.now) instance orderings.entry first made.old.items made.new.items result }
 {
     let most = orderings.most();
     match plan {
         Plan::Scan { table, .. } => {
-            let outcome = scanned(tables, handed, *table, most)?;
+            let outcome = scan_table(tables, moved_in, *table, most)?;
             Ok(Evaluated {
                 outcome,
                 next: first,
@@ -57,49 +57,49 @@ pub(crate) fn evaluate(
             right,
             condition,
         } => {
-            let left = evaluate(alloc, left, tables, handed, orderings, first, made)?;
+            let left = evaluate(alloc, left, tables, moved_in, orderings, first, made)?;
             let right = evaluate(alloc, right, tables, None, orderings, left.next, made)?;
-            let outcome = joined(alloc, tables, condition, left.outcome, right.outcome, most)?;
+            let outcome = join_inputs(alloc, tables, condition, left.outcome, right.outcome, most)?;
             Ok(Evaluated {
                 outcome,
                 next: right.next,
             })
         }
         Plan::Filter { input, condition } => {
-            let below = evaluate(alloc, input, tables, handed, orderings, first, made)?;
-            let outcome = filtered(alloc, tables, condition, below.outcome)?;
+            let below = evaluate(alloc, input, tables, moved_in, orderings, first, made)?;
+            let outcome = filter_input(alloc, tables, condition, below.outcome)?;
             Ok(Evaluated {
                 outcome,
                 next: below.next,
             })
         }
         Plan::Map { input, outputs } => {
-            let below = evaluate(alloc, input, tables, handed, orderings, first, made)?;
-            let outcome = mapped(alloc, tables, outputs, below.outcome)?;
+            let below = evaluate(alloc, input, tables, moved_in, orderings, first, made)?;
+            let outcome = map_input(alloc, tables, outputs, below.outcome)?;
             Ok(Evaluated {
                 outcome,
                 next: below.next,
             })
         }
         Plan::Group { input, group } => {
-            let below = evaluate(alloc, input, tables, handed, orderings, first, made)?;
-            let outcome = grouped(alloc, tables, group, below.outcome, most)?;
+            let below = evaluate(alloc, input, tables, moved_in, orderings, first, made)?;
+            let outcome = group_input(alloc, tables, group, below.outcome, most)?;
             Ok(Evaluated {
-                outcome: Produced::Made(outcome),
+                outcome: Relation::Made(outcome),
                 next: below.next,
             })
         }
         Plan::Window { input, window } => {
-            let below = evaluate(alloc, input, tables, handed, orderings, first, made)?;
+            let below = evaluate(alloc, input, tables, moved_in, orderings, first, made)?;
             let Evaluated { outcome, next } = below;
-            let outcome = extended(alloc, tables, window, outcome, orderings, next, made)?;
+            let outcome = extend_rows(alloc, tables, window, outcome, orderings, next, made)?;
             Ok(Evaluated {
                 outcome,
                 next: next + window.classes.len(),
             })
         }
         Plan::Distinct { input } => {
-            let below = evaluate(alloc, input, tables, handed, orderings, first, made)?;
+            let below = evaluate(alloc, input, tables, moved_in, orderings, first, made)?;
             let outcome = distinct(alloc, tables, below.outcome)?;
             Ok(Evaluated {
                 outcome,
@@ -107,9 +107,9 @@ pub(crate) fn evaluate(
             })
         }
         Plan::Limit { input, limit } => {
-            let below = evaluate(alloc, input, tables, handed, orderings, first, made)?;
+            let below = evaluate(alloc, input, tables, moved_in, orderings, first, made)?;
             let Evaluated { outcome, next } = below;
-            let outcome = limited(alloc, tables, limit, outcome, orderings, next, made)?;
+            let outcome = limit_rows(alloc, tables, limit, outcome, orderings, next, made)?;
             Ok(Evaluated {
                 outcome,
                 next: next + 1,

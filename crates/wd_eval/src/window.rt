@@ -1,52 +1,52 @@
 //! A Window of a plan, under the orderings of a choice or under sorted ones.
 
 ghost use Rattle.std.specs.Prelude.{◌≡◌, ◌↔◌, ◌-◌, ◌^◌, ◌<◌, ◌≤◌, IfOk, IsTrue, Ok, OnOk, length};
-ghost use Rattle.wd_eval.specs.Listings.{AreEmptyOrUnserved, AreListings, IsEmptyAt};
+ghost use Rattle.wd_eval.specs.ClassIndexes.{AreEmptyOrUnserved, AreClassIndexes, IsEmptyAt};
 ghost use Rattle.wd_eval.specs.Ties.{AreAllPut, IsPutEmpty, IsTiedWindow};
 ghost use Rattle.wd_eval.specs.Walks.{IsAt, IsWindowStep};
 ghost use Rattle.wd_eval.specs.Windows.{AreFew, IsExtendedOrUnserved, orderings_of};
-ghost use Rattle.wd_nodes.specs.Produced.{produced_of};
+ghost use Rattle.wd_nodes.specs.Relation.{relation_of};
 ghost use Rattle.wd_plan.specs.Outcomes.{outcome_of};
 ghost use Rattle.wd_plan.specs.Plans.{NamesClasses, window_of};
 ghost use Rattle.wd_value.specs.Rows.{Instance, instance_of};
 
 use crate::calls::{with_calls, with_calls_by_column};
+use crate::class_index::{ClassIndex, SortedClassIndex, indexes, sorted_class_index};
 use crate::error::EvalError;
-use crate::listing::{Listing, SortedListing, listings, sorted_listing};
 use crate::orderings::Orderings;
 use crate::turned::{Turned, turn_of};
 use std::alloc::Global;
 use wd_columns::{Columns, RowSource};
-use wd_nodes::{Produced, outcome_from};
+use wd_nodes::{Relation, outcome_from};
 use wd_plan::{Outcome, Window};
 use wd_value::{OutOfMemory, Row};
 
 /// The input's rows with the values of the calls after each of them, under the orderings from
 /// `first` on: one for each class, each lawful, and empty where the input is a fault. Sorted ones
 /// are put after those made before, and rows that are kept column by column stay so under them.
-pub(crate) fn extended(
+pub(crate) fn extend_rows(
     alloc: Global,
     instance: &[Vec<Row>],
     window: &Window,
-    input: Produced,
+    input: Relation,
     orderings: Orderings,
     first: usize,
     made: &mut Vec<Vec<u64>>,
-) -> Result<Produced, EvalError>
-    requires few { AreFew (2 ^ 32 - 1) (produced_of (instance_of instance.now) input) }
+) -> Result<Relation, EvalError>
+    requires few { AreFew (2 ^ 32 - 1) (relation_of (instance_of instance.now) input) }
     requires at { IsAt orderings first made.old.items }
     requires named { NamesClasses (window_of window.now) }
-    ensures { IsWindowStep (produced_of (instance_of instance.now)) (window_of window.now) (produced_of (instance_of instance.now) input) orderings.entry first made.old.items made.new.items result }
+    ensures { IsWindowStep (relation_of (instance_of instance.now)) (window_of window.now) (relation_of (instance_of instance.now) input) orderings.entry first made.old.items made.new.items result }
 {
     match orderings {
         Orderings::Chosen(choice, _) => {
             let input = outcome_from(alloc, instance, input, window.calls.len())?;
             let outcome = evaluate_window(alloc, window, input, choice, first)?;
-            Ok(Produced::Made(outcome))
+            Ok(Relation::Made(outcome))
         }
         Orderings::Sorted(turned) => {
-            let produced = sorted_window(alloc, instance, window, input, turned, made)?;
-            Ok(produced)
+            let relation = sorted_window(alloc, instance, window, input, turned, made)?;
+            Ok(relation)
         }
     }
 }
@@ -73,8 +73,8 @@ pub fn evaluate_window(
             Ok(Outcome::Fault(fault))
         }
         Outcome::Rows(rows) => {
-            let listings = listings(alloc, window, &RowSource::of_rows(&rows), choice, first)?;
-            let outcome = with_calls(alloc, window, rows, &listings)?;
+            let indexes = indexes(alloc, window, &RowSource::of_rows(&rows), choice, first)?;
+            let outcome = with_calls(alloc, window, rows, &indexes)?;
             Ok(outcome)
         }
     }
@@ -109,20 +109,20 @@ fn sorted_window(
     alloc: Global,
     instance: &[Vec<Row>],
     window: &Window,
-    input: Produced,
+    input: Relation,
     turned: Option<Turned>,
     made: &mut Vec<Vec<u64>>,
-) -> Result<Produced, OutOfMemory>
-    requires few { AreFew (2 ^ 32 - 1) (produced_of (instance_of instance.now) input) }
+) -> Result<Relation, OutOfMemory>
+    requires few { AreFew (2 ^ 32 - 1) (relation_of (instance_of instance.now) input) }
     requires named { NamesClasses (window_of window.now) }
-    ensures { IfOk result (λ o. IsTiedWindow (window_of window.now) (produced_of (instance_of instance.now) input) turned (orderings_of made.old.items) (orderings_of made.new.items) (produced_of (instance_of instance.now) o)) }
+    ensures { IfOk result (λ o. IsTiedWindow (window_of window.now) (relation_of (instance_of instance.now) input) turned (orderings_of made.old.items) (orderings_of made.new.items) (relation_of (instance_of instance.now) o)) }
 {
     match input {
-        Produced::ByColumn(columns) => sorted_by_column(alloc, window, columns, turned, made),
+        Relation::ByColumn(columns) => sorted_by_column(alloc, window, columns, turned, made),
         other => {
             let given = outcome_from(alloc, instance, other, window.calls.len())?;
             let outcome = sorted_rows(alloc, window, given, turned, made)?;
-            Ok(Produced::Made(outcome))
+            Ok(Relation::Made(outcome))
         }
     }
 }
@@ -134,21 +134,21 @@ fn sorted_by_column(
     columns: Columns,
     turned: Option<Turned>,
     made: &mut Vec<Vec<u64>>,
-) -> Result<Produced, OutOfMemory>
+) -> Result<Relation, OutOfMemory>
     requires few { length columns < 2 ^ 32 }
     requires named { NamesClasses (window_of window.now) }
-    ensures { IfOk result (λ o. (instance : Instance) → IsTiedWindow (window_of window.now) (Ok columns) turned (orderings_of made.old.items) (orderings_of made.new.items) (produced_of instance o)) }
+    ensures { IfOk result (λ o. (instance : Instance) → IsTiedWindow (window_of window.now) (Ok columns) turned (orderings_of made.old.items) (orderings_of made.new.items) (relation_of instance o)) }
 {
-    let listings = put_sorted(
+    let indexes = put_sorted(
         alloc,
         window,
         &RowSource::of_columns(&columns),
         turned,
         made,
     )?;
-    match with_calls_by_column(alloc, window, columns, &listings)? {
-        Ok(extended) => Ok(Produced::ByColumn(extended)),
-        Err(fault) => Ok(Produced::Made(Outcome::Fault(fault))),
+    match with_calls_by_column(alloc, window, columns, &indexes)? {
+        Ok(extended) => Ok(Relation::ByColumn(extended)),
+        Err(fault) => Ok(Relation::Made(Outcome::Fault(fault))),
     }
 }
 
@@ -170,8 +170,8 @@ fn sorted_rows(
             Ok(Outcome::Fault(fault))
         }
         Outcome::Rows(rows) => {
-            let listings = put_sorted(alloc, window, &RowSource::of_rows(&rows), turned, made)?;
-            let outcome = with_calls(alloc, window, rows, &listings)?;
+            let indexes = put_sorted(alloc, window, &RowSource::of_rows(&rows), turned, made)?;
+            let outcome = with_calls(alloc, window, rows, &indexes)?;
             Ok(outcome)
         }
     }
@@ -185,20 +185,23 @@ fn put_sorted(
     rows: &RowSource,
     turned: Option<Turned>,
     made: &mut Vec<Vec<u64>>,
-) -> Result<Vec<Listing>, OutOfMemory>
+) -> Result<Vec<ClassIndex>, OutOfMemory>
     requires { length rows.now < 2 ^ 32 }
     ensures put { OnOk result (AreAllPut (window_of window.now) (Ok rows.now) turned (orderings_of made.old.items) (orderings_of made.new.items)) }
-    ensures listings { IfOk result (λ v. AreListings (window_of window.now) rows.now (orderings_of made.new.items) (length (orderings_of made.old.items)) (length (window_of window.now).classes) v.items) }
+    ensures indexes { IfOk result (λ v. AreClassIndexes (window_of window.now) rows.now (orderings_of made.new.items) (length (orderings_of made.old.items)) (length (window_of window.now).classes) v.items) }
 {
-    let mut listings = Vec::new(alloc);
+    let mut indexes = Vec::new(alloc);
     for number in 0..window.classes.len() {
         let turn = turn_of(turned, made.len());
-        let sorted = sorted_listing(alloc, window, number, rows, turn)?;
-        let SortedListing { ordering, listing } = sorted;
+        let sorted = sorted_class_index(alloc, window, number, rows, turn)?;
+        let SortedClassIndex {
+            ordering,
+            class_index,
+        } = sorted;
         made.push(ordering)?;
-        listings.push(listing)?;
+        indexes.push(class_index)?;
     }
-    Ok(listings)
+    Ok(indexes)
 }
 
 /// Puts so many empty orderings after those made before.

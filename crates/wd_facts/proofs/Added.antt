@@ -20,12 +20,12 @@ moved_next by front keys X = append_assoc front (map (λ c. by + c) X ∷ []) (m
 abbrev pub behind : List ℕ → Option (List ℕ) → Option (List ℕ)
 behind front rest = option_map (λ Y. front ++ Y) rest
 
-behind_both : (front : List ℕ) (d : ℕ) (rest : Option (List ℕ)) → behind (front ++ (d ∷ [])) rest ≡ behind front (both_copied (Some d) rest)
-behind_both front d None = refl
-behind_both front d (Some Y) = ap Some (append_assoc front (d ∷ []) Y)
+after_both : (front : List ℕ) (d : ℕ) (rest : Option (List ℕ)) → behind (front ++ (d ∷ [])) rest ≡ behind front (both_copied (Some d) rest)
+after_both front d None = refl
+after_both front d (Some Y) = ap Some (append_assoc front (d ∷ []) Y)
 
 pub copies_next : (outputs : List Expression) (front X : List ℕ) (c d : ℕ) → copy_from 0 outputs c ≡ Some d → behind (front ++ (d ∷ [])) (copies outputs X) ≡ behind front (copies outputs (c ∷ X))
-copies_next outputs front X c d e = behind_both front d (copies outputs X) ∙ ap (λ o. behind front (both_copied o (copies outputs X))) (sym e)
+copies_next outputs front X c d e = after_both front d (copies outputs X) ∙ ap (λ o. behind front (both_copied o (copies outputs X))) (sym e)
 
 pub copies_stop : (outputs : List Expression) (front X : List ℕ) (c : ℕ) → copy_from 0 outputs c ≡ None → None ≡ behind front (copies outputs (c ∷ X))
 copies_stop outputs front X c e = ap (λ o. behind front (both_copied o (copies outputs X))) (sym e)

@@ -375,8 +375,8 @@ module _ (g : GroupRule) (xs ys : List RowValues) (is : group_outcome g xs ≡ O
   abbrev CallsAt : ℕ → ℕ → List GroupCall → Type 0
   CallsAt p w calls = (n : ℕ) (d : GroupCall) → n < length calls → group_value (label_at p).set (rows_of_group g.columns (label_at p).set xs (label_at p).group) (get_or calls n d) ≡ Ok (column_of (row_at ys p) (w + n))
 
-  calls_behind : (p w : ℕ) (call : GroupCall) (calls : List GroupCall) → CallsAt p w (call ∷ calls) → CallsAt p (w + 1) calls
-  calls_behind p w call calls h n d k =
+  calls_after : (p w : ℕ) (call : GroupCall) (calls : List GroupCall) → CallsAt p w (call ∷ calls) → CallsAt p (w + 1) calls
+  calls_after p w call calls h n d k =
       let e : w + suc n ≡ (w + 1) + n = omega arith in
       subst (λ c. group_value (label_at p).set (rows_of_group g.columns (label_at p).set xs (label_at p).group) (get_or calls n d) ≡ Ok (column_of (row_at ys p) c)) e (h (suc n) d (omega arith))
 
@@ -391,11 +391,11 @@ module _ (g : GroupRule) (xs ys : List RowValues) (is : group_outcome g xs ≡ O
 
   same_sets : (p q w : ℕ) (calls : List GroupCall) → CallsAt p w calls → CallsAt q w calls → AllByRecursion (Same (unpaired ys) p q) (columns_named (grouping_columns w calls)) → SameHas (label_at p).set (label_at q).set (grouping_arguments calls)
   same_sets p q w [] hp hq a = tt
-  same_sets p q w (OfRows aggregate ∷ calls) hp hq a = same_sets p q (w + 1) calls (calls_behind p w (OfRows aggregate) calls hp) (calls_behind q w (OfRows aggregate) calls hq) a
+  same_sets p q w (OfRows aggregate ∷ calls) hp hq a = same_sets p q (w + 1) calls (calls_after p w (OfRows aggregate) calls hp) (calls_after q w (OfRows aggregate) calls hq) a
   same_sets p q w (Grouping arguments ∷ calls) hp hq a =
       let masks = number_is _ _ (sym (own_mask p w arguments calls hp) ∙ a.0 ∙ own_mask q w arguments calls hq) in
       all_append (λ c. has (label_at p).set c ≡ has (label_at q).set c) arguments (grouping_arguments calls) (same_mask (label_at p).set (label_at q).set arguments masks)
-      (same_sets p q (w + 1) calls (calls_behind p w (Grouping arguments) calls hp) (calls_behind q w (Grouping arguments) calls hq) a.1)
+      (same_sets p q (w + 1) calls (calls_after p w (Grouping arguments) calls hp) (calls_after q w (Grouping arguments) calls hq) a.1)
 
   -- one set needs no argument to be told from others
   few_sets : (sets : List (List ℕ)) → nat_lt 1 (length sets) ≡ false → are_told_apart [] sets ≡ true

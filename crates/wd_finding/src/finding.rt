@@ -72,13 +72,13 @@ pub fn judge(alloc: Global, schema: &[u8], query: &[u8]) -> Result<Finding, Deci
 {
     let verdict = decide(alloc, schema, query)?;
     let examined = examine(alloc, schema, query)?;
-    let certain = certified(alloc, schema, query, &verdict)?;
+    let certain = certify(alloc, schema, query, &verdict)?;
     let further = further_witness(alloc, schema, query, &verdict, &certain)?;
     Ok(with_evidence(alloc, query, verdict, certain, further, examined)?)
 }
 
 /// The certificate of a simpler plan, where the verdict is UNKNOWN.
-fn certified(
+fn certify(
     alloc: Global,
     schema: &[u8],
     query: &[u8],

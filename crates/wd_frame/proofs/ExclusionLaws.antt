@@ -1,4 +1,4 @@
--- A frame with an exclusion is two or three stretches of the places.
+-- A frame with an exclusion is two or three ranges of the places.
 use Rattle.std.proofs.Common.{◌≡◌, ◌∙◌, ℕ, zero, suc, ◌+◌, ◌-◌, ◌<◌, ◌≤◌, ◌⊎◌, inl, inr, min, max, pos, ◌-ℤ◌, Bool, true, false, not, ◌&&◌, ◌||◌, ◌∷◌, ◌++◌, filter, length, nat_eq, refl, sym, ap, arith}
 use Rattle.std.specs.Prelude.{int_le}
 use Rattle.std.specs.List.{range_with_len}
@@ -13,7 +13,7 @@ use Rattle.wd_plan.specs.declared.window.Frame.{Frame}
 use Rattle.wd_plan.specs.Frames.{bound_asks, ends_at, is_kept, starts_at}
 use Rattle.wd_frame.specs.declared.distance.Side.TheVariants.{Start, End}
 use Rattle.wd_frame.specs.Bounds.{IsInOrder, end_of, is_passed, start_of}
-use Rattle.wd_frame.specs.Exclusions.{ExclusionsAreStretches, before, behind, left_out_from, left_out_to, peers, zone}
+use Rattle.wd_frame.specs.Exclusions.{ExclusionsAreRanges, before, behind, left_out_from, left_out_to, peers, zone}
 use Rattle.wd_frame.specs.Places.{PartRule, distances, group_at, is_member, places_of}
 use Rattle.wd_frame.proofs.BoundLaws.{passed_first}
 use Rattle.wd_frame.proofs.Counted.{IsFirst, filter_first, skip_first}
@@ -281,8 +281,8 @@ module _ (part : PartRule) (frame : Frame) (p : ℕ) (ordered : IsInOrder part f
         ∙ ap (λ b. filter t (range_with_len b (n - p))) there
         ∙ from_row) i)
 
-pub exclusions_are_stretches : ExclusionsAreStretches
-exclusions_are_stretches = record {
+pub exclusions_are_ranges : ExclusionsAreRanges
+exclusions_are_ranges = record {
   current_row = λ part frame p ordered is within. by_row part frame p ordered within is ∙ ends part frame p exclusion.CurrentRow is;
   group = λ part frame p ordered is within. by_group part frame p ordered within is ∙ ends part frame p exclusion.Group is;
   ties = λ part frame p ordered is within. by_ties part frame p ordered within is

@@ -8,9 +8,9 @@ use Rattle.std.proofs.lemmas.List.{append-nil, append_assoc, drop_all, get_or-ma
 use Rattle.std.proofs.lemmas.List.FromFn.{length-range_with_len}
 use Rattle.wd_value.specs.declared.value.Value.TheVariants.{Null}
 use Rattle.wd_frame.specs.declared.answer.Answer.{Answer}
-use Rattle.wd_frame.specs.declared.extent.Stretch.{Stretch}
+use Rattle.wd_frame.specs.declared.extent.IndexRange.{IndexRange}
 use Rattle.wd_frame.specs.Slides.{IsAnswer, Plain, Values}
-use Rattle.wd_frame.specs.Stretches.{AreAnswers, AreLists, IsAlong, lists_of, picked, places_along, places_in, stretch_at}
+use Rattle.wd_frame.specs.IndexRanges.{AreAnswers, AreLists, IsAlong, lists_of, picked, places_along, places_in, range_at}
 
 -- ---- place by place
 
@@ -63,8 +63,8 @@ pub all_new : {X : Type 0} (len : ℕ) (new old : List X) → length new ≡ len
 all_new len new old same long =
     ap (λ rest. take len (new ++ rest)) (drop_all (length new) old (omega arith)) ∙ ap (take len) (append-nil new) ∙ take_all len new (omega arith)
 
-pub list_at : (lists : List (Vec Stretch Global)) (k : ℕ) (v : Vec Stretch Global) → k < length lists → v ≡ get_or lists k v → get_or (lists_of lists) k [] ≡ v.items
-list_at lists k v l e = get_or-map (λ (w : Vec Stretch Global). w.items) lists k v [] l ∙ ap (λ (w : Vec Stretch Global). w.items) (sym e)
+pub list_at : (lists : List (Vec IndexRange Global)) (k : ℕ) (v : Vec IndexRange Global) → k < length lists → v ≡ get_or lists k v → get_or (lists_of lists) k [] ≡ v.items
+list_at lists k v l e = get_or-map (λ (w : Vec IndexRange Global). w.items) lists k v [] l ∙ ap (λ (w : Vec IndexRange Global). w.items) (sym e)
 
 pub answers_over : (plain : Values → Plain) (f g : ℕ → Values) (m n : ℕ) (answers : List Answer) → ((p : ℕ) → f p ≡ g p) → m ≡ n → AreAnswers plain f m answers → AreAnswers plain g n answers
 answers_over plain f g m n answers same e are = record {
@@ -72,49 +72,49 @@ answers_over plain f g m n answers same e are = record {
   each = λ p other l. subst (λ vs. IsAnswer plain vs (get_or answers p other)) (same p) (are.each p other (omega arith));
 }
 
-along-more : (lists : List (List Stretch)) (k p : ℕ) → k < length lists → places_along (take (k + 1) lists) p ≡ places_along (take k lists) p ++ places_in (stretch_at (get_or lists k []) p)
+along-more : (lists : List (List IndexRange)) (k p : ℕ) → k < length lists → places_along (take (k + 1) lists) p ≡ places_along (take k lists) p ++ places_in (range_at (get_or lists k []) p)
 along-more [] k p l = absurd (omega arith)
-along-more (list ∷ lists) zero p l = append-nil (places_in (stretch_at list p))
+along-more (list ∷ lists) zero p l = append-nil (places_in (range_at list p))
 along-more (list ∷ lists) (suc k) p l =
     let next : suc k + 1 ≡ suc (k + 1) = omega arith in
-    ap (λ n. places_along (take n (list ∷ lists)) p) next ∙ ap (λ ps. places_in (stretch_at list p) ++ ps) (along-more lists k p (omega arith)) ∙ sym (append_assoc (places_in (stretch_at list p)) (places_along (take k lists) p) (places_in (stretch_at (get_or lists k []) p)))
+    ap (λ n. places_along (take n (list ∷ lists)) p) next ∙ ap (λ ps. places_in (range_at list p) ++ ps) (along-more lists k p (omega arith)) ∙ sym (append_assoc (places_in (range_at list p)) (places_along (take k lists) p) (places_in (range_at (get_or lists k []) p)))
 
-pub picked-more : (values : Values) (lists : List (List Stretch)) (k p : ℕ) → k < length lists
-    → picked values (places_along (take k lists) p) ++ picked values (places_in (stretch_at (get_or lists k []) p)) ≡ picked values (places_along (take (k + 1) lists) p)
+pub picked-more : (values : Values) (lists : List (List IndexRange)) (k p : ℕ) → k < length lists
+    → picked values (places_along (take k lists) p) ++ picked values (places_in (range_at (get_or lists k []) p)) ≡ picked values (places_along (take (k + 1) lists) p)
 picked-more values lists k p l =
-    sym (ap (picked values) (along-more lists k p l) ∙ map-append (λ (q : ℕ). get_or values q Null) (places_along (take k lists) p) (places_in (stretch_at (get_or lists k []) p)))
+    sym (ap (picked values) (along-more lists k p l) ∙ map-append (λ (q : ℕ). get_or values q Null) (places_along (take k lists) p) (places_in (range_at (get_or lists k []) p)))
 
-pub along_at : (n : ℕ) (lists : List (List Stretch)) (k : ℕ) → AllByRecursion (IsAlong n) lists → k < length lists → IsAlong n (get_or lists k [])
+pub along_at : (n : ℕ) (lists : List (List IndexRange)) (k : ℕ) → AllByRecursion (IsAlong n) lists → k < length lists → IsAlong n (get_or lists k [])
 along_at n [] k are l = absurd (omega arith)
 along_at n (list ∷ lists) zero are l = are.0
 along_at n (list ∷ lists) (suc k) are l = along_at n lists k are.1 (omega arith)
 
--- a stretch has no more places than there are
-pub in_few : (n : ℕ) (list : List Stretch) (p : ℕ) → IsAlong n list → p < n → length (places_in (stretch_at list p)) ≤ n
+-- a range has no more places than there are
+pub in_few : (n : ℕ) (list : List IndexRange) (p : ℕ) → IsAlong n list → p < n → length (places_in (range_at list p)) ≤ n
 in_few n list p are l =
-    let s = stretch_at list p in
+    let s = range_at list p in
     let long = are.long in
     let within = are.rising.end_within p (omega arith) in
     let count = length-range_with_len s.start (s.end - s.start) in
     omega arith
 
-along_few : (n : ℕ) (lists : List (List Stretch)) (k p : ℕ) → AllByRecursion (IsAlong n) lists → p < n → length (places_along (take k lists) p) ≤ k * n
+along_few : (n : ℕ) (lists : List (List IndexRange)) (k p : ℕ) → AllByRecursion (IsAlong n) lists → p < n → length (places_along (take k lists) p) ≤ k * n
 along_few n [] zero p are l = omega arith
 along_few n [] (suc k) p are l = omega arith
 along_few n (list ∷ lists) zero p are l = omega arith
 along_few n (list ∷ lists) (suc k) p are l =
     let here = in_few n list p are.0 l in
     let rest = along_few n lists k p are.1 l in
-    let sum = length-append (places_in (stretch_at list p)) (places_along (take k lists) p) in
+    let sum = length-append (places_in (range_at list p)) (places_along (take k lists) p) in
     omega arith
 
-pub few_values : (n : ℕ) (values : Values) (lists : List (List Stretch)) (k : ℕ) → AreLists n lists → k < length lists → n < 2 ^ 62
-    → AreFew n (λ p. picked values (places_along (take k lists) p)) (λ p. picked values (places_in (stretch_at (get_or lists k []) p)))
+pub few_values : (n : ℕ) (values : Values) (lists : List (List IndexRange)) (k : ℕ) → AreLists n lists → k < length lists → n < 2 ^ 62
+    → AreFew n (λ p. picked values (places_along (take k lists) p)) (λ p. picked values (places_in (range_at (get_or lists k []) p)))
 few_values n values lists k are l small = λ p m.
     let first = along_few n lists k p are.along m in
     let second = in_few n (get_or lists k []) p (along_at n lists k are.along l) m in
     let a = length-map (places_along (take k lists) p) (λ (q : ℕ). get_or values q Null) in
-    let b = length-map (places_in (stretch_at (get_or lists k []) p)) (λ (q : ℕ). get_or values q Null) in
+    let b = length-map (places_in (range_at (get_or lists k []) p)) (λ (q : ℕ). get_or values q Null) in
     let few = are.few in
     let most : k * n ≤ 2 * n = grind arith in
     omega arith

@@ -3,7 +3,7 @@ pub mod FrameLaws
 pub mod Passing
 pub mod Counted
 pub mod BoundLaws
-pub mod Stretching
+pub mod Ranging
 pub mod Candidates
 pub mod Held
 pub mod Sliding

@@ -1,4 +1,4 @@
--- The values of one stretch after another.
+-- The values of one range after another.
 use Rattle.std.proofs.Common.{◌≡◌, ◌∙◌, ℕ, zero, suc, ◌+◌, ◌-◌, ◌<◌, ◌≤◌, ◌⊎◌, inl, inr, min, List, [], ◌∷◌, ◌++◌, length, map, take, drop, get_or, refl, sym, ap, subst, arith, Result, Ok, Err, IfOk}
 use Rattle.std.specs.List.{range_with_len}
 use Rattle.std.proofs.lemmas.Bool.{cases_lt, cases_order}
@@ -7,10 +7,10 @@ use Rattle.wd_value.specs.declared.value.Value.TheVariants.{Null}
 use Rattle.wd_plan.specs.declared.window.Exclusion.TheVariants.{NoOthers}
 use Rattle.wd_plan.specs.declared.window.Frame.{Frame}
 use Rattle.wd_frame.specs.declared.answer.Answer.{Answer}
-use Rattle.wd_frame.specs.declared.extent.Stretch.{Stretch}
+use Rattle.wd_frame.specs.declared.extent.IndexRange.{IndexRange}
 use Rattle.wd_frame.specs.Places.{PartRule}
 use Rattle.wd_frame.specs.Slides.{IsAnswer, Plain, Values}
-use Rattle.wd_frame.specs.Stretches.{AreAnswers, AreBounds, AreFrameAnswers, AreStretches, picked, places_in, stretch_at, values_in}
+use Rattle.wd_frame.specs.IndexRanges.{AreAnswers, AreBounds, AreFrameAnswers, AreRising, picked, places_in, range_at, values_in}
 use Rattle.wd_frame.proofs.BoundLaws.{places}
 
 -- ---- values between two places
@@ -47,22 +47,22 @@ map-range vs zero s le = refl
 map-range vs (suc n) s le =
     ap (λ rest. get_or vs s Null ∷ rest) (map-range vs n (s + 1) (omega arith)) ∙ sym (ap (take (suc n)) (drop_more vs s Null (omega arith)))
 
-pub picked-in : (vs : Values) (s : Stretch) → s.start ≤ length vs → s.end ≤ length vs → picked vs (places_in s) ≡ values_in vs s.start s.end
+pub picked-in : (vs : Values) (s : IndexRange) → s.start ≤ length vs → s.end ≤ length vs → picked vs (places_in s) ≡ values_in vs s.start s.end
 picked-in vs s l m = map-range vs (s.end - s.start) s.start (omega arith)
 
 -- ---- answers so far
 
-pub record AreSoFar (plain : Values → Plain) (values : Values) (stretches : List Stretch) (i : ℕ) (answers : List Answer) (first next : ℕ) (held : Values) : Type 0 where
+pub record AreSoFar (plain : Values → Plain) (values : Values) (ranges : List IndexRange) (i : ℕ) (answers : List Answer) (first next : ℕ) (held : Values) : Type 0 where
   pub long : length answers ≡ i
-  pub each : (p : ℕ) (other : Answer) → p < i → IsAnswer plain (picked values (places_in (stretch_at stretches p))) (get_or answers p other)
+  pub each : (p : ℕ) (other : Answer) → p < i → IsAnswer plain (picked values (places_in (range_at ranges p))) (get_or answers p other)
   pub held_is : held ≡ values_in values first next
   pub ordered : first ≤ next
   pub within : next ≤ length values
-  pub next_start : (p : ℕ) → i ≤ p → p < length stretches → first ≤ (stretch_at stretches p).start
-  pub next_end : (p : ℕ) → i ≤ p → p < length stretches → next ≤ (stretch_at stretches p).end
+  pub next_start : (p : ℕ) → i ≤ p → p < length ranges → first ≤ (range_at ranges p).start
+  pub next_end : (p : ℕ) → i ≤ p → p < length ranges → next ≤ (range_at ranges p).end
 
-pub none_yet : (plain : Values → Plain) (values : Values) (stretches : List Stretch) (held : Values) → held ≡ [] → AreSoFar plain values stretches 0 [] 0 0 held
-none_yet plain values stretches held e = record {
+pub none_yet : (plain : Values → Plain) (values : Values) (ranges : List IndexRange) (held : Values) → held ≡ [] → AreSoFar plain values ranges 0 [] 0 0 held
+none_yet plain values ranges held e = record {
   long = refl;
   each = λ p other l. absurd (omega arith);
   held_is = e;
@@ -75,50 +75,50 @@ none_yet plain values stretches held e = record {
 min_left : (a b c : ℕ) → a ≤ c → min a b ≤ c
 min_left a b c l = omega arith
 
-pub one_more : (plain : Values → Plain) (values : Values) (stretches : List Stretch) (i : ℕ) (answers : List Answer) (first next : ℕ) (held held' : Values) (a : Answer)
-    → AreSoFar plain values stretches i answers first next held → AreStretches (length values) stretches → i < length stretches
-    → let s = stretch_at stretches i in held' ≡ values_in values (min s.start s.end) s.end → IsAnswer plain held' a
-    → AreSoFar plain values stretches (i + 1) (answers ++ a ∷ []) (min s.start s.end) s.end held'
-one_more plain values stretches i answers first next held held' a so_far rising there is answered = record {
+pub one_more : (plain : Values → Plain) (values : Values) (ranges : List IndexRange) (i : ℕ) (answers : List Answer) (first next : ℕ) (held held' : Values) (a : Answer)
+    → AreSoFar plain values ranges i answers first next held → AreRising (length values) ranges → i < length ranges
+    → let s = range_at ranges i in held' ≡ values_in values (min s.start s.end) s.end → IsAnswer plain held' a
+    → AreSoFar plain values ranges (i + 1) (answers ++ a ∷ []) (min s.start s.end) s.end held'
+one_more plain values ranges i answers first next held held' a so_far rising there is answered = record {
   long = length_push answers a ∙ ap (λ n. n + 1) so_far.long;
   each = λ p other l. one p other l (cases_order p i);
   held_is = is;
   ordered = omega arith;
   within = rising.end_within i there;
-  next_start = λ p l m. min_left (stretch_at stretches i).start (stretch_at stretches i).end (stretch_at stretches p).start (rising.starts i p (omega arith) m);
+  next_start = λ p l m. min_left (range_at ranges i).start (range_at ranges i).end (range_at ranges p).start (rising.starts i p (omega arith) m);
   next_end = λ p l m. rising.ends i p (omega arith) m;
 }
   where
-    here : IsAnswer plain (picked values (places_in (stretch_at stretches i))) a
+    here : IsAnswer plain (picked values (places_in (range_at ranges i))) a
     here =
         subst (λ vs. IsAnswer plain vs a)
-        (is ∙ in_until values (stretch_at stretches i).start (stretch_at stretches i).end ∙ sym (picked-in values (stretch_at stretches i) (rising.start_within i there) (rising.end_within i there)))
+        (is ∙ in_until values (range_at ranges i).start (range_at ranges i).end ∙ sym (picked-in values (range_at ranges i) (rising.start_within i there) (rising.end_within i there)))
         answered
 
-    one : (p : ℕ) (other : Answer) → p < i + 1 → (p ≡ i) ⊎ ((p < i) ⊎ (i < p)) → IsAnswer plain (picked values (places_in (stretch_at stretches p))) (get_or (answers ++ a ∷ []) p other)
+    one : (p : ℕ) (other : Answer) → p < i + 1 → (p ≡ i) ⊎ ((p < i) ⊎ (i < p)) → IsAnswer plain (picked values (places_in (range_at ranges p))) (get_or (answers ++ a ∷ []) p other)
     one p other l (inl e) =
-        subst (IsAnswer plain (picked values (places_in (stretch_at stretches p)))) (sym (get_or_push answers a other p (so_far.long ∙ sym e)))
-        (subst (λ n. IsAnswer plain (picked values (places_in (stretch_at stretches n))) a) (sym e) here)
+        subst (IsAnswer plain (picked values (places_in (range_at ranges p)))) (sym (get_or_push answers a other p (so_far.long ∙ sym e)))
+        (subst (λ n. IsAnswer plain (picked values (places_in (range_at ranges n))) a) (sym e) here)
     one p other l (inr (inl o)) =
-        subst (IsAnswer plain (picked values (places_in (stretch_at stretches p)))) (sym (get_or_append_left answers (a ∷ []) other p (let long = so_far.long in omega arith))) (so_far.each p other o)
+        subst (IsAnswer plain (picked values (places_in (range_at ranges p)))) (sym (get_or_append_left answers (a ∷ []) other p (let long = so_far.long in omega arith))) (so_far.each p other o)
     one p other l (inr (inr o)) = absurd (omega arith)
 
-pub all_are : (plain : Values → Plain) (values : Values) (stretches : List Stretch) (i : ℕ) (answers : List Answer) (first next : ℕ) (held : Values)
-    → AreSoFar plain values stretches i answers first next held → i ≡ length stretches → AreAnswers plain (λ p. picked values (places_in (stretch_at stretches p))) (length stretches) answers
-all_are plain values stretches i answers first next held so_far whole = record {
+pub all_are : (plain : Values → Plain) (values : Values) (ranges : List IndexRange) (i : ℕ) (answers : List Answer) (first next : ℕ) (held : Values)
+    → AreSoFar plain values ranges i answers first next held → i ≡ length ranges → AreAnswers plain (λ p. picked values (places_in (range_at ranges p))) (length ranges) answers
+all_are plain values ranges i answers first next held so_far whole = record {
   long = so_far.long ∙ whole;
   each = λ p other l. so_far.each p other (omega arith);
 }
 
 -- ---- frames
 
-pub frame_answers : (plain : Values → Plain) (part : PartRule) (frame : Frame) (values : Values) (stretches : List Stretch) (answers : List Answer)
-    → AreBounds part frame stretches → AreAnswers plain (λ p. picked values (places_in (stretch_at stretches p))) (length stretches) answers → frame.exclusion ≡ NoOthers → AreFrameAnswers plain part frame values answers
-frame_answers plain part frame values stretches answers bounds are all = record {
+pub frame_answers : (plain : Values → Plain) (part : PartRule) (frame : Frame) (values : Values) (ranges : List IndexRange) (answers : List Answer)
+    → AreBounds part frame ranges → AreAnswers plain (λ p. picked values (places_in (range_at ranges p))) (length ranges) answers → frame.exclusion ≡ NoOthers → AreFrameAnswers plain part frame values answers
+frame_answers plain part frame values ranges answers bounds are all = record {
   long = are.long ∙ bounds.long;
   each = λ ordered p other l.
       let so_many = bounds.long in
-      let within : p < length stretches = omega arith in
+      let within : p < length ranges = omega arith in
       let start = bounds.start ordered p within in
       let end = bounds.end ordered p within in
       (are.each p other within).exact

@@ -37,7 +37,7 @@ before part frame p = zone part frame p 0 (left_out_from frame.exclusion part p)
 abbrev pub behind : PartRule → Frame → ℕ → List ℕ
 behind part frame p = zone part frame p (left_out_to frame.exclusion part p) (length part.groups)
 
-pub record ExclusionsAreStretches : Type 0 where
+pub record ExclusionsAreRanges : Type 0 where
   pub current_row : (part : PartRule) (frame : Frame) (p : ℕ) → IsInOrder part frame → frame.exclusion ≡ exclusion.CurrentRow → p < length part.groups
       → places_of part frame p ≡ before part frame p ++ behind part frame p
   pub group : (part : PartRule) (frame : Frame) (p : ℕ) → IsInOrder part frame → frame.exclusion ≡ exclusion.Group → p < length part.groups

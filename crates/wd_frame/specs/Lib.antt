@@ -4,4 +4,4 @@ pub mod Bounds
 pub mod Exclusions
 pub mod Slides
 pub mod Kept
-pub mod Stretches
+pub mod IndexRanges

@@ -2,10 +2,10 @@
 
 ghost use Rattle.std.specs.Prelude.{◌≡◌, ◌<◌, ◌≤◌, ◌∷◌, [], length, IfOk};
 ghost use Rattle.wd_frame.specs.Places.{part_of};
-ghost use Rattle.wd_frame.specs.Stretches as spec;
-ghost use Rattle.wd_frame.specs.Stretches.{AreFrames, AreLeftOut, AreRows, AreShared, AreZones, lists_of};
+ghost use Rattle.wd_frame.specs.IndexRanges as spec;
+ghost use Rattle.wd_frame.specs.IndexRanges.{AreFrames, AreLeftOut, AreRows, AreShared, AreZones, lists_of};
 
-use crate::extent::{Stretch, all_bounds};
+use crate::extent::{IndexRange, all_bounds};
 use crate::frame::Part;
 use std::alloc::Global;
 use wd_plan::{Bound, Exclusion, Frame, FrameMode};
@@ -34,11 +34,11 @@ const WITH_THE_ROW: [Zone; 3] = [Zone::Before, Zone::Row, Zone::Behind];
 /// The places of the frames of all places, as lists that have a range for each place: one list without an exclusion, two with one, and
 /// three where it keeps the row itself. A frame has the places of its ranges, list by list. Takes time linear in the partition's
 /// length.
-pub fn frame_stretches(
+pub fn frame_ranges(
     alloc: Global,
     part: &Part,
     frame: &Frame,
-) -> Result<Vec<Vec<Stretch>>, OutOfMemory>
+) -> Result<Vec<Vec<IndexRange>>, OutOfMemory>
     ensures { IfOk result (λ v. AreFrames (part_of part.now) frame.now (lists_of v.items)) }
 {
     let bounds = all_bounds(alloc, part, frame)?;
@@ -52,16 +52,20 @@ pub fn frame_stretches(
 }
 
 /// A list of one list.
-fn only(alloc: Global, stretches: Vec<Stretch>) -> Result<Vec<Vec<Stretch>>, OutOfMemory>
-    ensures { IfOk result (λ v. lists_of v.items ≡ stretches.items ∷ []) }
+fn only(alloc: Global, ranges: Vec<IndexRange>) -> Result<Vec<Vec<IndexRange>>, OutOfMemory>
+    ensures { IfOk result (λ v. lists_of v.items ≡ ranges.items ∷ []) }
 {
     let mut lists = Vec::new(alloc);
-    lists.push(stretches)?;
+    lists.push(ranges)?;
     Ok(lists)
 }
 
 /// For each place the range that the exclusion leaves out; under TIES it includes the row itself.
-fn left_out(alloc: Global, part: &Part, exclusion: Exclusion) -> Result<Vec<Stretch>, OutOfMemory>
+fn left_out(
+    alloc: Global,
+    part: &Part,
+    exclusion: Exclusion,
+) -> Result<Vec<IndexRange>, OutOfMemory>
     ensures { IfOk result (λ v. AreLeftOut (part_of part.now) exclusion v.items) }
 {
     match exclusion {
@@ -72,13 +76,13 @@ fn left_out(alloc: Global, part: &Part, exclusion: Exclusion) -> Result<Vec<Stre
 }
 
 /// For each place the range of `length` places from there on.
-fn rows(alloc: Global, count: usize, length: usize) -> Result<Vec<Stretch>, OutOfMemory>
+fn rows(alloc: Global, count: usize, length: usize) -> Result<Vec<IndexRange>, OutOfMemory>
     requires { length ≤ 1 }
     ensures { IfOk result (λ v. AreRows count length v.items) }
 {
     let mut rows = Vec::with_capacity(alloc, count)?;
     for place in 0..count {
-        rows.push(Stretch {
+        rows.push(IndexRange {
             start: place,
             end: place + length,
         })?;
@@ -99,9 +103,9 @@ fn zones_of(exclusion: Exclusion) -> &'static [Zone]
 fn in_zones(
     alloc: Global,
     zones: &[Zone],
-    bounds: &[Stretch],
-    left_out: &[Stretch],
-) -> Result<Vec<Vec<Stretch>>, OutOfMemory>
+    bounds: &[IndexRange],
+    left_out: &[IndexRange],
+) -> Result<Vec<Vec<IndexRange>>, OutOfMemory>
     requires { length left_out.now ≡ length bounds.now }
     ensures { IfOk result (λ v. AreZones zones.now bounds.now left_out.now (lists_of v.items)) }
 {
@@ -117,35 +121,35 @@ fn in_zones(
 fn in_zone(
     alloc: Global,
     zone: Zone,
-    bounds: &[Stretch],
-    left_out: &[Stretch],
-) -> Result<Vec<Stretch>, OutOfMemory>
+    bounds: &[IndexRange],
+    left_out: &[IndexRange],
+) -> Result<Vec<IndexRange>, OutOfMemory>
     requires { length left_out.now ≡ length bounds.now }
     ensures { IfOk result (λ v. AreShared zone bounds.now left_out.now v.items) }
 {
     let mut list = Vec::with_capacity(alloc, bounds.len())?;
     for place in 0..bounds.len() {
         let kept = zone_of(zone, left_out[place], place, bounds.len());
-        list.push(shared(bounds[place], kept))?;
+        list.push(intersection(bounds[place], kept))?;
     }
     Ok(list)
 }
 
 /// Those of `count` places that are in a zone.
-fn zone_of(zone: Zone, left_out: Stretch, place: usize, count: usize) -> Stretch
+fn zone_of(zone: Zone, left_out: IndexRange, place: usize, count: usize) -> IndexRange
     requires { place < count }
     ensures { result ≡ spec.zone_of zone left_out place count }
 {
     match zone {
-        Zone::Before => Stretch {
+        Zone::Before => IndexRange {
             start: 0,
             end: left_out.start,
         },
-        Zone::Row => Stretch {
+        Zone::Row => IndexRange {
             start: place,
             end: place + 1,
         },
-        Zone::Behind => Stretch {
+        Zone::Behind => IndexRange {
             start: left_out.end,
             end: count,
         },
@@ -153,10 +157,10 @@ fn zone_of(zone: Zone, left_out: Stretch, place: usize, count: usize) -> Stretch
 }
 
 /// The places that two ranges share.
-fn shared(one: Stretch, other: Stretch) -> Stretch
+fn intersection(one: IndexRange, other: IndexRange) -> IndexRange
     ensures { result ≡ spec.shared one other }
 {
-    Stretch {
+    IndexRange {
         start: one.start.max(other.start),
         end: one.end.min(other.end),
     }

@@ -4,7 +4,7 @@ ghost use Rattle.std.specs.Prelude.{◌≡◌, ◌<◌, ◌≤◌, length, IfOk}
 ghost use Rattle.wd_frame.specs.Bounds as spec;
 ghost use Rattle.wd_frame.specs.Bounds.{IsInOrder, bound_of, end_of, start_of};
 ghost use Rattle.wd_frame.specs.Places.{part_of};
-ghost use Rattle.wd_frame.specs.Stretches.{AreBounds};
+ghost use Rattle.wd_frame.specs.IndexRanges.{AreBounds};
 
 use crate::distance::{Side, bound_asks};
 use crate::frame::{Part, distances};
@@ -27,23 +27,23 @@ pub fn bounds(part: &Part, frame: &Frame, place: usize) -> (usize, usize)
 
 /// The places from `start` up to `end`; none where the end does not pass the start.
 #[derive(Clone, Copy)]
-pub struct Stretch {
+pub struct IndexRange {
     pub start: usize,
     pub end: usize,
 }
 
 /// The bounds of the frames of all places, as `bounds` gives them. Takes time linear in the partition's length: each bound moves on
 /// from that of the place before it.
-pub fn all_bounds(alloc: Global, part: &Part, frame: &Frame) -> Result<Vec<Stretch>, OutOfMemory>
+pub fn all_bounds(alloc: Global, part: &Part, frame: &Frame) -> Result<Vec<IndexRange>, OutOfMemory>
     ensures { IfOk result (λ v. AreBounds (part_of part.now) frame.now v.items) }
 {
     let mut all = Vec::with_capacity(alloc, part.groups.len())?;
     let mut start = 0;
     let mut end = 0;
     for place in 0..part.groups.len() {
-        start = moved(Side::Start, part, frame, place, start);
-        end = moved(Side::End, part, frame, place, end);
-        all.push(Stretch { start, end })?;
+        start = move_on(Side::Start, part, frame, place, start);
+        end = move_on(Side::End, part, frame, place, end);
+        all.push(IndexRange { start, end })?;
     }
     Ok(all)
 }
@@ -66,7 +66,7 @@ fn bound(side: Side, part: &Part, frame: &Frame, place: usize) -> usize
 }
 
 /// The number of places that pass one side of the frame, moved on from that of an earlier place.
-pub(crate) fn moved(side: Side, part: &Part, frame: &Frame, place: usize, from: usize) -> usize
+pub(crate) fn move_on(side: Side, part: &Part, frame: &Frame, place: usize, from: usize) -> usize
     requires { from ≤ length (part_of part.now).groups }
     ensures rises { from ≤ result }
     ensures within { result ≤ length (part_of part.now).groups }

@@ -1,7 +1,7 @@
 //! Laws over the definitions alone.
 
 ghost use Rattle.wd_frame.specs.Bounds.{BoundsAreFrames};
-ghost use Rattle.wd_frame.specs.Exclusions.{ExclusionsAreStretches};
+ghost use Rattle.wd_frame.specs.Exclusions.{ExclusionsAreRanges};
 ghost use Rattle.wd_frame.specs.Laws.{PlacesAreFrames};
 
 /// The rows at the places of a frame are the frame as plans define it.
@@ -15,6 +15,6 @@ pub fn bounds_are_frames()
 {}
 
 /// A frame with an exclusion has the places of two ranges, or of three where it keeps the row itself.
-pub fn exclusions_are_stretches()
-    ensures { ExclusionsAreStretches }
+pub fn exclusions_are_ranges()
+    ensures { ExclusionsAreRanges }
 {}

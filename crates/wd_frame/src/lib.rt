@@ -22,11 +22,11 @@ mod sum;
 
 pub use answer::Answer;
 pub use count::Count;
-pub use exclusion::frame_stretches;
-pub use extent::{Stretch, all_bounds, bounds};
+pub use exclusion::frame_ranges;
+pub use extent::{IndexRange, all_bounds, bounds};
 pub use frame::{Part, members};
 pub use greatest::Greatest;
 pub use least::Least;
-pub use over::{over_all, over_frames, over_lists, over_stretches};
+pub use over::{over_all, over_frames, over_lists, over_ranges};
 pub use slide::{Join, Slide};
 pub use sum::Sum;

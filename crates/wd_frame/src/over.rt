@@ -4,10 +4,10 @@ ghost use Rattle.std.specs.Prelude.{◌≡◌, ℕ, ◌+◌, ◌-◌, ◌^◌, �
 ghost use Rattle.wd_frame.specs.Places.{part_of};
 ghost use Rattle.wd_plan.specs.declared.window.Exclusion.TheVariants as exclusion;
 ghost use Rattle.wd_frame.specs.Slides.{Values, seen, shown};
-ghost use Rattle.wd_frame.specs.Stretches.{AreAnswers, AreFrameAnswers, AreLists, AreStretches, lists_of, picked, places_along, places_in, stretch_at, values_in};
+ghost use Rattle.wd_frame.specs.IndexRanges.{AreAnswers, AreFrameAnswers, AreLists, AreRising, lists_of, picked, places_along, places_in, range_at, values_in};
 
 use crate::answer::Answer;
-use crate::extent::{Stretch, all_bounds};
+use crate::extent::{IndexRange, all_bounds};
 use crate::frame::Part;
 use crate::slide::{Join, Slide};
 use std::alloc::Global;
@@ -28,9 +28,9 @@ pub fn over_frames<'a, S: Slide<'a>>(
     requires whole { frame.now.exclusion ≡ exclusion.NoOthers }
     ensures { IfOk result (λ v. AreFrameAnswers S.plain (part_of part.now) frame.now values.now v.items) }
 {
-    let stretches = all_bounds(alloc, part, frame)?;
+    let ranges = all_bounds(alloc, part, frame)?;
     let references = references(alloc, values)?;
-    over_stretches(alloc, &stretches, &references, empty)
+    over_ranges(alloc, &ranges, &references, empty)
 }
 
 /// A reference to each value.
@@ -46,24 +46,24 @@ fn references<'a>(alloc: Global, values: &'a [Value]) -> Result<Vec<&'a Value>, 
 
 /// For each range of a list whose ends rise the function's answer over the values there. Each value is pushed at most once, and popped
 /// at most once.
-pub fn over_stretches<'a, S: Slide<'a>>(
+pub fn over_ranges<'a, S: Slide<'a>>(
     alloc: Global,
-    stretches: &[Stretch],
+    ranges: &[IndexRange],
     values: &[&'a Value],
     empty: S,
 ) -> Result<Vec<Answer<'a>>, OutOfMemory>
     requires empty { S.values empty ≡ [] }
-    requires rising { AreStretches (length values.now) stretches.now }
-    ensures { IfOk result (λ v. AreAnswers S.plain (λ p. picked (seen values.now) (places_in (stretch_at stretches.now p))) (length stretches.now) v.items) }
+    requires rising { AreRising (length values.now) ranges.now }
+    ensures { IfOk result (λ v. AreAnswers S.plain (λ p. picked (seen values.now) (places_in (range_at ranges.now p))) (length ranges.now) v.items) }
 {
     let mut slide = empty;
-    slid(alloc, &mut slide, stretches, values)
+    slid(alloc, &mut slide, ranges, values)
 }
 
 /// For each place the function's answer over the values in its ranges, list by list. Takes time linear in the number of places.
 pub fn over_lists<'a, S: Join<'a>>(
     alloc: Global,
-    lists: &[Vec<Stretch>],
+    lists: &[Vec<IndexRange>],
     values: &[&'a Value],
     empty: S,
 ) -> Result<Vec<Answer<'a>>, OutOfMemory>
@@ -105,24 +105,24 @@ fn join_all<'a, S: Join<'a>>(answers: &mut [Answer<'a>], more: &[Answer<'a>])
 fn slid<'a, S: Slide<'a>>(
     alloc: Global,
     slide: &mut S,
-    stretches: &[Stretch],
+    ranges: &[IndexRange],
     values: &[&'a Value],
 ) -> Result<Vec<Answer<'a>>, OutOfMemory>
     requires empty { S.values slide.old ≡ [] }
-    requires rising { AreStretches (length values.now) stretches.now }
-    ensures answers { IfOk result (λ v. AreAnswers S.plain (λ p. picked (seen values.now) (places_in (stretch_at stretches.now p))) (length stretches.now) v.items) }
+    requires rising { AreRising (length values.now) ranges.now }
+    ensures answers { IfOk result (λ v. AreAnswers S.plain (λ p. picked (seen values.now) (places_in (range_at ranges.now p))) (length ranges.now) v.items) }
     ensures empty { OnOk result (S.values slide.new ≡ []) }
 {
-    let mut answers = Vec::with_capacity(alloc, stretches.len())?;
+    let mut answers = Vec::with_capacity(alloc, ranges.len())?;
     let mut first = 0;
     let mut next = 0;
-    for stretch in stretches {
-        let until = stretch.start.min(stretch.end);
-        fill(slide, values, first, next, stretch.end)?;
+    for range in ranges {
+        let until = range.start.min(range.end);
+        fill(slide, values, first, next, range.end)?;
         drain(slide, until - first);
         answers.push(slide.answer())?;
         first = until;
-        next = stretch.end;
+        next = range.end;
     }
     drain(slide, next - first);
     Ok(answers)

@@ -23,7 +23,7 @@ use wd_plan::Plan;
 use wd_schema::Schema;
 use wd_seek::try_candidate;
 use wd_value::OutOfMemory;
-use wd_varied::{Suggested, paired, row_work, sizes, suggested_by, varied};
+use wd_varied::{Suggested, pair_count, row_work, sizes, suggested_by, vary};
 use wd_witness_text::Witness;
 
 /// The most tries of all sizes together in one turn.
@@ -235,7 +235,7 @@ fn try_varied(
     if spent == MOST_EVALUATIONS {
         return Ok((None, spent));
     }
-    let instance = varied(alloc, schema, outline, suggested, rows, number)?;
+    let instance = vary(alloc, schema, outline, suggested, rows, number)?;
     try_candidate(alloc, schema, plan, outline, instance, turn, spent)
 }
 
@@ -249,7 +249,7 @@ fn tries(plan: &Plan, rows: u32, sizes: usize) -> u32
     ensures { result ≡ spec.tries (plan_of plan.now) rows }
 {
     share(
-        paired(plan, rows),
+        pair_count(plan, rows),
         plan.orderings(),
         row_work(plan),
         sizes as u32,

@@ -1,9 +1,9 @@
 //! Changes with which rows that tie are treated alike, for everything that is open in a query.
 
-use crate::search::{Open, examined, open_in};
+use crate::search::{Open, examine_text, open_in};
 use std::alloc::Global;
 use wd_analyse::Reason;
-use wd_keys::{Change, alike};
+use wd_keys::{Change, treat_alike};
 use wd_lex::{Token, lex};
 use wd_sites::PlanSite;
 use wd_value::OutOfMemory;
@@ -15,7 +15,7 @@ pub(crate) fn all_alike(
     schema: &[u8],
     query: &[u8],
 ) -> Result<Option<Vec<Change>>, OutOfMemory> {
-    let Some(examined) = examined(alloc, schema, query)? else {
+    let Some(examined) = examine_text(alloc, schema, query)? else {
         return Ok(None);
     };
     let open = open_in(alloc, examined, query)?;
@@ -54,7 +54,7 @@ fn add_alike(
     let mut some = false;
     for found in sites {
         if found.node == reason.node && found.call == reason.call {
-            match alike(alloc, tokens, *found)? {
+            match treat_alike(alloc, tokens, *found)? {
                 Some(change) => insert(changes, change)?,
                 None => return Ok(false),
             }

@@ -5,10 +5,10 @@ ghost use Rattle.wd_keys.specs.Changes.{ArePut};
 ghost use Rattle.wd_help.specs.Helps.{IsFirstHelp, IsHelp, help_of};
 
 use crate::alike::all_alike;
-use crate::search::{found, most_lists};
+use crate::search::{find_changes, most_lists};
 use std::alloc::Global;
 use wd_decide::{DecideError, Verdict, decide};
-use wd_keys::{Change, changed};
+use wd_keys::{Change, apply_changes};
 use wd_least::{Mended, mended_first};
 use wd_sites::PlanSite;
 use wd_value::OutOfMemory;
@@ -63,8 +63,8 @@ fn further_help(
 ) -> Result<Option<Help>, OutOfMemory>
     ensures { IfOk result (λ found. IfSome found (IsHelp schema.now query.now)) }
 {
-    match found(alloc, schema, query, sites, lists)? {
-        Some(changes) => judged(alloc, schema, query, changes),
+    match find_changes(alloc, schema, query, sites, lists)? {
+        Some(changes) => judge(alloc, schema, query, changes),
         None => Ok(None),
     }
 }
@@ -76,13 +76,13 @@ pub fn alike_for(alloc: Global, schema: &[u8], query: &[u8]) -> Result<Option<He
     ensures { IfOk result (λ found. IfSome found (IsHelp schema.now query.now)) }
 {
     match all_alike(alloc, schema, query)? {
-        Some(changes) => judged(alloc, schema, query, changes),
+        Some(changes) => judge(alloc, schema, query, changes),
         None => Ok(None),
     }
 }
 
 /// The changes, if they help.
-fn judged(
+fn judge(
     alloc: Global,
     schema: &[u8],
     query: &[u8],
@@ -90,14 +90,14 @@ fn judged(
 ) -> Result<Option<Help>, OutOfMemory>
     ensures { IfOk result (λ found. IfSome found (IsHelp schema.now query.now)) }
 {
-    match changed(alloc, query, &changes)? {
-        Some(text) => decided(alloc, schema, query, changes, text),
+    match apply_changes(alloc, query, &changes)? {
+        Some(text) => decide_changes(alloc, schema, query, changes, text),
         None => Ok(None),
     }
 }
 
 /// The changes, if the verdict on their text is DETERMINISTIC.
-fn decided(
+fn decide_changes(
     alloc: Global,
     schema: &[u8],
     query: &[u8],

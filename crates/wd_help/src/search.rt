@@ -9,7 +9,7 @@ ghost use Rattle.wd_help.specs.Helps.{most_lists};
 use std::alloc::Global;
 use wd_analyse::{Analysis, Reason};
 use wd_decide::{DecideError, Examined, examine};
-use wd_keys::{Change, changed};
+use wd_keys::{Change, apply_changes};
 use wd_lex::lex;
 use wd_sites::{KeyPlace, PlanSite, sites};
 use wd_value::OutOfMemory;
@@ -57,7 +57,7 @@ pub(crate) fn most_lists(bytes: usize) -> usize
 }
 
 /// The changes with which nothing is open, where several ORDER BYs may be changed.
-pub(crate) fn found(
+pub(crate) fn find_changes(
     alloc: Global,
     schema: &[u8],
     query: &[u8],
@@ -75,7 +75,7 @@ pub(crate) fn found(
 }
 
 /// What the analysis finds of a text. `None` where the text is refused.
-pub(crate) fn examined(
+pub(crate) fn examine_text(
     alloc: Global,
     schema: &[u8],
     text: &[u8],
@@ -125,10 +125,10 @@ impl Search<'_> {
     /// What is open with these changes. `None` where the changed text is refused.
     fn open_with(self, changes: &[Change]) -> Result<Option<Open>, OutOfMemory> {
         let alloc = self.alloc;
-        let Some(text) = changed(alloc, self.query, changes)? else {
+        let Some(text) = apply_changes(alloc, self.query, changes)? else {
             return Ok(None);
         };
-        match examined(alloc, self.schema, &text)? {
+        match examine_text(alloc, self.schema, &text)? {
             Some(examined) => Ok(Some(open_in(alloc, examined, &text)?)),
             None => Ok(None),
         }

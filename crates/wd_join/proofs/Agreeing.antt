@@ -11,9 +11,9 @@ use Rattle.wd_plan.specs.Expressions.{Expression, value_of}
 use Rattle.wd_plan.specs.Faults.{has_fault, least_fault, unless}
 use Rattle.wd_plan.specs.Outcomes.{filter_outcome, pairs, passes}
 use Rattle.wd_join.specs.declared.matching.JoinColumns.{JoinColumns}
-use Rattle.wd_join.specs.declared.walk.Stretch.{Stretch}
+use Rattle.wd_join.specs.declared.walk.RowRange.{RowRange}
 use Rattle.wd_join.specs.Joins.{AreEnough, AreKept}
-use Rattle.wd_join.specs.Matching.{AreSkippable, AreStretches, IsStretch, IsUntrue, agree, matching}
+use Rattle.wd_join.specs.Matching.{AreSkippable, AreAgreeingRanges, IsAgreeingRange, IsUntrue, agree, matching}
 use Rattle.wd_join.proofs.Joining.{pairs_with}
 use Rattle.wd_steps.proofs.Results.{map_more}
 
@@ -140,15 +140,15 @@ matching_more columns left right i within =
     flat_map_more (λ l. pairs_with l (filter (agree columns l) right)) [] (take i left) (row_at left i)
     ∙ ap (λ ls. matching columns ls right) (sym (take_more left i [] within))
 
--- at the end of the stretch of a left row
-pub matching_done : (columns : List JoinColumns) (left right : List Row) (order : List ℕ) (stretches : List Stretch) (i j : ℕ) (first : Row) (positions : List ℕ) (s : Stretch)
-    → AreStretches columns left right order stretches → i < length left → s ≡ get_or stretches i s → positions ≡ take (s.end - s.start) (drop s.start order) → first ≡ row_at left i → length positions ≤ j
+-- at the end of the range of a left row
+pub matching_done : (columns : List JoinColumns) (left right : List Row) (order : List ℕ) (ranges : List RowRange) (i j : ℕ) (first : Row) (positions : List ℕ) (s : RowRange)
+    → AreAgreeingRanges columns left right order ranges → i < length left → s ≡ get_or ranges i s → positions ≡ take (s.end - s.start) (drop s.start order) → first ≡ row_at left i → length positions ≤ j
     → matching columns (take i left) right ++ pairs_with first (rows_at right (take j positions)) ≡ matching columns (take (i + 1) left) right
-matching_done columns left right order stretches i j first positions s found within at here is all =
-    let stretch = subst (IsStretch columns (row_at left i) right order) (sym at) (found.each i s within) in
+matching_done columns left right order ranges i j first positions s found within at here is all =
+    let range = subst (IsAgreeingRange columns (row_at left i) right order) (sym at) (found.each i s within) in
     let front = matching columns (take i left) right in
     ap (λ ps. front ++ pairs_with first (rows_at right ps)) (take_all j positions all ∙ here)
-    ∙ (λ i. front ++ pairs_with (is i) (stretch.agreeing i))
+    ∙ (λ i. front ++ pairs_with (is i) (range.agreeing i))
     ∙ matching_more columns left right i within
 
 pub matching_next : (front : List Row) (l : Row) (rows : List Row) (positions : List ℕ) (j p : ℕ) → j < length positions → p ≡ get_or positions j p

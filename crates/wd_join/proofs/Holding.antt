@@ -19,7 +19,7 @@ use Rattle.wd_plan.specs.Expressions.{comparison, is_null, is_true}
 use Rattle.wd_sort.specs.Sorting.{compare_rows_at}
 use Rattle.wd_join.specs.declared.matching.JoinColumns.{JoinColumns}
 use Rattle.wd_steps.specs.Repeats.{compare_rows}
-use Rattle.wd_join.specs.Matching.{AreBefore, IsEnd, IsSortedBy, IsStretch, agree, ascending, compare_in, compare_sides, is_before, lacks_key, left_keys, right_keys}
+use Rattle.wd_join.specs.Matching.{AreBefore, IsEnd, IsSortedBy, IsAgreeingRange, agree, ascending, compare_in, compare_sides, is_before, lacks_key, left_keys, right_keys}
 use Rattle.wd_join.proofs.Deciding.{eq_turned}
 use Rattle.wd_steps.proofs.Occurrences.{compare_rows-exact, compare_rows_total}
 
@@ -271,16 +271,16 @@ module _ (columns : List JoinColumns) (rows : List Row) (order : List ℕ) (l : 
       ∙ ap (filter t) (rows_at_positions rows)
       ∙ filter_agree t (agree columns l) (λ r. tie_agrees columns l r whole) rows
 
-  pub IsStretch-found : IsSortedBy (right_keys columns) rows order → lacks_key columns l ≡ false → (start end : ℕ) → start ≤ end → IsEnd false columns l rows order start → IsEnd true columns l rows order end
-      → IsStretch columns l rows order (record { start = start; end = end })
-  IsStretch-found sorted whole start end forwards first second = record {
+  pub IsAgreeingRange-found : IsSortedBy (right_keys columns) rows order → lacks_key columns l ≡ false → (start end : ℕ) → start ≤ end → IsEnd false columns l rows order start → IsEnd true columns l rows order end
+      → IsAgreeingRange columns l rows order (record { start = start; end = end })
+  IsAgreeingRange-found sorted whole start end forwards first second = record {
     forwards = forwards;
     within = second.within;
     agreeing = agreeing_found sorted whole start end forwards first second;
   }
 
-  pub IsStretch-none : lacks_key columns l ≡ true → (n : ℕ) → n ≤ length order → IsStretch columns l rows order (record { start = n; end = n })
-  IsStretch-none lacking n within =
+  pub IsAgreeingRange-none : lacks_key columns l ≡ true → (n : ℕ) → n ≤ length order → IsAgreeingRange columns l rows order (record { start = n; end = n })
+  IsAgreeingRange-none lacking n within =
       let empty : n - n ≡ 0 = omega arith in
       record {
         forwards = omega arith;

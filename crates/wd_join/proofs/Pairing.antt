@@ -16,8 +16,8 @@ use Rattle.wd_plan.specs.Faults.{and_then, has_fault, least_fault, unless}
 use Rattle.wd_plan.specs.Outcomes.{filter_outcome, pairs, passes}
 use Rattle.wd_join.specs.declared.matching.JoinColumns.{JoinColumns}
 use Rattle.wd_join.specs.declared.paired.Pair.{Pair}
-use Rattle.wd_join.specs.declared.walk.Stretch.{Stretch}
-use Rattle.wd_join.specs.Matching.{AreStretches, Equates, agree, equal, matching}
+use Rattle.wd_join.specs.declared.walk.RowRange.{RowRange}
+use Rattle.wd_join.specs.Matching.{AreAgreeingRanges, Equates, agree, equal, matching}
 use Rattle.wd_join.specs.Paired.{AreExact, HasExact, IsExact, row_paired, rows_paired, with_each}
 use Rattle.wd_join.proofs.Agreeing.{any_append, matching_done, value_has}
 use Rattle.wd_join.proofs.Joining.{pairs_with}
@@ -158,8 +158,8 @@ matching_cut columns (l ∷ left) right (suc n) =
     let own = pairs_with l (filter (agree columns l) right) in
     ap (λ rows. own ++ rows) (matching_cut columns left right n) ∙ sym (append_assoc own (matching columns (take n left) right) (matching columns (drop n left) right))
 
-module _ (columns : List JoinColumns) (left right : List Row) (order positions : List ℕ) (stretches : List Stretch) (i : ℕ) (s : Stretch) (pairs : List Pair)
-    (found : AreStretches columns left right order stretches) (within : i < length left) (at : s ≡ get_or stretches i s) (here : positions ≡ take (s.end - s.start) (drop s.start order))
+module _ (columns : List JoinColumns) (left right : List Row) (order positions : List ℕ) (ranges : List RowRange) (i : ℕ) (s : RowRange) (pairs : List Pair)
+    (found : AreAgreeingRanges columns left right order ranges) (within : i < length left) (at : s ≡ get_or ranges i s) (here : positions ≡ take (s.end - s.start) (drop s.start order))
     (so_far : rows_paired left right pairs ≡ matching columns (take i left) right) where
   -- those of one left row more
   pub paired_more : rows_paired left right (pairs ++ with_each i positions) ≡ matching columns (take (i + 1) left) right
@@ -168,7 +168,7 @@ module _ (columns : List JoinColumns) (left right : List Row) (order positions :
       map-append (row_paired left right) pairs (with_each i positions)
       ∙ (λ k. so_far k ++ paired_with left right i positions k)
       ∙ ap (λ ps. matching columns (take i left) right ++ pairs_with (row_at left i) (rows_at right ps)) (sym (take_all (length positions) positions all))
-      ∙ matching_done columns left right order stretches i (length positions) (row_at left i) positions s found within at here refl all
+      ∙ matching_done columns left right order ranges i (length positions) (row_at left i) positions s found within at here refl all
 
   -- which are too many
   pub paired_past : (most : ℕ) → most < length pairs + length positions → nat_lt most (length (matching columns left right)) ≡ true

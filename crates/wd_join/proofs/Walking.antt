@@ -9,9 +9,9 @@ use Rattle.std.proofs.lemmas.List.Sorted.{Contains-permutation, ranks_by, sorted
 use Rattle.wd_value.specs.Bags.{positions}
 use Rattle.wd_value.specs.Rows.{Row, row_at}
 use Rattle.wd_join.specs.declared.matching.JoinColumns.{JoinColumns}
-use Rattle.wd_join.specs.declared.walk.Stretch.{Stretch}
+use Rattle.wd_join.specs.declared.walk.RowRange.{RowRange}
 use Rattle.wd_steps.specs.Repeats.{compare_rows}
-use Rattle.wd_join.specs.Matching.{AreStretches, IsKnown, IsSortedBy, IsStretch, is_before, left_keys}
+use Rattle.wd_join.specs.Matching.{AreAgreeingRanges, IsKnown, IsSortedBy, IsAgreeingRange, is_before, left_keys}
 use Rattle.wd_join.proofs.Holding.{keys_are-left, left_key, right_key, sides_are}
 use Rattle.wd_steps.proofs.Occurrences.{compare_rows_total}
 
@@ -47,15 +47,15 @@ module _ (columns : List JoinColumns) (left right : List Row) (left_order order 
   abbrev row : ℕ → Row
   row k = row_at left (get_or left_order k 0)
 
-  -- the stretches of the first rows of the left order are there, and a stretch is known for all later left rows
-  pub record AreWalked (i : ℕ) (known : Stretch) (stretches : List Stretch) : Type 0 where
-    pub long : length stretches ≡ length left
+  -- the ranges of the first rows of the left order are there, and a range is known for all later left rows
+  pub record AreWalked (i : ℕ) (known : RowRange) (ranges : List RowRange) : Type 0 where
+    pub long : length ranges ≡ length left
     pub within : (known.start ≤ length order) × (known.end ≤ length order)
     pub before : (j : ℕ) → i ≤ j → j < length left_order → IsKnown columns (row j) right order known
-    pub done : (k : ℕ) (d : Stretch) → k < i → get_or left_order k 0 < length left → IsStretch columns (row k) right order (get_or stretches (get_or left_order k 0) d)
+    pub done : (k : ℕ) (d : RowRange) → k < i → get_or left_order k 0 < length left → IsAgreeingRange columns (row k) right order (get_or ranges (get_or left_order k 0) d)
 
-  pub AreWalked-none : (stretches : List Stretch) → length stretches ≡ length left → AreWalked 0 (record { start = 0; end = 0 }) stretches
-  AreWalked-none stretches long = record {
+  pub AreWalked-none : (ranges : List RowRange) → length ranges ≡ length left → AreWalked 0 (record { start = 0; end = 0 }) ranges
+  AreWalked-none ranges long = record {
     long = long;
     within = (omega arith, omega arith);
     before = λ j low high. record { before = λ k h. absurd (omega arith); reached = λ k h. absurd (omega arith) };
@@ -71,12 +71,12 @@ module _ (columns : List JoinColumns) (left right : List Row) (left_order order 
       (λ k d low high. sym (ap is_lt (keys_are-left columns (row_at left (get_or left_order (k + 1) d)) (row_at left (get_or left_order k d)))) ∙ sorted.sorted k d low high)
       i j 0 le within
 
-  pub AreWalked-more : IsSortedBy (left_keys columns) left left_order → (i : ℕ) (known : Stretch) (stretches next : List Stretch) (s : Stretch) → i < length left_order → AreWalked i known stretches
-      → IsStretch columns (row i) right order s → IsKnown columns (row i) right order s → next ≡ set stretches (get_or left_order i 0) s → AreWalked (i + 1) s next
-  AreWalked-more sorted i known stretches next s within so_far is before put =
+  pub AreWalked-more : IsSortedBy (left_keys columns) left left_order → (i : ℕ) (known : RowRange) (ranges next : List RowRange) (s : RowRange) → i < length left_order → AreWalked i known ranges
+      → IsAgreeingRange columns (row i) right order s → IsKnown columns (row i) right order s → next ≡ set ranges (get_or left_order i 0) s → AreWalked (i + 1) s next
+  AreWalked-more sorted i known ranges next s within so_far is before put =
       let p = get_or left_order i 0 in
       record {
-        long = ap length put ∙ length-set stretches p s ∙ so_far.long;
+        long = ap length put ∙ length-set ranges p s ∙ so_far.long;
         within = (let a = is.forwards in let b = is.within in (omega arith, omega arith));
         before = λ j low high. (
             let up = no_lower sorted i j (omega arith) high in
@@ -92,16 +92,16 @@ module _ (columns : List JoinColumns) (left right : List Row) (left_order order 
             });
         done = λ k d h low. elim (cases_eq (get_or left_order k 0) p) [
           | inl same ↦ (
-              let p-within : p < length stretches = omega (arith, so_far.long, low, same) in
-              let at : get_or next (get_or left_order k 0) d ≡ s = (λ n. get_or (put n) (same n) d) ∙ get_or-set_same stretches p s d p-within in
-              subst (IsStretch columns (row k) right order) (sym at) (subst (λ q. IsStretch columns (row_at left q) right order s) (sym same) is))
+              let p-within : p < length ranges = omega (arith, so_far.long, low, same) in
+              let at : get_or next (get_or left_order k 0) d ≡ s = (λ n. get_or (put n) (same n) d) ∙ get_or-set_same ranges p s d p-within in
+              subst (IsAgreeingRange columns (row k) right order) (sym at) (subst (λ q. IsAgreeingRange columns (row_at left q) right order s) (sym same) is))
           | inr other ↦ (
               let earlier : k < i = elim (cases_eq k i) [
                 | inl same ↦ absurd (other (ap (λ n. get_or left_order n 0) same))
                 | inr differs ↦ below_if k i h differs
               ] in
-              let at : get_or next (get_or left_order k 0) d ≡ get_or stretches (get_or left_order k 0) d = ap (λ l. get_or l (get_or left_order k 0) d) put ∙ get_or-set_other stretches p (get_or left_order k 0) s d other in
-              subst (IsStretch columns (row k) right order) (sym at) (so_far.done k d earlier low))
+              let at : get_or next (get_or left_order k 0) d ≡ get_or ranges (get_or left_order k 0) d = ap (λ l. get_or l (get_or left_order k 0) d) put ∙ get_or-set_other ranges p (get_or left_order k 0) s d other in
+              subst (IsAgreeingRange columns (row k) right order) (sym at) (so_far.done k d earlier low))
         ];
       }
     where
@@ -111,13 +111,13 @@ module _ (columns : List JoinColumns) (left right : List Row) (left_order order 
         | inr more ↦ absurd (differs (omega arith))
       ]
 
-  pub AreWalked-all : IsSortedBy (left_keys columns) left left_order → (i : ℕ) (known : Stretch) (stretches : List Stretch) → length left_order ≤ i → AreWalked i known stretches → AreStretches columns left right order stretches
-  AreWalked-all sorted i known stretches all walked = record {
+  pub AreWalked-all : IsSortedBy (left_keys columns) left left_order → (i : ℕ) (known : RowRange) (ranges : List RowRange) → length left_order ≤ i → AreWalked i known ranges → AreAgreeingRanges columns left right order ranges
+  AreWalked-all sorted i known ranges all walked = record {
     long = walked.long;
     each = λ n d h. (
         let there = Contains-permutation (positions (length left)) left_order n sorted.rearranged
         (n, rw (length-range_with_len 0 (length left)) h, get_or-range_with_len 0 (length left) n n h ∙ omega arith) in
         let k = there.0 in
         let at : get_or left_order k 0 ≡ n = get_or_default left_order k 0 n there.1 ∙ there.2 in
-        subst (λ p. IsStretch columns (row_at left p) right order (get_or stretches p d)) at (walked.done k d (omega (arith, there.1)) (omega (arith, at))));
+        subst (λ p. IsAgreeingRange columns (row_at left p) right order (get_or ranges p d)) at (walked.done k d (omega (arith, there.1)) (omega (arith, at))));
   }

@@ -18,7 +18,7 @@ use Rattle.wd_plan.specs.Outcomes.{passes}
 use Rattle.wd_sort.specs.Sorting.{IsStableSortOf}
 use Rattle.wd_join.specs.declared.matching.JoinColumns.{JoinColumns}
 use Rattle.wd_join.specs.declared.walk.Agreeing.{Agreeing}
-use Rattle.wd_join.specs.declared.walk.Stretch.{Stretch}
+use Rattle.wd_join.specs.declared.walk.RowRange.{RowRange}
 
 abbrev pub null : Value
 null = Null
@@ -78,7 +78,7 @@ abbrev pub AreBefore : Bool → List JoinColumns → Row → List Row → List �
 AreBefore too columns l right order n = (k : ℕ) → k < n → is_before too (compare_sides columns l (row_at right (get_or order k 0))) ≡ true
 
 -- the right rows up to the start of a range come before the left row, and those up to its end come before it or tie with it
-pub record IsKnown (columns : List JoinColumns) (l : Row) (right : List Row) (order : List ℕ) (s : Stretch) : Type 0 where
+pub record IsKnown (columns : List JoinColumns) (l : Row) (right : List Row) (order : List ℕ) (s : RowRange) : Type 0 where
   pub before : AreBefore false columns l right order s.start
   pub reached : AreBefore true columns l right order s.end
 
@@ -89,18 +89,18 @@ pub record IsEnd (too : Bool) (columns : List JoinColumns) (l : Row) (right : Li
   pub after : (k : ℕ) → n ≤ k → k < length order → is_before too (compare_sides columns l (row_at right (get_or order k 0))) ≡ false
 
 -- the range of an order of right rows that agree with a left row, in the order of the rows
-pub record IsStretch (columns : List JoinColumns) (l : Row) (right : List Row) (order : List ℕ) (s : Stretch) : Type 0 where
+pub record IsAgreeingRange (columns : List JoinColumns) (l : Row) (right : List Row) (order : List ℕ) (s : RowRange) : Type 0 where
   pub forwards : s.start ≤ s.end
   pub within : s.end ≤ length order
   pub agreeing : rows_at right (take (s.end - s.start) (drop s.start order)) ≡ filter (agree columns l) right
 
 -- the range of each left row
-pub record AreStretches (columns : List JoinColumns) (left right : List Row) (order : List ℕ) (stretches : List Stretch) : Type 0 where
-  pub long : length stretches ≡ length left
-  pub each : (i : ℕ) (d : Stretch) → i < length left → IsStretch columns (row_at left i) right order (get_or stretches i d)
+pub record AreAgreeingRanges (columns : List JoinColumns) (left right : List Row) (order : List ℕ) (ranges : List RowRange) : Type 0 where
+  pub long : length ranges ≡ length left
+  pub each : (i : ℕ) (d : RowRange) → i < length left → IsAgreeingRange columns (row_at left i) right order (get_or ranges i d)
 
 abbrev pub AreAgreeing : List JoinColumns → List Row → List Row → Agreeing → Type 0
-AreAgreeing columns left right a = AreStretches columns left right a.order.items a.stretches.items
+AreAgreeing columns left right a = AreAgreeingRanges columns left right a.order.items a.ranges.items
 
 -- ---- conditions
 

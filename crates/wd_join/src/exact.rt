@@ -5,7 +5,7 @@ ghost use Rattle.wd_plan.specs.Expressions.{expression_of};
 ghost use Rattle.wd_join.specs.Matching as spec;
 ghost use Rattle.wd_join.specs.Paired.{AreExact, HasExact, IsOfEqualities, are_equalities};
 
-use crate::matching::{JoinColumns, Widths, are_wide, compared, first_widths};
+use crate::matching::{JoinColumns, Widths, are_wide, compared_columns, first_widths};
 use std::alloc::Global;
 use wd_columns::RowSource;
 use wd_plan::{ComparisonOp, Expr};
@@ -67,7 +67,7 @@ fn push_equality(
     ensures exact { IfOk result (λ b'. b' ≡ true → HasExact widths.left widths.right (spec.equality (expression_of a.now) (expression_of b.now)) columns.old.items columns.new.items) }
     ensures none { IfOk result (λ b'. b' ≡ false → are_equalities widths.left widths.right (spec.equality (expression_of a.now) (expression_of b.now)) ≡ false) }
 {
-    match compared(a, b, widths) {
+    match compared_columns(a, b, widths) {
         Some(found) => {
             columns.push(found)?;
             Ok(true)

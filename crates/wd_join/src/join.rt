@@ -14,7 +14,7 @@ ghost use Rattle.wd_value.specs.Rows.{rows_of};
 
 use crate::error::StepError;
 use crate::matching::{JoinColumns, matching_columns};
-use crate::pairs::{all_pairs, joined_row};
+use crate::pairs::{all_pairs, copy_joined_row};
 use crate::walk::{agreeing_rows, positions_in};
 use std::alloc::Global;
 use wd_columns::{RowSource, row_in};
@@ -179,7 +179,7 @@ fn matching_where(
             return Ok(kept);
         }
         let first = row_in(left, i as u64);
-        let positions = positions_in(&agreeing.order, agreeing.stretches[i]);
+        let positions = positions_in(&agreeing.order, agreeing.ranges[i]);
         for position in positions {
             kept.look_at(alloc, condition, first, row_in(right, *position), most)?;
         }
@@ -198,7 +198,7 @@ fn keep_pair(
     ensures { OnOk result (rows_of rows.new.items ≡ joins.with_row most true (rows_of rows.old.items) (first.now ++ second.now)) }
 {
     if rows.len() as u64 <= most {
-        let row = joined_row(alloc, first, second)?;
+        let row = copy_joined_row(alloc, first, second)?;
         rows.push(row)?;
     }
     Ok(())

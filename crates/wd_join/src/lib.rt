@@ -17,6 +17,6 @@ mod walk;
 
 pub use error::StepError;
 pub use join::{filter_pairs, has_more_pairs, join_rows};
-pub use narrow::narrowed_pairs;
+pub use narrow::narrow_pairs;
 pub use paired::{Pair, equal_pairs, paired_columns, paired_rows};
 pub use pairs::all_pairs;

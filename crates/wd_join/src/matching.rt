@@ -155,14 +155,14 @@ fn push_compared(
 ) -> Result<(), OutOfMemory>
     ensures { OnOk result (AreDeciding widths.left widths.right (spec.equality (expression_of a.now) (expression_of b.now)) columns.old.items columns.new.items) }
 {
-    if let Some(found) = compared(a, b, widths) {
+    if let Some(found) = compared_columns(a, b, widths) {
         columns.push(found)?;
     }
     Ok(())
 }
 
 /// The columns of an equality of two columns, one of either side.
-pub(crate) fn compared(a: &Expr, b: &Expr, widths: Widths) -> Option<JoinColumns>
+pub(crate) fn compared_columns(a: &Expr, b: &Expr, widths: Widths) -> Option<JoinColumns>
     ensures found { IfSome result (λ c. Equates widths.left widths.right (spec.equality (expression_of a.now) (expression_of b.now)) c) }
     ensures none { IfNone result (pairs.are_of_both widths.left widths.right (expression_of a.now) (expression_of b.now) ≡ false) }
 {

@@ -8,7 +8,7 @@ ghost use Rattle.wd_join.specs.Matching.{matching};
 ghost use Rattle.wd_value.specs.Rows.{rows_of};
 
 use crate::matching::{JoinColumns, matching_columns};
-use crate::pairs::{all_pairs, joined_row};
+use crate::pairs::{all_pairs, copy_joined_row};
 use crate::walk::{agreeing_rows, positions_in};
 use std::alloc::Global;
 use wd_columns::{RowSource, row_in};
@@ -18,7 +18,7 @@ use wd_value::{OutOfMemory, Row};
 /// Pairs of a left and a right row, the left one outermost, over which a condition gives the same outcome as over all pairs, whatever
 /// rows the pairs are joined with next: where it has equalities of a left and a right column among its conjuncts, the pairs that agree
 /// on these.
-pub fn narrowed_pairs(
+pub fn narrow_pairs(
     alloc: Global,
     condition: &Expr,
     left: &[Row],
@@ -57,9 +57,9 @@ fn matching_pairs(
     let mut rows = Vec::new(alloc);
     for i in 0..left.len() {
         let first = row_in(left, i as u64);
-        let positions = positions_in(&agreeing.order, agreeing.stretches[i]);
+        let positions = positions_in(&agreeing.order, agreeing.ranges[i]);
         for position in positions {
-            rows.push(joined_row(alloc, first, row_in(right, *position))?)?;
+            rows.push(copy_joined_row(alloc, first, row_in(right, *position))?)?;
         }
     }
     Ok(rows)

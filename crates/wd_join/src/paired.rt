@@ -14,7 +14,7 @@ ghost use Rattle.wd_value.specs.declared.value.Value.TheVariants as value;
 use crate::error::StepError;
 use crate::exact::exact_columns;
 use crate::matching::JoinColumns;
-use crate::pairs::joined_row;
+use crate::pairs::copy_joined_row;
 use crate::walk::{agreeing_rows, positions_in};
 use std::alloc::Global;
 use wd_columns::{Columns, RowSource, row_in};
@@ -67,7 +67,7 @@ fn agreeing_pairs(
     let agreeing = agreeing_rows(alloc, columns, left, right)?;
     let mut pairs = Vec::new(alloc);
     for i in 0..left.len() {
-        let positions = positions_in(&agreeing.order, agreeing.stretches[i]);
+        let positions = positions_in(&agreeing.order, agreeing.ranges[i]);
         if positions.len() as u64 > most - pairs.len() as u64 {
             return Err(StepError::TooManyRows);
         }
@@ -118,14 +118,14 @@ fn paired_column(
 {
     let mut values = Vec::with_capacity(alloc, pairs.len())?;
     for pair in pairs {
-        let value = copied_value(alloc, left, right, *pair, column)?;
+        let value = copy_value(alloc, left, right, *pair, column)?;
         values.push(value)?;
     }
     Ok(values)
 }
 
 /// The value of a pair in a column, and NULL past the last.
-fn copied_value(
+fn copy_value(
     alloc: Global,
     left: &RowSource,
     right: &RowSource,
@@ -169,7 +169,7 @@ pub fn paired_rows(
 {
     let mut rows = Vec::with_capacity(alloc, pairs.len())?;
     for pair in pairs {
-        let row = joined_row(alloc, row_in(left, pair.left), row_in(right, pair.right))?;
+        let row = copy_joined_row(alloc, row_in(left, pair.left), row_in(right, pair.right))?;
         rows.push(row)?;
     }
     Ok(rows)

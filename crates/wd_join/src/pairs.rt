@@ -14,14 +14,18 @@ pub fn all_pairs(alloc: Global, left: &[Row], right: &[Row]) -> Result<Vec<Row>,
     let mut rows = Vec::new(alloc);
     for first in left {
         for second in right {
-            rows.push(joined_row(alloc, first, second)?)?;
+            rows.push(copy_joined_row(alloc, first, second)?)?;
         }
     }
     Ok(rows)
 }
 
 /// The values of both rows, the left one's first.
-pub(crate) fn joined_row(alloc: Global, left: &[Value], right: &[Value]) -> Result<Row, OutOfMemory>
+pub(crate) fn copy_joined_row(
+    alloc: Global,
+    left: &[Value],
+    right: &[Value],
+) -> Result<Row, OutOfMemory>
     ensures { IfOk result (λ r. r.items ≡ left.now ++ right.now) }
 {
     let mut row = Vec::with_capacity(alloc, left.len().saturating_add(right.len()))?;

@@ -4,7 +4,7 @@
 ghost use Rattle.std.specs.Prelude.{◌≡◌, ℕ, ◌-◌, ◌<◌, ◌≤◌, true, false, IfOk, drop, get_or, length, map, set, take};
 ghost use Rattle.std.specs.List.{list_any};
 ghost use Rattle.wd_join.specs.Matching as spec;
-ghost use Rattle.wd_join.specs.Matching.{AreAgreeing, AreBefore, AreStretches, IsEnd, IsKnown, IsSortedBy, IsStretch};
+ghost use Rattle.wd_join.specs.Matching.{AreAgreeing, AreBefore, AreAgreeingRanges, IsEnd, IsKnown, IsSortedBy, IsAgreeingRange};
 ghost use Rattle.wd_value.specs.Rows.{row_at};
 
 use crate::matching::{JoinColumns, is_null_at};
@@ -16,7 +16,7 @@ use wd_value::{OutOfMemory, SortColumn, SortKey, Value, compare};
 
 /// Consecutive positions in an order, from `start` up to `end`.
 #[derive(Clone, Copy)]
-pub struct Stretch {
+pub struct RowRange {
     pub start: usize,
     pub end: usize,
 }
@@ -25,7 +25,7 @@ pub struct Stretch {
 #[derive(Drop)]
 pub struct Agreeing {
     pub order: Vec<u64>,
-    pub stretches: Vec<Stretch>,
+    pub ranges: Vec<RowRange>,
 }
 
 /// The right rows that agree with each left row. Takes the time of sorting either side.
@@ -39,18 +39,18 @@ pub(crate) fn agreeing_rows(
 {
     let left_order = sorted_left(alloc, columns, left)?;
     let order = sorted_right(alloc, columns, right)?;
-    let stretches = walked(alloc, columns, left, &left_order, right, &order)?;
-    Ok(Agreeing { order, stretches })
+    let ranges = agreeing_ranges(alloc, columns, left, &left_order, right, &order)?;
+    Ok(Agreeing { order, ranges })
 }
 
 /// The positions in a range of an order.
-pub(crate) fn positions_in(order: &[u64], stretch: Stretch) -> &[u64]
-    requires forwards { stretch.start ≤ stretch.end }
-    requires within { stretch.end ≤ length order.now }
-    ensures { result.now ≡ take (stretch.end - stretch.start) (drop stretch.start order.now) }
+pub(crate) fn positions_in(order: &[u64], range: RowRange) -> &[u64]
+    requires forwards { range.start ≤ range.end }
+    requires within { range.end ≤ length order.now }
+    ensures { result.now ≡ take (range.end - range.start) (drop range.start order.now) }
 {
-    let rest = &order[stretch.start..];
-    &rest[..stretch.end - stretch.start]
+    let rest = &order[range.start..];
+    &rest[..range.end - range.start]
 }
 
 /// The positions of the left rows, sorted by their columns.
@@ -107,59 +107,59 @@ fn sorted_by(alloc: Global, rows: &RowSource, keys: &[SortColumn]) -> Result<Vec
 
 /// For each left row the range of the right rows that agree with it. In the order of the columns the ranges of later left rows start
 /// and end no earlier, so that each right row is passed once at a start and once at an end.
-fn walked(
+fn agreeing_ranges(
     alloc: Global,
     columns: &[JoinColumns],
     left: &RowSource,
     left_order: &[u64],
     right: &RowSource,
     order: &[u64],
-) -> Result<Vec<Stretch>, OutOfMemory>
+) -> Result<Vec<RowRange>, OutOfMemory>
     requires left_sorted { IsSortedBy (spec.left_keys columns.now) left.now left_order.now }
     requires right_sorted { IsSortedBy (spec.right_keys columns.now) right.now order.now }
-    ensures { IfOk result (λ v. AreStretches columns.now left.now right.now order.now v.items) }
+    ensures { IfOk result (λ v. AreAgreeingRanges columns.now left.now right.now order.now v.items) }
 {
-    let mut stretches = vec![in alloc; Stretch { start: 0, end: 0 }; left.len()]?;
-    let mut known = Stretch { start: 0, end: 0 };
+    let mut ranges = vec![in alloc; RowRange { start: 0, end: 0 }; left.len()]?;
+    let mut known = RowRange { start: 0, end: 0 };
     for position in left_order {
-        known = stretch_from(columns, left, *position, right, order, known);
-        put_stretch(&mut stretches, *position, known);
+        known = range_from(columns, left, *position, right, order, known);
+        put_range(&mut ranges, *position, known);
     }
-    Ok(stretches)
+    Ok(ranges)
 }
 
 /// Sets the range of the left row at a position, where there is one.
-fn put_stretch(stretches: &mut Vec<Stretch>, position: u64, stretch: Stretch)
-    ensures { stretches.new.items ≡ set stretches.old.items position stretch }
+fn put_range(ranges: &mut Vec<RowRange>, position: u64, range: RowRange)
+    ensures { ranges.new.items ≡ set ranges.old.items position range }
 {
-    if position < stretches.len() as u64 {
-        stretches[position as usize] = stretch;
+    if position < ranges.len() as u64 {
+        ranges[position as usize] = range;
     }
 }
 
 /// The range of the right rows that agree with the left row at a position. All rows before the start of the known range are before that
 /// row, and those before its end are before that row or tie with it.
-fn stretch_from(
+fn range_from(
     columns: &[JoinColumns],
     left: &RowSource,
     position: u64,
     right: &RowSource,
     order: &[u64],
-    known: Stretch,
-) -> Stretch
+    known: RowRange,
+) -> RowRange
     requires sorted { IsSortedBy (spec.right_keys columns.now) right.now order.now }
     requires within { (known.start ≤ length order.now) × (known.end ≤ length order.now) }
     requires before { IsKnown columns.now (row_at left.now position) right.now order.now known }
-    ensures is { IsStretch columns.now (row_at left.now position) right.now order.now result }
+    ensures is { IsAgreeingRange columns.now (row_at left.now position) right.now order.now result }
     ensures before { IsKnown columns.now (row_at left.now position) right.now order.now result }
 {
     let start = end_from(columns, left, position, right, order, known.start, false);
     if lacks_key(columns, left, position) {
-        return Stretch { start, end: start };
+        return RowRange { start, end: start };
     }
     let passed = start.max(known.end);
     let end = end_from(columns, left, position, right, order, passed, true);
-    Stretch { start, end }
+    RowRange { start, end }
 }
 
 /// How many rows of the order are before the left row at a position, or with `too` tie with it; of the first `from` rows this is known.

@@ -70,7 +70,7 @@ fn open_block(
                 site: Some(site),
                 ..
             },
-        ) => Some(moved(site.span, statement.start)),
+        ) => Some(shift_span(site.span, statement.start)),
         _ => None,
     };
     let first = first_of(span, statement.start);
@@ -95,7 +95,7 @@ pub(crate) fn refusal_block(
                 path: statement.path,
                 text: statement.text,
             },
-            place.span.map(|span| moved(span, statement.start)),
+            place.span.map(|span| shift_span(span, statement.start)),
         ),
     };
     let mut text = String::new(alloc);
@@ -145,7 +145,7 @@ fn words_at(alloc: Global, source: &[u8], span: Option<Span>) -> Result<String, 
 }
 
 /// Bytes of a statement as bytes of its file.
-fn moved(span: Span, start: u64) -> Span {
+fn shift_span(span: Span, start: u64) -> Span {
     Span {
         start: span.start.saturating_add(start),
         end: span.end.saturating_add(start),

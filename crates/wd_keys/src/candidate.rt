@@ -108,7 +108,7 @@ fn prefixes(
 
 /// Adds a table's name with a dot, where it is new.
 fn add_prefix(alloc: Global, name: &str, found: &mut Vec<String>) -> Result<(), OutOfMemory> {
-    let mut prefix = written(alloc, name)?;
+    let mut prefix = write_name(alloc, name)?;
     prefix.push('.')?;
     add_new(prefix, found)
 }
@@ -130,7 +130,7 @@ fn name_of(token: &Token) -> Option<&str> {
 }
 
 /// A name as it is written in a query: as it is, or in quotes where it would be read otherwise.
-fn written(alloc: Global, name: &str) -> Result<String, OutOfMemory> {
+fn write_name(alloc: Global, name: &str) -> Result<String, OutOfMemory> {
     if is_word(alloc, name) {
         return Ok(String::from_str(alloc, name)?);
     }
@@ -233,21 +233,21 @@ fn add_named(
     found: &mut Vec<String>,
 ) -> Result<(), OutOfMemory> {
     for prefix in prefixes {
-        let list = listed(alloc, names, prefix.as_str())?;
+        let list = list_columns(alloc, names, prefix.as_str())?;
         add_new(list, found)?;
     }
     Ok(())
 }
 
 /// The columns of these names, with a prefix, as a list.
-fn listed(alloc: Global, names: &[&str], prefix: &str) -> Result<String, OutOfMemory> {
+fn list_columns(alloc: Global, names: &[&str], prefix: &str) -> Result<String, OutOfMemory> {
     let mut list = String::new(alloc);
     for name in names {
         if !list.is_empty() {
             list.push_str(", ")?;
         }
         list.push_str(prefix)?;
-        let name = written(alloc, name)?;
+        let name = write_name(alloc, name)?;
         list.push_str(name.as_str())?;
     }
     Ok(list)
@@ -262,7 +262,7 @@ fn add_aliases(
     for number in 1..tokens.len() {
         if let TokenKind::Terminal(Terminal::As) = &tokens[number - 1].kind {
             if let Some(name) = name_of(&tokens[number]) {
-                let name = written(alloc, name)?;
+                let name = write_name(alloc, name)?;
                 add_new(name, found)?;
             }
         }

@@ -103,7 +103,7 @@ fn byte_before(text: &[u8], at: usize) -> Option<u8> {
 
 /// A text with changes put in, which must come in the order of their places without overlapping. `None` where they do not, or where one
 /// reaches past the text.
-pub fn changed(
+pub fn apply_changes(
     alloc: Global,
     text: &[u8],
     changes: &[Change],

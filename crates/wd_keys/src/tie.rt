@@ -13,7 +13,7 @@ use wd_value::OutOfMemory;
 
 /// The change at a site of a query's tokens with which rows that tie are treated alike: RANK in place of ROW_NUMBER, and WITH TIES for
 /// a limit. `None` where the site has no ORDER BY or the limit an OFFSET, and for other calls.
-pub fn alike(
+pub fn treat_alike(
     alloc: Global,
     tokens: &[Token],
     found: PlanSite,
@@ -24,8 +24,8 @@ pub fn alike(
         return Ok(None);
     }
     match found.call {
-        Some(_) => ranked(alloc, tokens, found.site.span),
-        None => limited(alloc, tokens, found.site.span),
+        Some(_) => use_rank(alloc, tokens, found.site.span),
+        None => limit_with_ties(alloc, tokens, found.site.span),
     }
 }
 
@@ -35,7 +35,7 @@ fn is_sorted(site: Site) -> bool {
 }
 
 /// RANK in place of ROW_NUMBER, where the call at the site begins with that word.
-fn ranked(alloc: Global, tokens: &[Token], span: Span) -> Result<Option<Change>, OutOfMemory>
+fn use_rank(alloc: Global, tokens: &[Token], span: Span) -> Result<Option<Change>, OutOfMemory>
     ensures { IfOk result (λ found. IfSome found (IsAlike tokens.now)) }
 {
     for token in tokens {
@@ -51,15 +51,19 @@ fn ranked(alloc: Global, tokens: &[Token], span: Span) -> Result<Option<Change>,
 }
 
 /// WITH TIES for the limit of a select, where the select has no OFFSET.
-fn limited(alloc: Global, tokens: &[Token], span: Span) -> Result<Option<Change>, OutOfMemory>
+fn limit_with_ties(
+    alloc: Global,
+    tokens: &[Token],
+    span: Span,
+) -> Result<Option<Change>, OutOfMemory>
     ensures { IfOk result (λ found. IfSome found (IsAlike tokens.now)) }
 {
     if has_offset(tokens, span) {
         return Ok(None);
     }
-    match fetched(alloc, tokens, span)? {
+    match fetch_with_ties(alloc, tokens, span)? {
         Some(change) => Ok(Some(change)),
-        None => tied(alloc, tokens, span),
+        None => ties_for_only(alloc, tokens, span),
     }
 }
 
@@ -71,7 +75,11 @@ fn has_offset(tokens: &[Token], span: Span) -> bool {
 }
 
 /// FETCH FIRST with ties in place of LIMIT, where the site has LIMIT.
-fn fetched(alloc: Global, tokens: &[Token], span: Span) -> Result<Option<Change>, OutOfMemory>
+fn fetch_with_ties(
+    alloc: Global,
+    tokens: &[Token],
+    span: Span,
+) -> Result<Option<Change>, OutOfMemory>
     ensures { IfOk result (λ found. IfSome found (IsAlike tokens.now)) }
 {
     for number in 0..tokens.len() {
@@ -117,7 +125,7 @@ fn limit_put(alloc: Global, limit: &Token, count: &Token) -> Result<Option<Chang
 }
 
 /// WITH TIES in place of ONLY, where that is the last word of the site.
-fn tied(alloc: Global, tokens: &[Token], span: Span) -> Result<Option<Change>, OutOfMemory>
+fn ties_for_only(alloc: Global, tokens: &[Token], span: Span) -> Result<Option<Change>, OutOfMemory>
     ensures { IfOk result (λ found. IfSome found (IsAlike tokens.now)) }
 {
     for token in tokens {

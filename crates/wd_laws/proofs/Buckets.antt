@@ -1,4 +1,4 @@
--- NTILE's buckets hold stretches of the places: as even as can be, the larger ones first.
+-- NTILE's buckets hold ranges of the places: as even as can be, the larger ones first.
 use Rattle.std.proofs.Common.{◌≡◌, ℕ, zero, suc, ◌+◌, ◌-◌, ◌*◌, ◌/◌, ◌%◌, min, ◌<◌, ◌≤◌, Bool, true, false, cond, ◌∷◌, length, count_by, refl, sym, ◌∙◌, ap, subst, arith, nat_lt, nat_eq, le_trans}
 use Rattle.std.specs.List.{range_with_len, sum_by}
 use Rattle.std.proofs.Math.Nat.{div-add-mod, min-eq_left, min-eq_right, min-le_left, min-le_right, mod-eq_of_lt, mod-lt, mul-le-mul_right, suc-mul, zero-add, zero-mul, zero-min}

@@ -10,7 +10,7 @@ use Rattle.wd_plan.proofs.Groups.{group-lt}
 use Rattle.wd_plan.proofs.Parts.{NotAfter, ordered, partition_of-is, rising_part}
 use Rattle.wd_plan.proofs.Sorted.{Rising}
 use Rattle.wd_plan.proofs.SortedGroups.{tied_group}
-use Rattle.wd_laws.proofs.Stretches.{stretch_passes}
+use Rattle.wd_laws.proofs.IndexRanges.{range_passes}
 use Rattle.wd_plan.specs.Frames.{Distances, bound_asks, ends_at, in_frame, is_kept, key_distance, range_asks, starts_at, value_distance}
 use Rattle.wd_value.specs.Keys.{compare_keys}
 use Rattle.wd_laws.specs.Laws.{FramesAreContiguous, IsContiguous, frame_takes}
@@ -107,8 +107,8 @@ strictly Greater h n = cc
 not_before : (a b : ℕ) → a < b → int_le (pos 0) (pos a -ℤ pos b) ≡ true → ⊥
 not_before a b l h = grind (arith, ints)
 
-not_behind : (a b : ℕ) → a < b → int_le (pos b -ℤ pos a) (pos 0) ≡ true → ⊥
-not_behind a b l h = grind (arith, ints)
+not_after : (a b : ℕ) → a < b → int_le (pos b -ℤ pos a) (pos 0) ≡ true → ⊥
+not_after a b l h = grind (arith, ints)
 
 -- a key v of the row, a key x, and a key y after it; without a whole number a key stands before all whole numbers or after
 -- all of them
@@ -124,7 +124,7 @@ range_starts bound key v x y gv gx gy h l after before t = no_keys starts_at Up 
 range_ends : (bound : Bound) (key : SortKey) (v x y : Value) (gv gx gy : ℕ) → is_gt (compare key x y) ≡ false → gx ≤ gy → (is_gt (compare key x v) ≡ false → gx ≤ gv) → (compare key v y ≡ Less → gv < gy)
     → range_asks ends_at bound (value_distance key.desc v y) (pos gy -ℤ pos gv) ≡ true → range_asks ends_at bound (value_distance key.desc v x) (pos gx -ℤ pos gv) ≡ true
 range_ends bound key (Int n) (Int a) (Int b) gv gx gy h l before after t = both_keys ends_at Down ends_down bound _ _ _ _ (nearer_keys key.desc n a b h) (nearer gv gx gy l) t
-range_ends bound key (Int n) (Int a) y gv gx gy h l before after t = entering_keys ends_at Down ends_down bound _ _ _ (nearer gv gx gy l) (not_behind gv gy (after (strictly (compare key (Int n) y) h (λ e. let same = compare-exact key (Int n) y e in cc)))) t
+range_ends bound key (Int n) (Int a) y gv gx gy h l before after t = entering_keys ends_at Down ends_down bound _ _ _ (nearer gv gx gy l) (not_after gv gy (after (strictly (compare key (Int n) y) h (λ e. let same = compare-exact key (Int n) y e in cc)))) t
 range_ends bound key (Int n) x (Int b) gv gx gy h l before after t = leaving_keys ends_at Down ends_down bound _ _ _ (nearer gv gx gy l) (let k : gx ≤ gv = before h in grind (arith, ints)) t
 range_ends bound key (Int n) x y gv gx gy h l before after t = no_keys ends_at Down ends_down bound _ _ (nearer gv gx gy l) t
 range_ends bound key v x y gv gx gy h l before after t = no_keys ends_at Down ends_down bound _ _ (nearer gv gx gy l) t
@@ -241,9 +241,9 @@ module _ (class : ClassRule) (rows : List Row) where
         between = no_gap;
         behind = λ e i j a b t. taken j (start_on i j a b t) (no_end frame.mode frame.end (distances m j) e);
         before = λ e i j a b t. taken i (no_start frame.mode frame.start (distances m i) e) (end_back i j a b t);
-        stretch = (
+        range = (
             let at = λ (i : ℕ) (q : Row). in_frame class frame (group_of class rows) m (row_at rows m) i q in
-            stretch_passes at [] 0 rows (λ i j k a b c t u. ap (λ n. at n (row_at rows j)) (omega arith) ∙ no_gap i j k a b c (ap (λ n. at n (row_at rows i)) (omega arith) ∙ t) (ap (λ n. at n (row_at rows k)) (omega arith) ∙ u)));
+            range_passes at [] 0 rows (λ i j k a b c t u. ap (λ n. at n (row_at rows j)) (omega arith) ∙ no_gap i j k a b c (ap (λ n. at n (row_at rows i)) (omega arith) ∙ t) (ap (λ n. at n (row_at rows k)) (omega arith) ∙ u)));
       }
 
 pub frames_are_contiguous : FramesAreContiguous

@@ -19,7 +19,7 @@ pub mod ChoiceLaws
 pub mod SomeChoice
 pub mod NodesCommute
 pub mod PlanCommutes
-pub mod Stretches
+pub mod IndexRanges
 pub mod Contiguous
 pub mod Buckets
 pub mod Extremes

@@ -175,7 +175,7 @@ has_valid_choice (Limit limit input) instance =
     let rows = outcome input instance b.0 in
     let o = own rows (limit_class limit ∷ []) in
     let m : length o ≡ 1 = length-own rows (limit_class limit ∷ []) in
-    let at : ordering_at (b.0 ++ o) (ordering_count input) ≡ ordering_at o 0 = one_behind rows b.0 (ordering_count input) n in
+    let at : ordering_at (b.0 ++ o) (ordering_count input) ≡ ordering_at o 0 = one_after rows b.0 (ordering_count input) n in
     let below : outcome input instance (b.0 ++ o) ≡ rows = outcome-append input instance b.0 o (omega arith) in (
       b.0 ++ o,
       record {
@@ -188,6 +188,6 @@ has_valid_choice (Limit limit input) instance =
       },
     )
   where
-    one_behind : (rows : RowsOrFault) (below : List (List ℕ)) (n : ℕ) → length below ≡ n → ordering_at (below ++ own rows (limit_class limit ∷ [])) n ≡ ordering_at (own rows (limit_class limit ∷ [])) 0
-    one_behind (Ok rs) below n e = subst (λ k. ordering_at (below ++ own (Ok rs) (limit_class limit ∷ [])) k ≡ ordering_at (own (Ok rs) (limit_class limit ∷ [])) 0) e (get_or-append_seam below (sorted (limit_class limit) rs (positions (length rs))) [] [])
-    one_behind (Err fault) below n e = subst (λ k. ordering_at (below ++ [] ∷ []) k ≡ []) e (get_or-append_seam below [] [] [])
+    one_after : (rows : RowsOrFault) (below : List (List ℕ)) (n : ℕ) → length below ≡ n → ordering_at (below ++ own rows (limit_class limit ∷ [])) n ≡ ordering_at (own rows (limit_class limit ∷ [])) 0
+    one_after (Ok rs) below n e = subst (λ k. ordering_at (below ++ own (Ok rs) (limit_class limit ∷ [])) k ≡ ordering_at (own (Ok rs) (limit_class limit ∷ [])) 0) e (get_or-append_seam below (sorted (limit_class limit) rs (positions (length rs))) [] [])
+    one_after (Err fault) below n e = subst (λ k. ordering_at (below ++ [] ∷ []) k ≡ []) e (get_or-append_seam below [] [] [])

@@ -64,10 +64,10 @@ pub all_distinct : (P : Row → Type 0) (rows : List Row) → AllByRecursion P r
 all_distinct P [] a = tt
 all_distinct P (r ∷ rows) a = (a.0, all_filter (λ q. not (same_row r q)) P P (λ row p e. p) (distinct rows) (all_distinct P rows a.1))
 
-all_behind : (P : Row → Type 0) (n : ℕ) (rows : List Row) → AllByRecursion P rows → AllByRecursion P (drop n rows)
-all_behind P zero rows a = a
-all_behind P (suc n) [] a = tt
-all_behind P (suc n) (r ∷ rows) a = all_behind P n rows a.1
+all_after : (P : Row → Type 0) (n : ℕ) (rows : List Row) → AllByRecursion P rows → AllByRecursion P (drop n rows)
+all_after P zero rows a = a
+all_after P (suc n) [] a = tt
+all_after P (suc n) (r ∷ rows) a = all_after P n rows a.1
 
 all_while : (P : Row → Type 0) (t : Row → Bool) (rows : List Row) → AllByRecursion P rows → AllByRecursion P (take_while t rows)
 all_while P t [] a = tt
@@ -88,8 +88,8 @@ all_cut : (P : Row → Type 0) (limit : LimitRule) (rows : List Row) → AllByRe
 all_cut P limit rows a = by limit.count
   where
     by : (count : Option ℕ) → AllByRecursion P (cut (record limit { count = count }) rows)
-    by None = all_behind P limit.offset rows a
-    by (Some n) = all_first P limit.keys limit.ties n (drop limit.offset rows) (all_behind P limit.offset rows a)
+    by None = all_after P limit.offset rows a
+    by (Some n) = all_first P limit.keys limit.ties n (drop limit.offset rows) (all_after P limit.offset rows a)
 
 pub all_limited : (P : Row → Type 0) (limit : LimitRule) (ordering : List ℕ) (r : RowsOrFault) → AllRows P r → AtRows r (λ rows. IsOrdering (limit_class limit) rows ordering) (ordering ≡ []) → AllRows P (and_then r (λ rows. Ok (cut limit (rows_at rows ordering))))
 all_limited P limit ordering (Ok rows) a lawful = all_cut P limit (rows_at rows ordering) (Perm-all P (Perm-ordered rows ordering lawful.once) a)
@@ -121,9 +121,9 @@ among_all P (r ∷ rs) a = among_step P r rs a.0 (among_all P rs a.1)
 pub all_results : (P : Row → Type 0) (rs : List (Result Row Fault)) → AllByRecursion (Each P) rs → AllRows P (all_ok rs)
 all_results P rs a = all_unless P (least_fault rs) (values_among rs) (among_all P rs a)
 
-all_behind_all : {X : Type 0} (P : X → Type 0) (xs ys : List X) → AllByRecursion P xs → AllByRecursion P ys → AllByRecursion P (xs ++ ys)
-all_behind_all P [] ys a b = b
-all_behind_all P (x ∷ xs) ys a b = (a.0, all_behind_all P xs ys a.1 b)
+all_after_all : {X : Type 0} (P : X → Type 0) (xs ys : List X) → AllByRecursion P xs → AllByRecursion P ys → AllByRecursion P (xs ++ ys)
+all_after_all P [] ys a b = b
+all_after_all P (x ∷ xs) ys a b = (a.0, all_after_all P xs ys a.1 b)
 
 -- a left row and a right row beside each other
 beside_good : (first second : ℕ) (kinds more : Kinds) (l r : Row) → IsGood first kinds l → IsGood second more r → IsGood (first + second) (λ c. cond (nat_lt c first) (kinds c) (more (c - first))) (l ++ r)
@@ -316,7 +316,7 @@ module _ (kinds : Kinds) (columns : ℕ) (g : GroupRule) (rows : List Row) (are 
   sets_good : (sets : List (List ℕ)) → AllByRecursion (Each (IsGood (g.columns + length g.calls) of_group)) (flat_map (set_rows g rows) sets)
   sets_good [] = tt
   sets_good (set ∷ sets) =
-      all_behind_all (Each (IsGood (g.columns + length g.calls) of_group)) (set_rows g rows set) (flat_map (set_rows g rows) sets)
+      all_after_all (Each (IsGood (g.columns + length g.calls) of_group)) (set_rows g rows set) (flat_map (set_rows g rows) sets)
       (all_map (IsGood g.columns kinds) (Each (IsGood (g.columns + length g.calls) of_group)) (group_row g rows set) (group_row_good set) (groups g.columns set rows) (groups_good set))
       (sets_good sets)
 

@@ -250,7 +250,7 @@ pub record IsContiguous (class : ClassRule) (frame : Frame) (partition : List Ro
       → frame_takes class frame partition m i ≡ true → frame_takes class frame partition m j ≡ true
   pub before : frame.start ≡ UnboundedPreceding → (i j : ℕ) → i < j → j < length partition
       → frame_takes class frame partition m j ≡ true → frame_takes class frame partition m i ≡ true
-  pub stretch : (start : ℕ) × (count : ℕ) × (frame_of class frame partition m ≡ take count (drop start partition))
+  pub range : (start : ℕ) × (count : ℕ) × (frame_of class frame partition m ≡ take count (drop start partition))
 
 -- along a partition list under a lawful ordering, a frame without exclusion is contiguous
 abbrev pub FramesAreContiguous : Type 0

@@ -10,7 +10,7 @@ ghost use Rattle.wd_schema.specs.Schemas.{schema_of};
 use crate::place::places_at;
 use std::alloc::Global;
 use wd_analyse::{Analysis, Reason, analyse};
-use wd_keys::{Change, changed};
+use wd_keys::{Change, apply_changes};
 use wd_query::{PlannedQuery, read_texts};
 use wd_sites::{KeyPlace, PlanSite};
 use wd_value::OutOfMemory;
@@ -81,7 +81,7 @@ fn first_mended(
     ensures mended { IfOk result (λ found. IfSome found (IsMended schema.now query.now)) }
 {
     for keys in lists {
-        if let Some(mended) = tried(alloc, schema, query, places, keys.as_str())? {
+        if let Some(mended) = try_keys(alloc, schema, query, places, keys.as_str())? {
             return Ok(Some(mended));
         }
     }
@@ -89,7 +89,7 @@ fn first_mended(
 }
 
 /// The query with these keys put in, if nothing is open in it then.
-fn tried(
+fn try_keys(
     alloc: Global,
     schema: &[u8],
     query: &[u8],
@@ -99,8 +99,8 @@ fn tried(
     ensures { IfOk result (IsTried schema.now query.now places.now keys.now) }
 {
     let changes = key_changes(alloc, query, places, keys)?;
-    match changed(alloc, query, &changes)? {
-        Some(text) => judged(alloc, schema, Mended { changes, text }),
+    match apply_changes(alloc, query, &changes)? {
+        Some(text) => judge(alloc, schema, Mended { changes, text }),
         None => Ok(None),
     }
 }
@@ -122,11 +122,11 @@ fn key_changes(
 }
 
 /// A changed text, if nothing is open in it.
-fn judged(alloc: Global, schema: &[u8], mended: Mended) -> Result<Option<Mended>, OutOfMemory>
+fn judge(alloc: Global, schema: &[u8], mended: Mended) -> Result<Option<Mended>, OutOfMemory>
     ensures { IfOk result (AnswersKeys schema.now mended) }
 {
     match read_texts(alloc, schema, &mended.text) {
-        Ok(planned) => analysed(alloc, planned, mended),
+        Ok(planned) => analyse_changed(alloc, planned, mended),
         Err(error) => match error.number() {
             Some(_) => Ok(None),
             None => Err(OutOfMemory),
@@ -135,7 +135,7 @@ fn judged(alloc: Global, schema: &[u8], mended: Mended) -> Result<Option<Mended>
 }
 
 /// A changed text that has a plan, if nothing is open in it.
-fn analysed(
+fn analyse_changed(
     alloc: Global,
     planned: PlannedQuery,
     mended: Mended,

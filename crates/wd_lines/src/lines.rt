@@ -102,7 +102,7 @@ pub fn add_joined(out: &mut String, bytes: &[u8]) -> Result<(), OutOfMemory>
 {
     match str::from_utf8(bytes) {
         Ok(text) => {
-            let piece = joined(*out.allocator(), text)?;
+            let piece = join_lines(*out.allocator(), text)?;
             Ok(out.push_str(piece.as_str())?)
         }
         Err(_) => Ok(()),
@@ -110,7 +110,7 @@ pub fn add_joined(out: &mut String, bytes: &[u8]) -> Result<(), OutOfMemory>
 }
 
 /// A text on one line, with one blank for each white space.
-fn joined(alloc: Global, text: &str) -> Result<String, OutOfMemory>
+fn join_lines(alloc: Global, text: &str) -> Result<String, OutOfMemory>
     ensures { IfOk result (λ line. string_bytes line ≡ spec.joined text.now) }
 {
     let mut line = String::new(alloc);

@@ -13,21 +13,21 @@ pub(crate) fn remedy_at(number: u32, text: &[u8], span: Span) -> Option<&'static
     let (before, rest) = text.split_at(start);
     let word = &rest[..end - start];
     match number {
-        101 => found(&AT_CHARACTER, word),
-        201 => found(&AT_WORD, word).or_else(|| found(&AFTER_WORD, last_word(before))),
-        307 => found(&OF_TYPE, word),
-        309 => found(&IN_SCHEMA, word).or_else(|| found(&OF_TYPE, last_word(before))),
-        402 => found(&OF_NAME, word),
-        405 => found(&OF_FUNCTION, first_word(word)).or_else(|| found(
+        101 => find_remedy(&AT_CHARACTER, word),
+        201 => find_remedy(&AT_WORD, word).or_else(|| find_remedy(&AFTER_WORD, last_word(before))),
+        307 => find_remedy(&OF_TYPE, word),
+        309 => find_remedy(&IN_SCHEMA, word).or_else(|| find_remedy(&OF_TYPE, last_word(before))),
+        402 => find_remedy(&OF_NAME, word),
+        405 => find_remedy(&OF_FUNCTION, first_word(word)).or_else(|| find_remedy(
             &OF_ARGUMENT,
-            called(before),
+            called_function(before),
         )),
         _ => None,
     }
 }
 
 /// What a table has for a word, in upper or lower case.
-fn found(table: &[(&'static str, &'static str)], word: &[u8]) -> Option<&'static str> {
+fn find_remedy(table: &[(&'static str, &'static str)], word: &[u8]) -> Option<&'static str> {
     for (known, remedy) in table {
         if word.eq_ignore_ascii_case(known.as_bytes()) {
             return Some(remedy);
@@ -56,7 +56,7 @@ fn first_word(text: &[u8]) -> &[u8] {
 }
 
 /// The function in whose brackets a text ends.
-fn called(text: &[u8]) -> &[u8] {
+fn called_function(text: &[u8]) -> &[u8] {
     match text.trim_ascii_end().split_last() {
         Some((b'(', before)) => last_word(before),
         _ => &[],

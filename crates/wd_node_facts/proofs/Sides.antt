@@ -134,15 +134,15 @@ given_seen tables plan kept more group own by beside row through h g o b r t e =
     (λ i. with_own (g i) (o i) (moved_facts (λ c. b i + c) (r i) (t i)) (moved_facts (λ c. e i + c) member.Right more)) ∙ given_pieces tables plan kept more h
 
 -- what is cut is appended, or nothing
-pub cut_behind : (f : KeptFact → Fact) (before after : List KeptFact) (one kept : KeptFact) (n : ℕ) (X : List ℕ) → after ≡ before ++ one ∷ [] → f kept ≡ record { from = columns_named X; to = kept.to.items } → f one ≡ record { from = columns_named X; to = one.to.items } → one.to.items ≡ filter (is_plain n) kept.to.items → list_all (λ c. nat_lt c n) X ≡ true
+pub cut_after : (f : KeptFact → Fact) (before after : List KeptFact) (one kept : KeptFact) (n : ℕ) (X : List ℕ) → after ≡ before ++ one ∷ [] → f kept ≡ record { from = columns_named X; to = kept.to.items } → f one ≡ record { from = columns_named X; to = one.to.items } → one.to.items ≡ filter (is_plain n) kept.to.items → list_all (λ c. nat_lt c n) X ≡ true
     → map f after ≡ map f before ++ cut_fact n (f kept)
-cut_behind f before after one kept n X e k o to inside =
+cut_after f before after one kept n X e k o to inside =
     ap (map f) e ∙ map-append f before (one ∷ [])
     ∙ (λ i. map f before ++ ((o ∙ (λ j. record { from = columns_named X; to = to j })) i ∷ []))
     ∙ (λ i. map f before ++ sym (ap (cut_fact n) k ∙ cut_in n X kept.to.items inside) i)
 
-pub none_behind : (f : KeptFact → Fact) (before : List KeptFact) (kept : KeptFact) (n : ℕ) (X : List ℕ) → f kept ≡ record { from = columns_named X; to = kept.to.items } → list_all (λ c. nat_lt c n) X ≡ false → map f before ≡ map f before ++ cut_fact n (f kept)
-none_behind f before kept n X k outside = sym (append-nil (map f before)) ∙ (λ i. map f before ++ sym (ap (cut_fact n) k ∙ cut_out n X kept.to.items outside) i)
+pub none_after : (f : KeptFact → Fact) (before : List KeptFact) (kept : KeptFact) (n : ℕ) (X : List ℕ) → f kept ≡ record { from = columns_named X; to = kept.to.items } → list_all (λ c. nat_lt c n) X ≡ false → map f before ≡ map f before ++ cut_fact n (f kept)
+none_after f before kept n X k outside = sym (append-nil (map f before)) ∙ (λ i. map f before ++ sym (ap (cut_fact n) k ∙ cut_out n X kept.to.items outside) i)
 
 -- ---- columns that can be renumbered
 

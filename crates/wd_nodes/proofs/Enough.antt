@@ -11,7 +11,7 @@ use Rattle.wd_join.specs.Joins.{has_more_rows}
 use Rattle.wd_join.proofs.Agreeing.{pairs_append}
 use Rattle.wd_join.proofs.Joining.{length-pairs, pairs_with}
 use Rattle.wd_nodes.specs.Enough.{IsEnough}
-use Rattle.wd_nodes.specs.Produced.{join_over}
+use Rattle.wd_nodes.specs.Relation.{join_over}
 
 -- ---- products of three
 

@@ -4,29 +4,29 @@ use Rattle.wd_value.specs.Rows.{Instance, Row, table_at}
 use Rattle.wd_plan.specs.Plans.{PlanTree, Scan, Join, Filter, Map, Group, Window, Distinct, Limit}
 
 -- rows that are handed over
-abbrev pub Handed : Type 0
-Handed = Option (List Row)
+abbrev pub MovedIn : Type 0
+MovedIn = Option (List Row)
 
 -- what a Scan of a table reads: the rows that are handed over, or else those of the tables
-abbrev pub read_at : Instance → Handed → ℕ → List Row
+abbrev pub read_at : Instance → MovedIn → ℕ → List Row
 read_at tables None table = table_at tables table
 read_at tables (Some rows) table = rows
 
 -- the tables, with the rows handed over in place of those of the plan's first table, are to the plan as the instance
-abbrev pub IsHeld : PlanTree → Instance → Handed → Instance → Type 0
-IsHeld (Scan table columns) tables handed instance = read_at tables handed table ≡ table_at instance table
-IsHeld (Join condition left right) tables handed instance = IsHeld left tables handed instance × IsHeld right tables None instance
-IsHeld (Filter condition input) tables handed instance = IsHeld input tables handed instance
-IsHeld (Map outputs input) tables handed instance = IsHeld input tables handed instance
-IsHeld (Group rule input) tables handed instance = IsHeld input tables handed instance
-IsHeld (Window w input) tables handed instance = IsHeld input tables handed instance
-IsHeld (Distinct input) tables handed instance = IsHeld input tables handed instance
-IsHeld (Limit limit input) tables handed instance = IsHeld input tables handed instance
+abbrev pub IsHeld : PlanTree → Instance → MovedIn → Instance → Type 0
+IsHeld (Scan table columns) tables moved_in instance = read_at tables moved_in table ≡ table_at instance table
+IsHeld (Join condition left right) tables moved_in instance = IsHeld left tables moved_in instance × IsHeld right tables None instance
+IsHeld (Filter condition input) tables moved_in instance = IsHeld input tables moved_in instance
+IsHeld (Map outputs input) tables moved_in instance = IsHeld input tables moved_in instance
+IsHeld (Group rule input) tables moved_in instance = IsHeld input tables moved_in instance
+IsHeld (Window w input) tables moved_in instance = IsHeld input tables moved_in instance
+IsHeld (Distinct input) tables moved_in instance = IsHeld input tables moved_in instance
+IsHeld (Limit limit input) tables moved_in instance = IsHeld input tables moved_in instance
 
 -- they are so as some instance
-pub record IsHeldForSome (plan : PlanTree) (tables : Instance) (handed : Handed) : Type 0 where
+pub record IsHeldForSome (plan : PlanTree) (tables : Instance) (moved_in : MovedIn) : Type 0 where
   pub instance : Instance
-  pub held : IsHeld plan tables handed instance
+  pub held : IsHeld plan tables moved_in instance
 
 -- ---- the table that may be handed over
 

@@ -1,3 +1,3 @@
-pub mod Produced
+pub mod Relation
 pub mod Held
 pub mod Enough

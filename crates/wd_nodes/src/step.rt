@@ -3,7 +3,7 @@
 ghost use Rattle.std.specs.Prelude.{◌≡◌, ◌↔◌, ◌<◌, ◌^◌, ℕ, List, true, false, get_or, length, IfNone, IfOk, IfSome, IsTrue, map, None, Ok, Some};
 ghost use Rattle.wd_columns.specs.Moves.{AreDifferent};
 ghost use Rattle.wd_nodes.specs.Held.{read_at};
-ghost use Rattle.wd_nodes.specs.Produced.{IsSmallOrLarge, given_of, group_over, join_over, joined_of, produced_of, side_of};
+ghost use Rattle.wd_nodes.specs.Relation.{IsSmallOrLarge, listed_relation_of, group_over, join_over, joined_of, relation_of, stored_rows_of};
 ghost use Rattle.wd_plan.specs.Expressions.{Column, expression_of};
 ghost use Rattle.wd_plan.specs.Faults.{and_then};
 ghost use Rattle.wd_plan.specs.Outcomes as spec;
@@ -13,10 +13,10 @@ ghost use Rattle.wd_join.specs.Joins.{has_more_rows};
 ghost use Rattle.wd_join.specs.Paired.{rows_paired};
 ghost use Rattle.wd_value.specs.Rows.{Instance, instance_of};
 
-use crate::pairs::{has_more, narrowed};
-use crate::produced::{Given, Produced, gathered, shown, table_in};
-use crate::side::{
-    Side, joined_rows, list_from, narrowed_side, picked, rows_in, side_from, source,
+use crate::pairs::{has_more, narrow};
+use crate::relation::{ListedRelation, Relation, listed_rows, make_list, table_in};
+use crate::stored::{
+    StoredRows, list_from, make_joined_rows, narrow_stored, pick_rows, rows_in, source, store,
 };
 use std::alloc::Global;
 use wd_columns::{Columns, RowSource};
@@ -28,17 +28,17 @@ use wd_value::{OutOfMemory, Row};
 
 /// The table that is handed over, and else the one with this number, or the error that these are more
 /// than `most` rows.
-pub fn scanned(
+pub fn scan_table(
     tables: &[Vec<Row>],
-    handed: Option<Columns>,
+    moved_in: Option<Columns>,
     table: u16,
     most: u64,
-) -> Result<Produced, StepError>
-    ensures { IsSmallOrLarge most (Ok (read_at (instance_of tables.now) handed table)) (produced_of (instance_of tables.now)) result }
+) -> Result<Relation, StepError>
+    ensures { IsSmallOrLarge most (Ok (read_at (instance_of tables.now) moved_in table)) (relation_of (instance_of tables.now)) result }
 {
-    let read = match handed {
-        Some(columns) => Produced::ByColumn(columns),
-        None => Produced::Table(table),
+    let read = match moved_in {
+        Some(columns) => Relation::ByColumn(columns),
+        None => Relation::Table(table),
     };
     if has_more(tables, &read, most) {
         return Err(StepError::TooManyRows);
@@ -49,22 +49,22 @@ pub fn scanned(
 /// All pairs of a left and a right row for which the condition is true, or the error that there
 /// are more than `most`. Without a condition they are not made yet, nor where the condition consists of
 /// equalities.
-pub fn joined(
+pub fn join_inputs(
     alloc: Global,
     instance: &[Vec<Row>],
     condition: &Option<Expr>,
-    left: Produced,
-    right: Produced,
+    left: Relation,
+    right: Relation,
     most: u64,
-) -> Result<Produced, StepError>
-    ensures { IsSmallOrLarge most (joined_of (instance_of instance.now) condition.now left right) (produced_of (instance_of instance.now)) result }
+) -> Result<Relation, StepError>
+    ensures { IsSmallOrLarge most (joined_of (instance_of instance.now) condition.now left right) (relation_of (instance_of instance.now)) result }
 {
     match condition {
         None => {
-            let right = gathered(alloc, instance, right, 0)?;
+            let right = make_list(alloc, instance, right, 0)?;
             pairs_of(alloc, instance, left, right, most)
         }
-        Some(condition) => joined_where(alloc, instance, condition, left, right, most),
+        Some(condition) => join_where(alloc, instance, condition, left, right, most),
     }
 }
 
@@ -72,13 +72,13 @@ pub fn joined(
 fn pairs_of(
     alloc: Global,
     instance: &[Vec<Row>],
-    left: Produced,
-    right: Given,
+    left: Relation,
+    right: ListedRelation,
     most: u64,
-) -> Result<Produced, StepError>
-    ensures { IsSmallOrLarge most (join_over None (produced_of (instance_of instance.now) left) (given_of (instance_of instance.now) right)) (produced_of (instance_of instance.now)) result }
+) -> Result<Relation, StepError>
+    ensures { IsSmallOrLarge most (join_over None (relation_of (instance_of instance.now) left) (listed_relation_of (instance_of instance.now) right)) (relation_of (instance_of instance.now)) result }
 {
-    let pairs = Produced::Pairs(Box::new(alloc, left)?, right);
+    let pairs = Relation::Pairs(Box::new(alloc, left)?, right);
     if has_more(instance, &pairs, most) {
         Err(StepError::TooManyRows)
     } else {
@@ -87,35 +87,35 @@ fn pairs_of(
 }
 
 /// The pairs for which the condition is true, or the error that there are too many.
-fn joined_where(
+fn join_where(
     alloc: Global,
     instance: &[Vec<Row>],
     condition: &Expr,
-    left: Produced,
-    right: Produced,
+    left: Relation,
+    right: Relation,
     most: u64,
-) -> Result<Produced, StepError>
-    ensures { IsSmallOrLarge most (join_over (Some (expression_of condition.now)) (produced_of (instance_of instance.now) left) (produced_of (instance_of instance.now) right)) (produced_of (instance_of instance.now)) result }
+) -> Result<Relation, StepError>
+    ensures { IsSmallOrLarge most (join_over (Some (expression_of condition.now)) (relation_of (instance_of instance.now) left) (relation_of (instance_of instance.now) right)) (relation_of (instance_of instance.now)) result }
 {
-    let left = narrowed_side(alloc, instance, condition, left)?;
-    let right = side_from(alloc, instance, right)?;
+    let left = narrow_stored(alloc, instance, condition, left)?;
+    let right = store(alloc, instance, right)?;
     match (left, right) {
-        (Err(fault), _) => Ok(Produced::Made(Outcome::Fault(fault))),
-        (Ok(_), Err(fault)) => Ok(Produced::Made(Outcome::Fault(fault))),
-        (Ok(left), Ok(right)) => joined_sides(alloc, instance, condition, left, right, most),
+        (Err(fault), _) => Ok(Relation::Made(Outcome::Fault(fault))),
+        (Ok(_), Err(fault)) => Ok(Relation::Made(Outcome::Fault(fault))),
+        (Ok(left), Ok(right)) => join_stored(alloc, instance, condition, left, right, most),
     }
 }
 
 /// The pairs of two sides for which the condition is true, by positions where the condition consists of equalities.
-fn joined_sides(
+fn join_stored(
     alloc: Global,
     instance: &[Vec<Row>],
     condition: &Expr,
-    left: Side,
-    right: Side,
+    left: StoredRows,
+    right: StoredRows,
     most: u64,
-) -> Result<Produced, StepError>
-    ensures { IsSmallOrLarge most (spec.join_outcome (Some (expression_of condition.now)) (spec.pairs (side_of (instance_of instance.now) left) (side_of (instance_of instance.now) right))) (produced_of (instance_of instance.now)) result }
+) -> Result<Relation, StepError>
+    ensures { IsSmallOrLarge most (spec.join_outcome (Some (expression_of condition.now)) (spec.pairs (stored_rows_of (instance_of instance.now) left) (stored_rows_of (instance_of instance.now) right))) (relation_of (instance_of instance.now)) result }
 {
     let found = equal_pairs(
         alloc,
@@ -125,24 +125,24 @@ fn joined_sides(
         most,
     )?;
     match found {
-        Some(pairs) => Ok(Produced::Joined(left, right, pairs)),
+        Some(pairs) => Ok(Relation::Joined(left, right, pairs)),
         None => {
-            let outcome = joined_lists(alloc, instance, condition, left, right, most)?;
-            Ok(Produced::Made(outcome))
+            let outcome = join_lists(alloc, instance, condition, left, right, most)?;
+            Ok(Relation::Made(outcome))
         }
     }
 }
 
 /// The pairs for which the condition is true, as rows.
-fn joined_lists(
+fn join_lists(
     alloc: Global,
     instance: &[Vec<Row>],
     condition: &Expr,
-    left: Side,
-    right: Side,
+    left: StoredRows,
+    right: StoredRows,
     most: u64,
 ) -> Result<Outcome, StepError>
-    ensures { IsSmallOrLarge most (spec.join_outcome (Some (expression_of condition.now)) (spec.pairs (side_of (instance_of instance.now) left) (side_of (instance_of instance.now) right))) outcome_of result }
+    ensures { IsSmallOrLarge most (spec.join_outcome (Some (expression_of condition.now)) (spec.pairs (stored_rows_of (instance_of instance.now) left) (stored_rows_of (instance_of instance.now) right))) outcome_of result }
 {
     let left = list_from(alloc, left)?;
     let right = list_from(alloc, right)?;
@@ -157,23 +157,23 @@ fn joined_lists(
 }
 
 /// The rows of the input for which the condition is true.
-pub fn filtered(
+pub fn filter_input(
     alloc: Global,
     instance: &[Vec<Row>],
     condition: &Expr,
-    input: Produced,
-) -> Result<Produced, OutOfMemory>
-    ensures { IfOk result (λ o. produced_of (instance_of instance.now) o ≡ and_then (produced_of (instance_of instance.now) input) (spec.filter_outcome (expression_of condition.now))) }
+    input: Relation,
+) -> Result<Relation, OutOfMemory>
+    ensures { IfOk result (λ o. relation_of (instance_of instance.now) o ≡ and_then (relation_of (instance_of instance.now) input) (spec.filter_outcome (expression_of condition.now))) }
 {
     match input {
-        Produced::Pairs(left, right) => {
-            let left = narrowed(alloc, instance, condition, Box::into_inner(left))?;
+        Relation::Pairs(left, right) => {
+            let left = narrow(alloc, instance, condition, Box::into_inner(left))?;
             let outcome = pairs_where(alloc, instance, condition, &left, &right)?;
-            Ok(Produced::Made(outcome))
+            Ok(Relation::Made(outcome))
         }
-        other => match side_from(alloc, instance, other)? {
-            Ok(side) => passing(alloc, instance, condition, side),
-            Err(fault) => Ok(Produced::Made(Outcome::Fault(fault))),
+        other => match store(alloc, instance, other)? {
+            Ok(stored) => passing(alloc, instance, condition, stored),
+            Err(fault) => Ok(Relation::Made(Outcome::Fault(fault))),
         },
     }
 }
@@ -183,13 +183,13 @@ fn passing(
     alloc: Global,
     instance: &[Vec<Row>],
     condition: &Expr,
-    side: Side,
-) -> Result<Produced, OutOfMemory>
-    ensures { IfOk result (λ o. produced_of (instance_of instance.now) o ≡ spec.filter_outcome (expression_of condition.now) (side_of (instance_of instance.now) side)) }
+    stored: StoredRows,
+) -> Result<Relation, OutOfMemory>
+    ensures { IfOk result (λ o. relation_of (instance_of instance.now) o ≡ spec.filter_outcome (expression_of condition.now) (stored_rows_of (instance_of instance.now) stored)) }
 {
-    match passing_positions(alloc, condition, &source(&side, instance))? {
-        Ok(kept) => picked(alloc, instance, side, &kept),
-        Err(fault) => Ok(Produced::Made(Outcome::Fault(fault))),
+    match passing_positions(alloc, condition, &source(&stored, instance))? {
+        Ok(kept) => pick_rows(alloc, instance, stored, &kept),
+        Err(fault) => Ok(Relation::Made(Outcome::Fault(fault))),
     }
 }
 
@@ -198,12 +198,12 @@ fn pairs_where(
     alloc: Global,
     instance: &[Vec<Row>],
     condition: &Expr,
-    left: &Given,
-    right: &Given,
+    left: &ListedRelation,
+    right: &ListedRelation,
 ) -> Result<Outcome, OutOfMemory>
-    ensures { IfOk result (λ o. outcome_of o ≡ and_then (join_over None (given_of (instance_of instance.now) left.now) (given_of (instance_of instance.now) right.now)) (spec.filter_outcome (expression_of condition.now))) }
+    ensures { IfOk result (λ o. outcome_of o ≡ and_then (join_over None (listed_relation_of (instance_of instance.now) left.now) (listed_relation_of (instance_of instance.now) right.now)) (spec.filter_outcome (expression_of condition.now))) }
 {
-    match (shown(left, instance), shown(right, instance)) {
+    match (listed_rows(left, instance), listed_rows(right, instance)) {
         (Err(fault), _) => Ok(Outcome::Fault(fault)),
         (Ok(_), Err(fault)) => Ok(Outcome::Fault(fault)),
         (Ok(left), Ok(right)) => filter_pairs(alloc, condition, left, right),
@@ -211,72 +211,72 @@ fn pairs_where(
 }
 
 /// The values of the outputs over each row of the input.
-pub fn mapped(
+pub fn map_input(
     alloc: Global,
     instance: &[Vec<Row>],
     outputs: &[Expr],
-    input: Produced,
-) -> Result<Produced, OutOfMemory>
-    ensures { IfOk result (λ o. produced_of (instance_of instance.now) o ≡ and_then (produced_of (instance_of instance.now) input) (spec.map_outcome (map expression_of outputs.now))) }
+    input: Relation,
+) -> Result<Relation, OutOfMemory>
+    ensures { IfOk result (λ o. relation_of (instance_of instance.now) o ≡ and_then (relation_of (instance_of instance.now) input) (spec.map_outcome (map expression_of outputs.now))) }
 {
     match input {
-        Produced::ByColumn(columns) => mapped_columns(alloc, outputs, columns),
-        Produced::Joined(left, right, pairs) => {
-            mapped_pairs(alloc, instance, outputs, left, right, &pairs)
+        Relation::ByColumn(columns) => map_stored_columns(alloc, outputs, columns),
+        Relation::Joined(left, right, pairs) => {
+            map_pairs(alloc, instance, outputs, left, right, &pairs)
         }
-        other => mapped_rows(alloc, instance, outputs, other),
+        other => map_listed(alloc, instance, outputs, other),
     }
 }
 
 /// The values of the outputs over rows that are kept column by column, and stay so: the columns are moved where the outputs are
 /// columns, none of them twice.
-fn mapped_columns(
+fn map_stored_columns(
     alloc: Global,
     outputs: &[Expr],
     columns: Columns,
-) -> Result<Produced, OutOfMemory>
-    ensures { IfOk result (λ o. (instance : Instance) → produced_of instance o ≡ spec.map_outcome (map expression_of outputs.now) columns) }
+) -> Result<Relation, OutOfMemory>
+    ensures { IfOk result (λ o. (instance : Instance) → relation_of instance o ≡ spec.map_outcome (map expression_of outputs.now) columns) }
 {
     match selected_columns(alloc, outputs)? {
         Some(selected) => {
             let columns = columns.selected(alloc, &selected)?;
-            Ok(Produced::ByColumn(columns))
+            Ok(Relation::ByColumn(columns))
         }
-        None => mapped_source(alloc, outputs, &RowSource::of_columns(&columns)),
+        None => map_source(alloc, outputs, &RowSource::of_columns(&columns)),
     }
 }
 
 /// The values of the outputs over rows, column by column.
-fn mapped_source(alloc: Global, outputs: &[Expr], rows: &RowSource) -> Result<Produced, OutOfMemory>
-    ensures { IfOk result (λ o. (instance : Instance) → produced_of instance o ≡ spec.map_outcome (map expression_of outputs.now) rows.now) }
+fn map_source(alloc: Global, outputs: &[Expr], rows: &RowSource) -> Result<Relation, OutOfMemory>
+    ensures { IfOk result (λ o. (instance : Instance) → relation_of instance o ≡ spec.map_outcome (map expression_of outputs.now) rows.now) }
 {
     match map_columns(alloc, outputs, rows)? {
-        Ok(columns) => Ok(Produced::ByColumn(columns)),
-        Err(fault) => Ok(Produced::Made(Outcome::Fault(fault))),
+        Ok(columns) => Ok(Relation::ByColumn(columns)),
+        Err(fault) => Ok(Relation::Made(Outcome::Fault(fault))),
     }
 }
 
 /// The values of the outputs over pairs that are not made yet: where the outputs are columns, only these are made.
-fn mapped_pairs(
+fn map_pairs(
     alloc: Global,
     instance: &[Vec<Row>],
     outputs: &[Expr],
-    left: Side,
-    right: Side,
+    left: StoredRows,
+    right: StoredRows,
     pairs: &[Pair],
-) -> Result<Produced, OutOfMemory>
-    ensures { IfOk result (λ o. produced_of (instance_of instance.now) o ≡ spec.map_outcome (map expression_of outputs.now) (rows_paired (side_of (instance_of instance.now) left) (side_of (instance_of instance.now) right) pairs.now)) }
+) -> Result<Relation, OutOfMemory>
+    ensures { IfOk result (λ o. relation_of (instance_of instance.now) o ≡ spec.map_outcome (map expression_of outputs.now) (rows_paired (stored_rows_of (instance_of instance.now) left) (stored_rows_of (instance_of instance.now) right) pairs.now)) }
 {
     match shown_columns(alloc, outputs)? {
         Some(columns) => {
             let (first, second) = (source(&left, instance), source(&right, instance));
             let picked = paired_columns(alloc, &first, &second, pairs, &columns)?;
-            Ok(Produced::ByColumn(picked))
+            Ok(Relation::ByColumn(picked))
         }
         None => {
-            let rows = joined_rows(alloc, instance, left, right, pairs)?;
+            let rows = make_joined_rows(alloc, instance, left, right, pairs)?;
             let outcome = map_own_rows(alloc, outputs, rows)?;
-            Ok(Produced::Made(outcome))
+            Ok(Relation::Made(outcome))
         }
     }
 }
@@ -331,66 +331,66 @@ fn stands_before(numbers: &[u64], place: usize) -> bool
 }
 
 /// The values of the outputs over each row of an input that is a table or was made row by row.
-fn mapped_rows(
+fn map_listed(
     alloc: Global,
     instance: &[Vec<Row>],
     outputs: &[Expr],
-    input: Produced,
-) -> Result<Produced, OutOfMemory>
-    ensures { IfOk result (λ o. produced_of (instance_of instance.now) o ≡ and_then (produced_of (instance_of instance.now) input) (spec.map_outcome (map expression_of outputs.now))) }
+    input: Relation,
+) -> Result<Relation, OutOfMemory>
+    ensures { IfOk result (λ o. relation_of (instance_of instance.now) o ≡ and_then (relation_of (instance_of instance.now) input) (spec.map_outcome (map expression_of outputs.now))) }
 {
-    match gathered(alloc, instance, input, 0)? {
-        Given::Table(table) => {
+    match make_list(alloc, instance, input, 0)? {
+        ListedRelation::Table(table) => {
             let rows = table_in(instance, table);
-            mapped_source(alloc, outputs, &RowSource::of_rows(rows))
+            map_source(alloc, outputs, &RowSource::of_rows(rows))
         }
-        Given::Made(Outcome::Rows(rows)) => {
+        ListedRelation::Made(Outcome::Rows(rows)) => {
             let outcome = map_own_rows(alloc, outputs, rows)?;
-            Ok(Produced::Made(outcome))
+            Ok(Relation::Made(outcome))
         }
-        Given::Made(Outcome::Fault(fault)) => Ok(Produced::Made(Outcome::Fault(fault))),
+        ListedRelation::Made(Outcome::Fault(fault)) => Ok(Relation::Made(Outcome::Fault(fault))),
     }
 }
 
 /// The rows of a Group's sets over the input's rows, or the error that there are more than `most`.
-pub fn grouped(
+pub fn group_input(
     alloc: Global,
     instance: &[Vec<Row>],
     group: &Group,
-    input: Produced,
+    input: Relation,
     most: u64,
 ) -> Result<Outcome, StepError>
     requires few { most < 2 ^ 32 }
-    requires small { has_more_rows most (produced_of (instance_of instance.now) input) ≡ false }
+    requires small { has_more_rows most (relation_of (instance_of instance.now) input) ≡ false }
     requires masks { HaveMasks (grouping_of group.now) }
-    ensures { IsSmallOrLarge most (group_over (grouping_of group.now) (produced_of (instance_of instance.now) input)) outcome_of result }
+    ensures { IsSmallOrLarge most (group_over (grouping_of group.now) (relation_of (instance_of instance.now) input)) outcome_of result }
 {
     match input {
-        Produced::ByColumn(columns) => {
+        Relation::ByColumn(columns) => {
             let outcome = group_rows(alloc, group, &RowSource::of_columns(&columns), most)?;
             Ok(outcome)
         }
         other => {
-            let given = gathered(alloc, instance, other, 0)?;
-            grouped_rows(alloc, instance, group, &given, most)
+            let list = make_list(alloc, instance, other, 0)?;
+            group_listed(alloc, instance, group, &list, most)
         }
     }
 }
 
 /// The rows of a Group's sets over a list of rows.
-fn grouped_rows(
+fn group_listed(
     alloc: Global,
     instance: &[Vec<Row>],
     group: &Group,
-    input: &Given,
+    input: &ListedRelation,
     most: u64,
 ) -> Result<Outcome, StepError>
     requires few { most < 2 ^ 32 }
-    requires small { has_more_rows most (given_of (instance_of instance.now) input.now) ≡ false }
+    requires small { has_more_rows most (listed_relation_of (instance_of instance.now) input.now) ≡ false }
     requires masks { HaveMasks (grouping_of group.now) }
-    ensures { IsSmallOrLarge most (group_over (grouping_of group.now) (given_of (instance_of instance.now) input.now)) outcome_of result }
+    ensures { IsSmallOrLarge most (group_over (grouping_of group.now) (listed_relation_of (instance_of instance.now) input.now)) outcome_of result }
 {
-    match shown(input, instance) {
+    match listed_rows(input, instance) {
         Err(fault) => Ok(Outcome::Fault(fault)),
         Ok(rows) => {
             let outcome = group_rows(alloc, group, &RowSource::of_rows(rows), most)?;
@@ -403,21 +403,25 @@ fn grouped_rows(
 pub fn distinct(
     alloc: Global,
     instance: &[Vec<Row>],
-    input: Produced,
-) -> Result<Produced, OutOfMemory>
-    ensures { IfOk result (λ o. produced_of (instance_of instance.now) o ≡ and_then (produced_of (instance_of instance.now) input) (λ rows. Ok (spec.distinct rows))) }
+    input: Relation,
+) -> Result<Relation, OutOfMemory>
+    ensures { IfOk result (λ o. relation_of (instance_of instance.now) o ≡ and_then (relation_of (instance_of instance.now) input) (λ rows. Ok (spec.distinct rows))) }
 {
-    match side_from(alloc, instance, input)? {
-        Ok(side) => first_of(alloc, instance, side),
-        Err(fault) => Ok(Produced::Made(Outcome::Fault(fault))),
+    match store(alloc, instance, input)? {
+        Ok(stored) => first_of(alloc, instance, stored),
+        Err(fault) => Ok(Relation::Made(Outcome::Fault(fault))),
     }
 }
 
 /// The first of rows that are not distinct.
-fn first_of(alloc: Global, instance: &[Vec<Row>], side: Side) -> Result<Produced, OutOfMemory>
-    ensures { IfOk result (λ o. produced_of (instance_of instance.now) o ≡ Ok (spec.distinct (side_of (instance_of instance.now) side))) }
+fn first_of(
+    alloc: Global,
+    instance: &[Vec<Row>],
+    stored: StoredRows,
+) -> Result<Relation, OutOfMemory>
+    ensures { IfOk result (λ o. relation_of (instance_of instance.now) o ≡ Ok (spec.distinct (stored_rows_of (instance_of instance.now) stored))) }
 {
-    let kept = distinct_positions(alloc, &source(&side, instance))?;
-    let first = picked(alloc, instance, side, &kept)?;
+    let kept = distinct_positions(alloc, &source(&stored, instance))?;
+    let first = pick_rows(alloc, instance, stored, &kept)?;
     Ok(first)
 }

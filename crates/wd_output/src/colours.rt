@@ -4,7 +4,7 @@ use std::alloc::Global;
 use wd_value::OutOfMemory;
 
 /// The lines of blocks in colours: the line with a block's place in bold, its carets in red, its help in green.
-pub(crate) fn coloured(alloc: Global, text: &[u8]) -> Result<Vec<u8>, OutOfMemory> {
+pub(crate) fn colour(alloc: Global, text: &[u8]) -> Result<Vec<u8>, OutOfMemory> {
     let mut out = Vec::new(alloc);
     let mut is_head = true;
     for line in text.split_inclusive(|b| *b == b'\n') {

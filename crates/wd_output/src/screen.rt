@@ -3,7 +3,7 @@
 //! Where standard error is a terminal and a run takes more than a second, its last line says how many queries are done. The line is
 //! removed before anything else is written, and at the end.
 
-use crate::colours::coloured;
+use crate::colours::colour;
 use crate::progress::Progress;
 use crate::report::Report;
 use std::alloc::Global;
@@ -104,7 +104,7 @@ impl<'s, C: Clock, O: Write, E: Write> Screen<'s, C, O, E> {
             self.terminals.out
         };
         if report.format == Format::Text && self.look.colour.is_on(is_terminal) {
-            let bytes = coloured(alloc, &report.bytes)?;
+            let bytes = colour(alloc, &report.bytes)?;
             self.write(&bytes)
         } else {
             self.write(&report.bytes)

@@ -11,7 +11,7 @@ use wd_markup::{Class, Page, Tag};
 use wd_plan::{Call, Class as CallClass, Expr, Group, Limit, Plan, Window};
 use wd_schema::{Key, Schema, Table};
 use wd_spelling::{
-    call_text, group_names, output_names, scan_names, spelled, table_names, window_names,
+    call_text, group_names, output_names, scan_names, spell_expression, table_names, window_names,
 };
 use wd_value::{OutOfMemory, SortColumn, Text};
 
@@ -81,7 +81,7 @@ fn add_box(
         Plan::Join { left, right, .. } => {
             let first = add_box(alloc, page, grounds, tables, at, left)?;
             let second = add_box(alloc, page, grounds, tables, first.behind, right)?;
-            joined(first.names, second)?
+            join_plans(first.names, second)?
         }
         Plan::Filter { input, .. }
         | Plan::Map { input, .. }
@@ -104,7 +104,7 @@ fn add_box(
 }
 
 /// Two plans joined: the columns of both.
-fn joined(names: Vec<Text>, second: Drawn) -> Result<Drawn, OutOfMemory> {
+fn join_plans(names: Vec<Text>, second: Drawn) -> Result<Drawn, OutOfMemory> {
     let Drawn {
         behind,
         names: more,
@@ -214,7 +214,7 @@ fn add_condition(
     names: &[Text],
     condition: &Expr,
 ) -> Result<(), OutOfMemory> {
-    let sql = spelled(alloc, names, condition)?;
+    let sql = spell_expression(alloc, names, condition)?;
     add_sql(page, does, words, sql.as_str())
 }
 
@@ -259,7 +259,7 @@ fn listed_outputs(alloc: Global, names: &[Text], outputs: &[Expr]) -> Result<Str
             return more(words);
         }
         words.push_str(separator(number))?;
-        words.push_str(spelled(alloc, names, output)?.as_str())?;
+        words.push_str(spell_expression(alloc, names, output)?.as_str())?;
     }
     Ok(words)
 }
@@ -273,17 +273,17 @@ fn add_group(
 ) -> Result<(), OutOfMemory> {
     let given = group_names(alloc, names, group)?;
     let (keys, calls) = given.split_at(usize::from(group.columns).min(given.len()));
-    let sql = listed(alloc, keys)?;
+    let sql = list_names(alloc, keys)?;
     add_sql(page, "Group by", "", sql.as_str())?;
     if calls.is_empty() {
         return Ok(());
     }
-    let sql = listed(alloc, calls)?;
+    let sql = list_names(alloc, calls)?;
     add_sql(page, "", "with", sql.as_str())
 }
 
 /// Names in one line, as many as fit.
-fn listed(alloc: Global, names: &[Text]) -> Result<String, OutOfMemory> {
+fn list_names(alloc: Global, names: &[Text]) -> Result<String, OutOfMemory> {
     let mut words = String::new(alloc);
     for (number, name) in names.iter().enumerate() {
         if words.len() > LONG {

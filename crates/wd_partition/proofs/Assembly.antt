@@ -1,4 +1,4 @@
--- The stretches of the positions sorted by partition are the partitions of the ordering.
+-- The ranges of the positions sorted by partition are the partitions of the ordering.
 use Rattle.std.proofs.Common.{◌≡◌, ℕ, zero, suc, ◌-◌, ◌<◌, ◌≤◌, Bool, true, false, List, [], ◌∷◌, map, take, drop, get_or, length, refl, sym, ◌∙◌, ap, subst, arith}
 use Rattle.std.proofs.lemmas.List.{drop-map, get_or-map, length-map, take-map}
 use Rattle.std.proofs.lemmas.List.FromFn.{get_or-range_with_len, length-range_with_len}
@@ -21,9 +21,9 @@ use Rattle.wd_partition.specs.Orderings.{AreGrouped, IsGroupedOrdering}
 use Rattle.wd_partition.specs.Places.{ArePlaces}
 use Rattle.wd_partition.proofs.Grouping.{same_members}
 use Rattle.wd_partition.proofs.Marks.{found_once, length_once}
-use Rattle.wd_partition.proofs.Numbering.{by_partition, end, end_high, long_enough, member_here, members_stretch, start, start_low}
+use Rattle.wd_partition.proofs.Numbering.{by_partition, end, end_high, long_enough, member_here, members_range, start, start_low}
 
--- ---- stretches
+-- ---- ranges
 
 take_none : {X : Type 0} (n : ℕ) → take {A = X} n [] ≡ []
 take_none zero = refl
@@ -33,17 +33,17 @@ drop_none : {X : Type 0} (n : ℕ) → drop {A = X} n [] ≡ []
 drop_none zero = refl
 drop_none (suc n) = refl
 
-no_stretch : {X : Type 0} (n a : ℕ) → take {A = X} n (drop a []) ≡ []
-no_stretch {X} n a = ap (take {A = X} n) (drop_none a) ∙ take_none n
+no_range : {X : Type 0} (n a : ℕ) → take {A = X} n (drop a []) ≡ []
+no_range {X} n a = ap (take {A = X} n) (drop_none a) ∙ take_none n
 
-map_stretch : {X Y : Type 0} (f : X → Y) (n a : ℕ) (xs : List X) → take n (drop a (map f xs)) ≡ map f (take n (drop a xs))
-map_stretch f n a xs = ap (take n) (drop-map f a xs) ∙ take-map f n (drop a xs)
+map_range : {X Y : Type 0} (f : X → Y) (n a : ℕ) (xs : List X) → take n (drop a (map f xs)) ≡ map f (take n (drop a xs))
+map_range f n a xs = ap (take n) (drop-map f a xs) ∙ take-map f n (drop a xs)
 
-numbers_stretch : (asked : Bool) (keys : List SortColumn) (n a : ℕ) (rows : List Row) → take n (drop a (key_numbers asked keys rows)) ≡ key_numbers asked keys (take n (drop a rows))
-numbers_stretch true [] n a rows = no_stretch n a
-numbers_stretch true (key ∷ []) n a rows = map_stretch (λ r. number_part (column_of r key.column)) n a rows
-numbers_stretch true (key ∷ other ∷ keys) n a rows = no_stretch n a
-numbers_stretch false keys n a rows = no_stretch n a
+numbers_range : (asked : Bool) (keys : List SortColumn) (n a : ℕ) (rows : List Row) → take n (drop a (key_numbers asked keys rows)) ≡ key_numbers asked keys (take n (drop a rows))
+numbers_range true [] n a rows = no_range n a
+numbers_range true (key ∷ []) n a rows = map_range (λ r. number_part (column_of r key.column)) n a rows
+numbers_range true (key ∷ other ∷ keys) n a rows = no_range n a
+numbers_range false keys n a rows = no_range n a
 
 numbers_long : (asked : Bool) (keys : List SortColumn) (rows : List Row) → 0 < length (key_numbers asked keys rows) → length (key_numbers asked keys rows) ≡ length rows
 numbers_long true [] rows h = absurd (omega arith)
@@ -82,17 +82,17 @@ module _ (class : ClassRule) (asked : Bool) (rows : List Row) (s : List ℕ) (gr
       let passes : same_partition class (row_at rows p) (row_at rows q) ≡ true = filter_passes_at (λ q. same_partition class (row_at rows p) (row_at rows q)) s i 0 within in
       ap (λ (ms : List ℕ). group_of class (rows_at rows ms) (row_at rows q)) (laws.same_members class rows s (row_at rows p) q (same_partition_is class (row_at rows p) (row_at rows q) passes)))
 
-  groups_stretch : (p : ℕ) → take (finish p - begin p) (drop (begin p) (map (own_group class rows s) s)) ≡ map (group_of class (partition_of class rows s p)) (partition_of class rows s p)
-  groups_stretch p =
-      map_stretch (own_group class rows s) (finish p - begin p) (begin p) s
-      ∙ ap (map (own_group class rows s)) (sym (members_stretch class rows s grouped p))
+  groups_range : (p : ℕ) → take (finish p - begin p) (drop (begin p) (map (own_group class rows s) s)) ≡ map (group_of class (partition_of class rows s p)) (partition_of class rows s p)
+  groups_range p =
+      map_range (own_group class rows s) (finish p - begin p) (begin p) s
+      ∙ ap (map (own_group class rows s)) (sym (members_range class rows s grouped p))
       ∙ own_groups p
       ∙ map_twice (group_of class (partition_of class rows s p)) (row_at rows) (members class rows s p)
 
-  key_stretch : (p : ℕ) → take (finish p - begin p) (drop (begin p) (key_numbers asked class.order (rows_at rows s))) ≡ key_numbers asked class.order (partition_of class rows s p)
-  key_stretch p =
-      numbers_stretch asked class.order (finish p - begin p) (begin p) (rows_at rows s)
-      ∙ ap (key_numbers asked class.order) (map_stretch (row_at rows) (finish p - begin p) (begin p) s ∙ ap (rows_at rows) (sym (members_stretch class rows s grouped p)))
+  key_range : (p : ℕ) → take (finish p - begin p) (drop (begin p) (key_numbers asked class.order (rows_at rows s))) ≡ key_numbers asked class.order (partition_of class rows s p)
+  key_range p =
+      numbers_range asked class.order (finish p - begin p) (begin p) (rows_at rows s)
+      ∙ ap (key_numbers asked class.order) (map_range (row_at rows) (finish p - begin p) (begin p) s ∙ ap (rows_at rows) (sym (members_range class rows s grouped p)))
 
   begins_low : (p : ℕ) → p < length rows → begin p ≤ place_in s p
   begins_low p low =
@@ -113,9 +113,9 @@ module _ (class : ClassRule) (asked : Bool) (rows : List Row) (s : List ℕ) (gr
 
   member_is : (p : ℕ) → p < length rows → member_at s (map (own_group class rows s) s) (key_numbers asked class.order (rows_at rows s)) (place_at p) ≡ member_of class asked rows s p
   member_is p low = λ i. record {
-    positions = sym (members_stretch class rows s grouped p) i;
-    groups = groups_stretch p i;
-    numbers = key_stretch p i;
+    positions = sym (members_range class rows s grouped p) i;
+    groups = groups_range p i;
+    numbers = key_range p i;
     place = own_place p low i;
   }
 

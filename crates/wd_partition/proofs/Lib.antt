@@ -1,7 +1,7 @@
 pub mod ByColumns
 pub mod Grouping
 pub mod Marks
-pub mod Stretches
+pub mod IndexRanges
 pub mod Stepping
 pub mod Filling
 pub mod Numbering

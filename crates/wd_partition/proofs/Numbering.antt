@@ -1,4 +1,4 @@
--- The partition of each of the positions sorted by partition is a stretch of them, along which the peer group number is counted.
+-- The partition of each of the positions sorted by partition is a range of them, along which the peer group number is counted.
 use Rattle.std.proofs.Common.{◌≡◌, ℕ, zero, suc, ◌+◌, ◌-◌, ◌<◌, ◌≤◌, ◌⊎◌, inl, inr, Bool, true, false, cond, List, [], filter, take, drop, get_or, length, refl, sym, ◌∙◌, ap, subst, arith, Ordering, Less, Equal, Greater, Some}
 use Rattle.std.specs.Ordering.{is_eq}
 use Rattle.std.proofs.lemmas.List.{get_or-take, get_or-drop, get_or-map, length-drop, length-map, length-take}
@@ -21,7 +21,7 @@ use Rattle.wd_partition.specs.Steps.{group_after, step_by, step_to}
 use Rattle.wd_partition.specs.declared.steps.Step.{Step}
 use Rattle.wd_partition.specs.declared.steps.Step.TheVariants.{Group, Partition, Peer}
 use Rattle.wd_partition.proofs.ByColumns.{tie_is_partition}
-use Rattle.wd_partition.proofs.Stretches.{end_over, rising, rows_total, same_start, start_here, start_within, tied_stretch}
+use Rattle.wd_partition.proofs.IndexRanges.{end_over, rising, rows_total, same_start, start_here, start_within, tied_range}
 
 module _ (class : ClassRule) (rows : List Row) (s : List ℕ) (grouped : IsGroupedOrdering class rows s) where
   abbrev pub by_partition : ℕ → ℕ → Ordering
@@ -36,11 +36,11 @@ module _ (class : ClassRule) (rows : List Row) (s : List ℕ) (grouped : IsGroup
   abbrev pub end : ℕ → ℕ
   end p = ends_at by_partition s p
 
-  -- the members of a position's partition are a stretch
-  pub members_stretch : (p : ℕ) → members class rows s p ≡ take (end p - start p) (drop (start p) s)
-  members_stretch p =
+  -- the members of a position's partition are a range
+  pub members_range : (p : ℕ) → members class rows s p ≡ take (end p - start p) (drop (start p) s)
+  members_range p =
       let tests : (λ q. same_partition class (row_at rows p) (row_at rows q)) ≡ (λ q. is_eq (by_partition p q)) = λ i q. sym (tie_is_partition class.partition (row_at rows p) (row_at rows q)) i in
-      ap (λ (t : ℕ → Bool). filter t s) tests ∙ tied_stretch by_partition (rows_total (partition_columns class.partition) rows) p s (rising by_partition (rows_total (partition_columns class.partition) rows) s grouped.sorted)
+      ap (λ (t : ℕ → Bool). filter t s) tests ∙ tied_range by_partition (rows_total (partition_columns class.partition) rows) p s (rising by_partition (rows_total (partition_columns class.partition) rows) s grouped.sorted)
 
   pub start_low : (i : ℕ) → i < length s → start (get_or s i 0) ≤ i
   start_low i within = start_within by_partition (rows_total (partition_columns class.partition) rows) s grouped.sorted i within
@@ -48,19 +48,19 @@ module _ (class : ClassRule) (rows : List Row) (s : List ℕ) (grouped : IsGroup
   pub end_high : (i : ℕ) → i < length s → i < end (get_or s i 0)
   end_high i within = end_over by_partition (rows_total (partition_columns class.partition) rows) s grouped.sorted i within
 
-  -- what stands at a place of a stretch
-  stretch_at : (a n j : ℕ) → j < n → get_or (take n (drop a s)) j 0 ≡ get_or s (a + j) 0
-  stretch_at a n j l = get_or-take n (drop a s) j 0 l ∙ get_or-drop a s j 0
+  -- what stands at a place of a range
+  range_at : (a n j : ℕ) → j < n → get_or (take n (drop a s)) j 0 ≡ get_or s (a + j) 0
+  range_at a n j l = get_or-take n (drop a s) j 0 l ∙ get_or-drop a s j 0
 
   -- the number of members up to a place
   pub long_enough : (p i : ℕ) → i < length s → i < end p → start p ≤ i → i - start p < length (members class rows s p)
   long_enough p i within high low =
-      subst (λ (l : List ℕ). i - start p < length l) (sym (members_stretch p)) (omega (arith, length-drop (start p) s, length-take (end p - start p) (drop (start p) s)))
+      subst (λ (l : List ℕ). i - start p < length l) (sym (members_range p)) (omega (arith, length-drop (start p) s, length-take (end p - start p) (drop (start p) s)))
 
   pub member_here : (p i : ℕ) → i < length s → i < end p → start p ≤ i → get_or (members class rows s p) (i - start p) 0 ≡ get_or s i 0
   member_here p i within high low =
       let at : start p + (i - start p) ≡ i = omega arith in
-      ap (λ (l : List ℕ). get_or l (i - start p) 0) (members_stretch p) ∙ stretch_at (start p) (end p - start p) (i - start p) (omega arith) ∙ ap (λ k. get_or s k 0) at
+      ap (λ (l : List ℕ). get_or l (i - start p) 0) (members_range p) ∙ range_at (start p) (end p - start p) (i - start p) (omega arith) ∙ ap (λ k. get_or s k 0) at
 
   row_here : (p i : ℕ) → i < length s → i < end p → start p ≤ i → row_at (partition_of class rows s p) (i - start p) ≡ row_at rows (get_or s i 0)
   row_here p i within high low =

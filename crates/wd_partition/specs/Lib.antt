@@ -6,4 +6,4 @@ pub mod Places
 pub mod Members
 pub mod Shown
 pub mod Steps
-pub mod Courses
+pub mod Indexed

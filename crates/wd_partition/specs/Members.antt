@@ -56,15 +56,15 @@ pub record ArePartitions (class : ClassRule) (numbers : Bool) (rows : List Row) 
   pub each : members ≡ members_of class numbers rows ordering
 
 -- a range of a list
-abbrev pub stretch : {X : Type 0} → Place → List X → List X
-stretch {X} place xs = take (place.end - place.start) (drop place.start xs)
+abbrev pub range : {X : Type 0} → Place → List X → List X
+range {X} place xs = take (place.end - place.start) (drop place.start xs)
 
 -- the member record of a row, by its place among the positions sorted by partition
 abbrev pub member_at : List ℕ → List ℕ → List Value → Place → MemberRule
 member_at grouped groups numbers place = record {
-  positions = stretch place grouped;
-  groups = stretch place groups;
-  numbers = stretch place numbers;
+  positions = range place grouped;
+  groups = range place groups;
+  numbers = range place numbers;
   place = place.index - place.start;
 }
 

@@ -1,27 +1,27 @@
 //! The peer group number and the key of each of the positions sorted by partition.
 
 ghost use Rattle.std.specs.Prelude.{◌≡◌, ◌+◌, ◌<◌, ◌≤◌, ◌^◌, IfOk, length, map};
-ghost use Rattle.wd_partition.specs.Courses.{IsCourse, class_of};
+ghost use Rattle.wd_partition.specs.Indexed.{AreIndexedRows, class_of};
 ghost use Rattle.wd_partition.specs.Members as members;
 ghost use Rattle.wd_partition.specs.Steps as spec;
 ghost use Rattle.wd_value.specs.Rows.{row_at, rows_at, column_of};
 
-use crate::course::Course;
+use crate::indexed::IndexedRows;
 use crate::steps::Step;
 use std::alloc::Global;
 use wd_columns::RowSource;
 use wd_value::{OutOfMemory, SortColumn, Value};
 
 /// The peer group number of the row at each of the positions, in its own partition.
-pub fn group_numbers(alloc: Global, course: &Course) -> Result<Vec<u32>, OutOfMemory>
-    requires short { length course.now.positions.now < 2 ^ 32 }
-    requires course { IsCourse course.now }
-    ensures { IfOk result (λ v. v.items ≡ map (members.own_group (class_of course.now) course.now.rows.now course.now.positions.now) course.now.positions.now) }
+pub fn group_numbers(alloc: Global, indexed: &IndexedRows) -> Result<Vec<u32>, OutOfMemory>
+    requires short { length indexed.now.positions.now < 2 ^ 32 }
+    requires indexed { AreIndexedRows indexed.now }
+    ensures { IfOk result (λ v. v.items ≡ map (members.own_group (class_of indexed.now) indexed.now.rows.now indexed.now.positions.now) indexed.now.positions.now) }
 {
-    let mut groups = Vec::with_capacity(alloc, course.positions.len())?;
+    let mut groups = Vec::with_capacity(alloc, indexed.positions.len())?;
     let mut group = 0;
-    for i in 0..course.positions.len() {
-        group = group_after(course.steps[i], group);
+    for i in 0..indexed.positions.len() {
+        group = group_after(indexed.steps[i], group);
         groups.push(group)?;
     }
     Ok(groups)

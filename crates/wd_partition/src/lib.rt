@@ -7,8 +7,8 @@
 #![tactic(auto)]
 
 mod columns;
-mod course;
 mod groups;
+mod indexed;
 mod listing;
 mod member;
 mod members;

@@ -8,7 +8,7 @@ ghost use Rattle.wd_plan.specs.Sorting.{IsOrdering};
 ghost use Rattle.wd_sort.specs.Sorting.{IsStableSortOf};
 
 use crate::members::{Partitions, partitions_of};
-use crate::ordering::{grouped, sorted_arrangement};
+use crate::ordering::{index_of_ordering, sorted_index};
 use crate::turn::Turn;
 use std::alloc::Global;
 use wd_columns::RowSource;
@@ -28,7 +28,7 @@ pub fn partitions(
     requires { length rows.now < 2 ^ 32 }
     ensures { IfOk result (λ o. MatchOption o (IsOrdering (class_by partition.now keys.now) rows.now ordering.now → ⊥) (λ v. ArePartitions (class_by partition.now keys.now) numbers rows.now ordering.now v)) }
 {
-    match grouped(alloc, rows, partition, keys, ordering)? {
+    match index_of_ordering(alloc, rows, partition, keys, ordering)? {
         None => Ok(None),
         Some(grouped) => {
             let found = partitions_of(alloc, rows, partition, keys, grouped, numbers)?;
@@ -58,9 +58,9 @@ pub fn sorted_partitions(
     ensures stable { IfOk result (λ s. IsStableSortOf (columns.sort_columns (class_by partition.now keys.now)) rows.now (columns.given_positions turn (length rows.now)) s.ordering.items) }
     ensures partitions { IfOk result (λ s. ArePartitions (class_by partition.now keys.now) numbers rows.now s.ordering.items s.partitions) }
 {
-    let arrangement = sorted_arrangement(alloc, rows, partition, keys, turn)?;
-    let ordering = arrangement.positions.to_vec(alloc)?;
-    let partitions = partitions_of(alloc, rows, partition, keys, arrangement, numbers)?;
+    let index = sorted_index(alloc, rows, partition, keys, turn)?;
+    let ordering = index.positions.to_vec(alloc)?;
+    let partitions = partitions_of(alloc, rows, partition, keys, index, numbers)?;
     Ok(SortedPartitions {
         ordering,
         partitions,

@@ -2,16 +2,16 @@
 
 ghost use Rattle.std.specs.Prelude.{◌≡◌, ◌^◌, ◌<◌, ◌≤◌, List, IfOk, length, map, option_map, slice_get};
 ghost use Rattle.wd_partition.specs.Columns.{class_by, partition_columns};
-ghost use Rattle.wd_partition.specs.Members.{AreWithin, MemberRule, member_at, members_of, stretch};
+ghost use Rattle.wd_partition.specs.Members.{AreWithin, MemberRule, member_at, members_of, range};
 ghost use Rattle.wd_partition.specs.Orderings.{IsGroupedOrdering};
 ghost use Rattle.wd_partition.specs.Shown.{member_rule};
 ghost use Rattle.wd_partition.specs.Steps.{AreSteps};
 ghost use Rattle.wd_sort.specs.Sorting.{compare_rows_at};
 
-use crate::course::Course;
 use crate::groups::{group_numbers, key_numbers};
+use crate::indexed::IndexedRows;
 use crate::member::Member;
-use crate::ordering::Arrangement;
+use crate::ordering::PartitionIndex;
 use crate::places::Place;
 use crate::placing::places_of;
 use crate::runs::{partition_ends, partition_starts};
@@ -64,7 +64,7 @@ impl Partitions {
 fn numbers_at(numbers: &[Value], place: Place) -> &[Value]
     requires ends { place.start ≤ place.end }
     requires within { 0 < length numbers.now → place.end ≤ length numbers.now }
-    ensures { result.now ≡ stretch place numbers.now }
+    ensures { result.now ≡ range place numbers.now }
 {
     if numbers.is_empty() {
         return &[];
@@ -78,7 +78,7 @@ pub fn partitions_of(
     rows: &RowSource,
     partition: &[u16],
     keys: &[SortColumn],
-    grouped: Arrangement,
+    grouped: PartitionIndex,
     asked: bool,
 ) -> Result<Partitions, OutOfMemory>
     requires short { length rows.now < 2 ^ 32 }
@@ -86,18 +86,18 @@ pub fn partitions_of(
     requires steps { AreSteps (compare_rows_at (partition_columns partition.now) rows.now) (compare_rows_at keys.now rows.now) grouped.positions.items grouped.steps.items }
     ensures { IfOk result (λ v. v ≡ members_of (class_by partition.now keys.now) asked rows.now grouped.positions.items) }
 {
-    let Arrangement { positions, steps } = grouped;
-    let course = Course {
+    let PartitionIndex { positions, steps } = grouped;
+    let indexed = IndexedRows {
         rows,
         partition,
         keys,
         positions: &positions,
         steps: &steps,
     };
-    let starts = partition_starts(alloc, &course)?;
-    let ends = partition_ends(alloc, &course)?;
+    let starts = partition_starts(alloc, &indexed)?;
+    let ends = partition_ends(alloc, &indexed)?;
     let places = places_of(alloc, &positions, &starts, &ends)?;
-    let groups = group_numbers(alloc, &course)?;
+    let groups = group_numbers(alloc, &indexed)?;
     let numbers = key_numbers(alloc, rows, keys, &positions, asked)?;
     Ok(Partitions {
         sorted: positions,

@@ -22,7 +22,7 @@ const FEW: usize = 32;
 
 /// Positions sorted by partition, and the step to each of them.
 #[derive(Drop)]
-pub struct Arrangement {
+pub struct PartitionIndex {
     pub positions: Vec<u64>,
     pub steps: Vec<Step>,
 }
@@ -57,7 +57,7 @@ pub fn is_ordering(
 ) -> Result<bool, OutOfMemory>
     ensures { IfOk result (λ b. IsTrue b ↔ IsOrdering (class_by partition.now keys.now) rows.now ordering.now) }
 {
-    match grouped(alloc, rows, partition, keys, ordering)? {
+    match index_of_ordering(alloc, rows, partition, keys, ordering)? {
         Some(_) => Ok(true),
         None => Ok(false),
     }
@@ -66,13 +66,13 @@ pub fn is_ordering(
 /// The positions of an ordering, one partition after another and in each in the ordering's order, with the step to each; `None` where the
 /// list is no ordering of the class. A list with each position once is an ordering of the class exactly if its stable sort by partition
 /// is sorted by all columns.
-pub fn grouped(
+pub fn index_of_ordering(
     alloc: Global,
     rows: &RowSource,
     partition: &[u16],
     keys: &[SortColumn],
     ordering: &[u64],
-) -> Result<Option<Arrangement>, OutOfMemory>
+) -> Result<Option<PartitionIndex>, OutOfMemory>
     ensures { IfOk result (λ o. MatchOption o (IsOrdering (class_by partition.now keys.now) rows.now ordering.now → ⊥) (λ v. AreGrouped (class_by partition.now keys.now) rows.now ordering.now v.positions.items × AreSteps (compare_rows_at (columns_of_class.partition_columns partition.now) rows.now) (compare_rows_at keys.now rows.now) v.positions.items v.steps.items)) }
 {
     if !has_each_once(alloc, rows.len(), ordering)? {
@@ -82,19 +82,19 @@ pub fn grouped(
     let positions = sorted_in(alloc, rows, &by_partition, ordering)?;
     match steps_of(alloc, rows, &by_partition, keys, &positions)? {
         None => Ok(None),
-        Some(steps) => Ok(Some(Arrangement { positions, steps })),
+        Some(steps) => Ok(Some(PartitionIndex { positions, steps })),
     }
 }
 
 /// An ordering that is sorted by the partition's columns and then by the keys, with the step to each
 /// of its positions.
-pub fn arranged(
+pub fn index_of_sorted(
     alloc: Global,
     rows: &RowSource,
     partition: &[u16],
     keys: &[SortColumn],
     ordering: &[u64],
-) -> Result<Arrangement, OutOfMemory>
+) -> Result<PartitionIndex, OutOfMemory>
     requires { IsSorted (compare_rows_at (columns_of_class.sort_columns (class_by partition.now keys.now)) rows.now) ordering.now }
     ensures positions { IfOk result (λ v. v.positions.items ≡ ordering.now) }
     ensures steps { IfOk result (λ v. AreSteps (compare_rows_at (columns_of_class.partition_columns partition.now) rows.now) (compare_rows_at keys.now rows.now) ordering.now v.steps.items) }
@@ -102,41 +102,41 @@ pub fn arranged(
     let by_partition = partition_columns(alloc, partition)?;
     let steps = sorted_steps(alloc, rows, &by_partition, keys, ordering)?;
     let positions = ordering.to_vec(alloc)?;
-    Ok(Arrangement { positions, steps })
+    Ok(PartitionIndex { positions, steps })
 }
 
 /// The sorted ordering of rows under a class, with the step to each of its positions.
-pub fn sorted_arrangement(
+pub fn sorted_index(
     alloc: Global,
     rows: &RowSource,
     partition: &[u16],
     keys: &[SortColumn],
     turn: Turn,
-) -> Result<Arrangement, OutOfMemory>
+) -> Result<PartitionIndex, OutOfMemory>
     ensures stable { IfOk result (λ v. IsStableSortOf (columns_of_class.sort_columns (class_by partition.now keys.now)) rows.now (columns_of_class.given_positions turn (length rows.now)) v.positions.items) }
     ensures steps { IfOk result (λ v. AreSteps (compare_rows_at (columns_of_class.partition_columns partition.now) rows.now) (compare_rows_at keys.now rows.now) v.positions.items v.steps.items) }
 {
     if rows.len() >= FEW {
         let by_partition = partition_columns(alloc, partition)?;
-        let coded = coded_arrangement(alloc, rows, &by_partition, keys, turn)?;
-        if let Some(arrangement) = coded {
-            return Ok(arrangement);
+        let coded = coded_index(alloc, rows, &by_partition, keys, turn)?;
+        if let Some(index) = coded {
+            return Ok(index);
         }
     }
     let ordering = sorted_ordering(alloc, rows, partition, keys, turn)?;
-    let arrangement = arranged(alloc, rows, partition, keys, &ordering)?;
-    Ok(arrangement)
+    let index = index_of_sorted(alloc, rows, partition, keys, &ordering)?;
+    Ok(index)
 }
 
 /// The sorted ordering by numbers in place of the rows, which are found once for sorting and steps; `None` where the rows have no such
 /// numbers.
-fn coded_arrangement(
+fn coded_index(
     alloc: Global,
     rows: &RowSource,
     by_partition: &[SortColumn],
     keys: &[SortColumn],
     turn: Turn,
-) -> Result<Option<Arrangement>, OutOfMemory>
+) -> Result<Option<PartitionIndex>, OutOfMemory>
     ensures stable { IfOk result (λ o. IfSome o (λ v. IsStableSortOf (by_partition.now ++ keys.now) rows.now (columns_of_class.given_positions turn (length rows.now)) v.positions.items)) }
     ensures steps { IfOk result (λ o. IfSome o (λ v. AreSteps (compare_rows_at by_partition.now rows.now) (compare_rows_at keys.now rows.now) v.positions.items v.steps.items)) }
 {
@@ -150,7 +150,7 @@ fn coded_arrangement(
     let sorted = sorted_by_coding(alloc, &within, &all)?;
     let positions = sorted_by_coding(alloc, &partitions, &sorted)?;
     match coded_steps(alloc, &partitions.codes, &within.codes, &positions)? {
-        Some(steps) => Ok(Some(Arrangement { positions, steps })),
+        Some(steps) => Ok(Some(PartitionIndex { positions, steps })),
         None => Ok(None),
     }
 }

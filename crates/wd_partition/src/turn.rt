@@ -35,13 +35,13 @@ pub(crate) fn given_positions(
             all.reverse();
             Ok(all)
         }
-        Turn::Rotated => rotated(alloc, &all),
-        Turn::Exchanged => exchanged(alloc, &all),
+        Turn::Rotated => rotate(alloc, &all),
+        Turn::Exchanged => exchange(alloc, &all),
     }
 }
 
 /// The positions with the first one moved to the end.
-fn rotated(alloc: Global, positions: &[u64]) -> Result<Vec<u64>, OutOfMemory>
+fn rotate(alloc: Global, positions: &[u64]) -> Result<Vec<u64>, OutOfMemory>
     ensures { IfOk result (λ v. v.items ≡ spec.rotated positions.now) }
 {
     match positions {
@@ -55,7 +55,7 @@ fn rotated(alloc: Global, positions: &[u64]) -> Result<Vec<u64>, OutOfMemory>
 }
 
 /// The positions with neighbours exchanged two by two; an odd last one stays.
-fn exchanged(alloc: Global, positions: &[u64]) -> Result<Vec<u64>, OutOfMemory>
+fn exchange(alloc: Global, positions: &[u64]) -> Result<Vec<u64>, OutOfMemory>
     ensures { IfOk result (λ v. v.items ≡ spec.exchanged positions.now) }
 {
     let mut turned = Vec::with_capacity(alloc, positions.len())?;

@@ -122,7 +122,7 @@ impl Walk {
     }
 
     /// Moves the parts in a range of the list to its end, since they are checked after the others.
-    pub(crate) fn put_behind(
+    pub(crate) fn put_after(
         &mut self,
         alloc: Global,
         first: usize,

@@ -26,14 +26,14 @@ fn add_select(alloc: Global, walk: &mut Walk, select: &Select) -> Result<(), Out
     walk.pass(1);
     add_table(alloc, walk, &select.from.first)?;
     add_joins(alloc, walk, &select.from.joined)?;
-    add_behind_from(walk, select)?;
-    walk.put_behind(alloc, items, from)?;
+    add_after_from(walk, select)?;
+    walk.put_after(alloc, items, from)?;
     add_order(walk, &select.order)?;
     add_limits(walk, select.limits)
 }
 
 /// Adds the parts of WHERE, GROUP BY, HAVING and WINDOW.
-fn add_behind_from(walk: &mut Walk, select: &Select) -> Result<(), OutOfMemory> {
+fn add_after_from(walk: &mut Walk, select: &Select) -> Result<(), OutOfMemory> {
     if let Some(filter) = &select.filter {
         walk.pass(1);
         add_expression(walk, filter)?;

@@ -10,7 +10,7 @@ ghost use Rattle.wd_schema.specs.Schemas.{schema_of};
 
 use crate::asked::{Judge, OfQueries, OfSchemas};
 use std::alloc::Global;
-use wd_keys::{Change, changed};
+use wd_keys::{Change, apply_changes};
 use wd_lex::{Span, Token, lex};
 use wd_parse::parse;
 use wd_parts::{Part, bytes_of, changes, query_parts, schema_parts};
@@ -140,7 +140,7 @@ impl<J: Judge> Search<'_, J> {
         ensures refused { IfOk result (λ found. found ≡ Some true → WithChanges (J.Refused self.now.judge.now) self.now.text.now changes.now) }
         ensures passed { IfOk result (λ found. found ≡ Some false → WithChanges (J.Passed self.now.judge.now) self.now.text.now changes.now) }
     {
-        match changed(self.alloc, self.text, changes)? {
+        match apply_changes(self.alloc, self.text, changes)? {
             Some(text) => Ok(Some(self.judge.refuses(self.alloc, &text)?)),
             None => Ok(None),
         }

@@ -26,29 +26,29 @@ enum Step<'e> {
 
 /// An equal expression.
 #[tactic(auto, using(crate::proofs::Copied::all_closed_push))]
-pub(crate) fn copied(alloc: Global, expression: &Expr) -> Result<Expr, OutOfMemory>
+pub(crate) fn copy_expression(alloc: Global, expression: &Expr) -> Result<Expr, OutOfMemory>
     ensures { IfOk result (λ e. expression_of e ≡ expression_of expression.now) }
 {
     let mut waiting = Vec::new(alloc);
-    let mut step = opened(alloc, expression)?;
+    let mut step = open(alloc, expression)?;
     loop {
         match step {
             Step::Into(outer, part) => {
                 waiting.push(outer)?;
-                step = opened(alloc, part)?;
+                step = open(alloc, part)?;
             }
             Step::Made(copy) => {
                 let Some(outer) = waiting.pop() else {
                     return Ok(copy);
                 };
-                step = closed(outer, Box::new(alloc, copy)?);
+                step = close(outer, Box::new(alloc, copy)?);
             }
         }
     }
 }
 
 /// The first step into an expression: its first operand if it has operands, else its copy.
-fn opened<'e>(alloc: Global, expression: &'e Expr) -> Result<Step<'e>, OutOfMemory>
+fn open<'e>(alloc: Global, expression: &'e Expr) -> Result<Step<'e>, OutOfMemory>
     ensures tree { IfOk result (λ s. step_tree s ≡ expression_of expression.now) }
     ensures fewer { IfOk result (λ s. steps_left s < steps (expression_of expression.now)) }
 {
@@ -68,13 +68,13 @@ fn opened<'e>(alloc: Global, expression: &'e Expr) -> Result<Step<'e>, OutOfMemo
 }
 
 /// The step after an operand is copied: the next operand of the expression around it, or that expression's copy.
-fn closed<'e>(outer: Waiting<'e>, copy: Box<Expr>) -> Step<'e>
+fn close<'e>(outer: Waiting<'e>, copy: Box<Expr>) -> Step<'e>
     ensures tree { step_tree result ≡ closed_tree outer.entry (expression_of copy.value) }
     ensures fewer { steps_left result < waiting_steps outer.entry }
 {
     match outer {
-        Waiting::First(whole) => behind_first(whole, copy),
-        Waiting::Second(whole, a) => behind_second(whole, a, copy),
+        Waiting::First(whole) => after_first(whole, copy),
+        Waiting::Second(whole, a) => after_second(whole, a, copy),
         Waiting::Third(whole, a, b) => match whole {
             Expr::Case(branch, _, _, _) => Step::Made(Expr::Case(*branch, a, b, copy)),
             _ => Step::Made(Box::into_inner(copy)),
@@ -83,7 +83,7 @@ fn closed<'e>(outer: Waiting<'e>, copy: Box<Expr>) -> Step<'e>
 }
 
 /// The step after the first operand is copied.
-fn behind_first<'e>(whole: &'e Expr, a: Box<Expr>) -> Step<'e>
+fn after_first<'e>(whole: &'e Expr, a: Box<Expr>) -> Step<'e>
     ensures tree { step_tree result ≡ first_copied (expression_of whole.now) (expression_of a.value) }
     ensures fewer { steps_left result < rest_steps (expression_of whole.now) }
 {
@@ -102,7 +102,7 @@ fn behind_first<'e>(whole: &'e Expr, a: Box<Expr>) -> Step<'e>
 }
 
 /// The step after the second operand is copied.
-fn behind_second<'e>(whole: &'e Expr, a: Box<Expr>, b: Box<Expr>) -> Step<'e>
+fn after_second<'e>(whole: &'e Expr, a: Box<Expr>, b: Box<Expr>) -> Step<'e>
     ensures tree { step_tree result ≡ second_copied (expression_of whole.now) (expression_of a.value) (expression_of b.value) }
     ensures fewer { steps_left result < second_rest (expression_of whole.now) }
 {

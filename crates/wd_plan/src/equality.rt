@@ -5,7 +5,7 @@ ghost use Rattle.wd_plan.specs.Equality as spec;
 ghost use Rattle.wd_plan.specs.Expressions.{expression_of};
 ghost use Rattle.wd_plan.specs.Fits as fits;
 
-use crate::copy::copied;
+use crate::copy::copy_expression;
 use crate::expression::{Expr, ValueKind};
 use std::alloc::Global;
 use wd_value::{OutOfMemory, same};
@@ -15,7 +15,7 @@ impl Expr {
     pub fn copy(&self, alloc: Global) -> Result<Expr, OutOfMemory>
         ensures { IfOk result (λ e. expression_of e ≡ expression_of self.now) }
     {
-        copied(alloc, self)
+        copy_expression(alloc, self)
     }
 
     /// Whether two expressions are equal trees. The kind of a literal counts, and a CASE within ELSE differs from a further branch. The

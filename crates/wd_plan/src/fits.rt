@@ -20,7 +20,7 @@ use crate::function::{
     Aggregate, Argument, FrameFunction, FrameRow, Function, Ranking, ResultKind,
 };
 use crate::group::{Group, GroupCall, has_column};
-use crate::plan::{Limit, Plan, capped};
+use crate::plan::{Limit, Plan, saturate};
 use crate::window::{Bound, Call, Class, Frame, FrameMode, Window};
 use wd_schema::Schema;
 use wd_value::{ColumnType, SortColumn, Value};
@@ -69,13 +69,13 @@ impl Plan {
             Plan::Scan { columns, .. } => u32::from(*columns),
             Plan::Join { left, right, .. } => left.width().saturating_add(right.width()),
             Plan::Filter { input, .. } => input.width(),
-            Plan::Map { outputs, .. } => capped(outputs.len()),
-            Plan::Group { group, .. } => u32::from(group.columns).saturating_add(capped(
+            Plan::Map { outputs, .. } => saturate(outputs.len()),
+            Plan::Group { group, .. } => u32::from(group.columns).saturating_add(saturate(
                 group.calls.len(),
             )),
             Plan::Window { input, window } => input
                 .width()
-                .saturating_add(capped(window.calls.len())),
+                .saturating_add(saturate(window.calls.len())),
             Plan::Distinct { input } => input.width(),
             Plan::Limit { input, .. } => input.width(),
         }
@@ -369,7 +369,7 @@ fn may_join(condition: &Option<Expr>, join: &Plan, schema: &Schema) -> bool
 fn are_outputs(outputs: &[Expr], input: &Plan, schema: &Schema) -> bool
     ensures { result ≡ spec.are_outputs (spec.kinds_of (schema_of schema.now) (plan_of input.now)) (map expression_of outputs.now) }
 {
-    is_narrow(capped(outputs.len())) && are_typed(outputs, input, schema)
+    is_narrow(saturate(outputs.len())) && are_typed(outputs, input, schema)
 }
 
 fn are_typed(outputs: &[Expr], input: &Plan, schema: &Schema) -> bool
@@ -563,7 +563,7 @@ fn has_keys(keys: &[SortColumn], input: &Plan, schema: &Schema) -> bool
 fn is_window(window: &Window, input: &Plan, schema: &Schema) -> bool
     ensures { let tree = plan_of input.now in result ≡ spec.is_window (spec.kinds_of (schema_of schema.now) tree) (spec.width tree) (window_of window.now) }
 {
-    is_narrow(input.width().saturating_add(capped(window.calls.len())))
+    is_narrow(input.width().saturating_add(saturate(window.calls.len())))
         && has_classes(&window.classes, input, schema)
         && are_calls(&window.calls, &window.classes, input, schema)
 }
@@ -571,7 +571,7 @@ fn is_window(window: &Window, input: &Plan, schema: &Schema) -> bool
 fn is_group(group: &Group, input: &Plan, schema: &Schema) -> bool
     ensures { let tree = plan_of input.now in result ≡ spec.is_group (spec.kinds_of (schema_of schema.now) tree) (spec.width tree) (grouping_of group.now) }
 {
-    is_narrow(u32::from(group.columns).saturating_add(capped(group.calls.len())))
+    is_narrow(u32::from(group.columns).saturating_add(saturate(group.calls.len())))
         && u32::from(group.columns) <= input.width()
         && are_sets(&group.sets, group.columns)
         && are_group_calls(&group.calls, group.columns, input, schema)

@@ -88,7 +88,7 @@ impl Plan {
             Plan::Group { input, .. } => input.orderings(),
             Plan::Window { input, window } => input
                 .orderings()
-                .saturating_add(capped(window.classes.len())),
+                .saturating_add(saturate(window.classes.len())),
             Plan::Distinct { input } => input.orderings(),
             Plan::Limit { input, .. } => input.orderings().saturating_add(1),
         }
@@ -115,7 +115,7 @@ impl Plan {
 }
 
 /// The number of classes as 32 bits; `u32::MAX` where there are more.
-pub(crate) fn capped(count: usize) -> u32
+pub(crate) fn saturate(count: usize) -> u32
     ensures { result ≡ min count (2 ^ 32 - 1) }
 {
     u32::try_from(count).unwrap_or(u32::MAX)

@@ -21,12 +21,12 @@ pub(crate) fn sorted_numbers(
     ensures none { IfOk result (λ o. IfNone o (HaveNumbers places.now rows.now → ⊥)) }
 {
     match numbers_of(alloc, places, rows)? {
-        Some(numbers) => Ok(Some(sorted(numbers))),
+        Some(numbers) => Ok(Some(sort(numbers))),
         None => Ok(None),
     }
 }
 
-fn sorted(numbers: Vec<u128>) -> Vec<u128>
+fn sort(numbers: Vec<u128>) -> Vec<u128>
     ensures each_once { IsPermutation numbers.items result.items }
     ensures ordered { IsSorted nat_cmp result.items }
 {

@@ -32,8 +32,8 @@ pub fn report(alloc: Global, verdict: &Verdict) -> Result<Output, OutOfMemory>
 {
     let status = verdict_status(verdict);
     let text = match verdict {
-        Verdict::Deterministic(certificate) => certified(alloc, certificate)?,
-        Verdict::Depends(witness) => refuted(alloc, witness)?,
+        Verdict::Deterministic(certificate) => certified_text(alloc, certificate)?,
+        Verdict::Depends(witness) => refuted_text(alloc, witness)?,
         Verdict::Unknown(reasons) => unknown(alloc, reasons)?,
     };
     Ok(Output { text, status })
@@ -47,9 +47,9 @@ pub fn report_list(alloc: Global, verdict: &ListVerdict) -> Result<Output, OutOf
 {
     let status = list_status(verdict);
     let text = match verdict {
-        ListVerdict::Listed(certificate) => listed(alloc, certificate)?,
-        ListVerdict::Unlisted(reason) => unlisted(alloc, *reason)?,
-        ListVerdict::Depends(witness) => refuted(alloc, witness)?,
+        ListVerdict::Listed(certificate) => listed_text(alloc, certificate)?,
+        ListVerdict::Unlisted(reason) => unlisted_text(alloc, *reason)?,
+        ListVerdict::Depends(witness) => refuted_text(alloc, witness)?,
         ListVerdict::Unknown(reasons) => unknown(alloc, reasons)?,
     };
     Ok(Output { text, status })
@@ -89,7 +89,7 @@ pub(crate) fn verdict_word(verdict: &Verdict) -> &'static str
 }
 
 /// What is printed of a verdict with this certificate.
-fn certified(alloc: Global, certificate: &Certificate) -> Result<Vec<u8>, OutOfMemory>
+fn certified_text(alloc: Global, certificate: &Certificate) -> Result<Vec<u8>, OutOfMemory>
     ensures { IfOk result (λ t. t.items ≡ line (codes "DETERMINISTIC") ++ line (certificate_text (certificate_of certificate.now))) }
 {
     let certificate = certificate.to_json(alloc)?;
@@ -97,7 +97,7 @@ fn certified(alloc: Global, certificate: &Certificate) -> Result<Vec<u8>, OutOfM
 }
 
 /// What is printed of a list's verdict with this certificate.
-fn listed(alloc: Global, certificate: &Certificate) -> Result<Vec<u8>, OutOfMemory>
+fn listed_text(alloc: Global, certificate: &Certificate) -> Result<Vec<u8>, OutOfMemory>
     ensures { IfOk result (λ t. t.items ≡ line (codes "LISTED") ++ line (certificate_text (certificate_of certificate.now))) }
 {
     let certificate = certificate.to_json(alloc)?;
@@ -105,7 +105,7 @@ fn listed(alloc: Global, certificate: &Certificate) -> Result<Vec<u8>, OutOfMemo
 }
 
 /// What is printed where the order of the answer's rows is open.
-fn unlisted(alloc: Global, reason: ListReason) -> Result<Vec<u8>, OutOfMemory>
+fn unlisted_text(alloc: Global, reason: ListReason) -> Result<Vec<u8>, OutOfMemory>
     ensures { IfOk result (λ t. t.items ≡ line (codes "LIST OPEN") ++ line (order_words reason)) }
 {
     let mut text = String::from_str(alloc, "LIST OPEN\n")?;
@@ -128,7 +128,7 @@ fn add_order(text: &mut String, reason: ListReason) -> Result<(), OutOfMemory>
 }
 
 /// What is printed of a verdict with this witness.
-fn refuted(alloc: Global, witness: &Witness) -> Result<Vec<u8>, OutOfMemory>
+fn refuted_text(alloc: Global, witness: &Witness) -> Result<Vec<u8>, OutOfMemory>
     ensures { IfOk result (λ t. t.items ≡ line (codes "DEPENDS") ++ line (witness_text (witness_of witness.now))) }
 {
     let witness = witness.to_json(alloc)?;

@@ -24,11 +24,11 @@ use Rattle.wd_resolve_scope.proofs.TypedPlain.{condition_is}
 use Rattle.wd_resolve_list.specs.declared.output.OutputColumn.{OutputColumn}
 use Rattle.wd_resolve_select.specs.Steps.{Lowered}
 use Rattle.wd_resolve.specs.Selected.{FromSoFar, JoinedTables, admitted, called, derived_column, derived_table, first_admitted, is_too_large, joined, next_admitted, scan, scan_at, scope_so_far, table_column, table_number, together}
-use Rattle.wd_resolve.specs.Lowering.{behind_comma, behind_from, crossed, join_meant, joined_on, joined_to, joins_meant, lowered, lowering, table_meant}
+use Rattle.wd_resolve.specs.Lowering.{after_comma, after_from, crossed, join_meant, joined_on, joined_to, joins_meant, lowered, lowering, table_meant}
 use Rattle.wd_resolve.specs.Answers.{Answer, is_ordered, name_in}
 use Rattle.wd_resolve.specs.Laws.{PlansFit}
 use Rattle.wd_resolve_select.proofs.PlanKinds.{HasKinds, join_is, output_kinds, over_plan, scope_kinds}
-use Rattle.wd_resolve.proofs.ShownFits.{IsLowered, behind_from_is}
+use Rattle.wd_resolve.proofs.ShownFits.{IsLowered, after_from_is}
 
 -- a plan that fits, and gives the columns in scope
 abbrev pub IsPart : List TableRule → JoinedTables → Type 0
@@ -152,7 +152,7 @@ joined_is tables from on part h is few may = record {
 beside_few : (scope other : ScopeRule) → length (beside scope other).columns ≤ 1024 → length other.columns ≤ 1024
 beside_few scope other few = let both = length-append scope.columns other.columns in omega arith
 
-comma_is : (tables : List TableRule) (from : FromSoFar) (part : JoinedTables) (next : FromSoFar) → IsFrom tables from → MayBePart tables part → behind_comma from part ≡ Ok next → IsFrom tables next
+comma_is : (tables : List TableRule) (from : FromSoFar) (part : JoinedTables) (next : FromSoFar) → IsFrom tables from → MayBePart tables part → after_comma from part ≡ Ok next → IsFrom tables next
 comma_is tables from part next h is e =
     let p = bound (next_admitted from part) (λ (q : JoinedTables). Ok (record { before = Some (together from.before from.current); current = q })) next e in
     let a = admitted_is (scope_so_far from) part p.0 p.1 in
@@ -185,11 +185,11 @@ inner_is tables from on part next h is e =
 mutual
   pub lowered_is : (tables : List TableRule) (s : SelectTree) (l : Lowered) → lowered tables s ≡ Ok l → IsLowered tables l
   lowered_is tables (select parts first joins) l e =
-      let part = bound (table_meant tables first) (λ p. first_admitted p >>= λ start. joins_meant tables joins start >>= λ from. behind_from (together from.before from.current) parts) l e in
-      let start = bound (first_admitted part.0) (λ s. joins_meant tables joins s >>= λ from. behind_from (together from.before from.current) parts) l part.2 in
-      let from = bound (joins_meant tables joins start.0) (λ f. behind_from (together f.before f.current) parts) l start.2 in
+      let part = bound (table_meant tables first) (λ p. first_admitted p >>= λ start. joins_meant tables joins start >>= λ from. after_from (together from.before from.current) parts) l e in
+      let start = bound (first_admitted part.0) (λ s. joins_meant tables joins s >>= λ from. after_from (together from.before from.current) parts) l part.2 in
+      let from = bound (joins_meant tables joins start.0) (λ f. after_from (together f.before f.current) parts) l start.2 in
       let begun = first_is tables part.0 start.0 (table_is tables first part.0 part.1) start.1 in
-      behind_from_is tables (together from.0.before from.0.current) parts l (from_is tables from.0 (joins_are tables joins start.0 from.0 begun from.1)) from.2
+      after_from_is tables (together from.0.before from.0.current) parts l (from_is tables from.0 (joins_are tables joins start.0 from.0 begun from.1)) from.2
 
   table_is : (tables : List TableRule) (t : TableTree) (part : JoinedTables) → table_meant tables t ≡ Ok part → MayBePart tables part
   table_is tables (named name alias) part e few = scan_at_is tables (called name alias) (table_number tables name.text) part few e
@@ -205,7 +205,7 @@ mutual
 
   join_one : (tables : List TableRule) (join : JoinTree) (from next : FromSoFar) → IsFrom tables from → join_meant tables join from ≡ Ok next → IsFrom tables next
   join_one tables (comma table) from next h e =
-      let part = bound (table_meant tables table) (λ p. behind_comma from p) next e in
+      let part = bound (table_meant tables table) (λ p. after_comma from p) next e in
       comma_is tables from part.0 next h (table_is tables table part.0 part.1) part.2
   join_one tables (cross table) from next h e =
       let part = bound (table_meant tables table) (λ p. crossed from p) next e in

@@ -13,25 +13,25 @@ use Rattle.wd_syntax.specs.Tree as tree
 use Rattle.wd_syntax.specs.Tree.{Tree, Keys, no_keys, more_keys}
 use Rattle.wd_resolve_operand.specs.declared.cause.Cause.TheVariants.{Ambiguous, WrongSortKey, ForeignSortKey, TooMany}
 use Rattle.wd_resolve_operand.specs.Causes.{Meant}
-use Rattle.wd_resolve_operand.specs.Formulas.{Formula}
+use Rattle.wd_resolve_operand.specs.BoundExpressions.{BoundExpression}
 use Rattle.wd_resolve_operand.specs.Operands.{Operand, settled}
 use Rattle.wd_resolve_operand.specs.Operands as operands
-use Rattle.wd_resolve_call.specs.Leaves.{SelectLeaf}
+use Rattle.wd_resolve_call.specs.References.{SelectReference}
 use Rattle.wd_resolve_scope.specs.Resolving.{plain, written_number}
 use Rattle.wd_resolve_call.specs.Windows.{sort_key}
-use Rattle.wd_resolve_scope.specs.Typed.{IsFormula, Readable, readable}
+use Rattle.wd_resolve_scope.specs.Typed.{IsBoundExpression, Readable, readable}
 use Rattle.wd_resolve_scope.proofs.Typing.{both, some_is}
 use Rattle.wd_resolve_call.proofs.Meanings.{bound, ok_is}
 use Rattle.wd_resolve_scope.proofs.TypedOperands.{settled_is}
 use Rattle.wd_resolve_scope.proofs.Lists.{all_on, all_push}
 use Rattle.wd_resolve_scope.specs.declared.context.Place.TheVariants as place
 use Rattle.wd_resolve_scope.proofs.TypedPlain.{plain_is}
-use Rattle.wd_resolve_list.specs.Listing.{are_wide}
+use Rattle.wd_resolve_list.specs.SelectLists.{are_wide}
 use Rattle.wd_resolve_list.specs.Outputs.{expressions_of}
 use Rattle.wd_resolve_select.specs.Sorting.{IsNarrow, KeyPlace, Shown, Sorted, are_one, expression_place, first_named, hidden, is_named, key_place, key_sorted, keys_sorted, literal_place, named_place, narrow_keys, or_expression, ordinal, output, output_or, shows, sorted_place, signed_place, unless_number, with_column, with_item, with_key}
 use Rattle.wd_resolve.specs.Lowering.{is_sorted}
 use Rattle.wd_resolve_select.proofs.PlanKinds.{AreWithin}
-use Rattle.wd_resolve_list.proofs.TypedFormulas.{AreFormulas, formulas_append}
+use Rattle.wd_resolve_list.proofs.TypedBoundExpressions.{AreBoundExpressions, bound_expressions_append}
 
 -- ---- places
 
@@ -42,7 +42,7 @@ read s = readable s.scope s.groups
 -- an output that is there, or an expression over what may stand there
 abbrev pub IsPlace : Shown → KeyPlace → Type 0
 IsPlace s (output n) = n < length s.outputs
-IsPlace s (hidden f) = (k : ValueKind) × IsFormula (read s) f k
+IsPlace s (hidden f) = (k : ValueKind) × IsBoundExpression (read s) f k
 
 -- a position that is found is one of the list
 position_within : {A : Type 0} (t : A → Bool) (xs : List A) (n : ℕ) → position t xs ≡ Some n → n < length xs
@@ -52,7 +52,7 @@ position_within t xs n h = by (nat_lt (position_or_len t xs) (length xs)) refl h
     by true e h = subst (λ m. m < length xs) (some_is (position_or_len t xs) n h) (ltb-true (position_or_len t xs) (length xs) e)
     by false e h = cc
 
-sorted_place_is : (s : Shown) (f : Formula SelectLeaf) (k : ValueKind) → IsFormula (read s) f k → IsPlace s (sorted_place f s.outputs)
+sorted_place_is : (s : Shown) (f : BoundExpression SelectReference) (k : ValueKind) → IsBoundExpression (read s) f k → IsPlace s (sorted_place f s.outputs)
 sorted_place_is s f k is = by (position (shows f) s.outputs) refl
   where
     by : (o : Option ℕ) → position (shows f) s.outputs ≡ o → IsPlace s (output_or f o)
@@ -61,7 +61,7 @@ sorted_place_is s f k is = by (position (shows f) s.outputs) refl
 
 expression_place_is : (s : Shown) (a : Tree) (p : KeyPlace) → expression_place s a ≡ Ok p → IsPlace s p
 expression_place_is s a p h =
-    let x = bound (plain place.SortKey s.groups s.scope a) (λ (y : Operand SelectLeaf). Ok (sorted_place (settled y) s.outputs)) p h in
+    let x = bound (plain place.SortKey s.groups s.scope a) (λ (y : Operand SelectReference). Ok (sorted_place (settled y) s.outputs)) p h in
     subst (IsPlace s) (ok_is _ _ x.2) (sorted_place_is s (settled x.0) (operands.kind_of x.0) (settled_is (read s) x.0 (plain_is place.SortKey s.groups s.scope a x.0 x.1)))
 
 first_named_is : (s : Shown) (name : List ℕ) (n : ℕ) → first_named name s.outputs ≡ Ok (Some n) → n < length s.outputs
@@ -122,7 +122,7 @@ key_place_is s (tree.Negated a) p h = expression_place_is s (tree.Negated a) p h
 pub record IsSorted (s : Shown) (so_far : Sorted) : Type 0 where
   pub items_are : AreWithin (length s.outputs + length so_far.hidden) so_far.items
   pub kinds : List ValueKind
-  pub hidden_are : AreFormulas (read s) so_far.hidden kinds
+  pub hidden_are : AreBoundExpressions (read s) so_far.hidden kinds
   pub narrow : IsNarrow s so_far
 
 abbrev pub HasSome : List SortColumn → Type 0
@@ -146,7 +146,7 @@ item_is s n key so_far is h =
     }
 
 -- a key by a new hidden column
-column_is : (s : Shown) (f : Formula SelectLeaf) (k : ValueKind) (key : SortKey) (so_far : Sorted) → IsFormula (read s) f k → IsSorted s so_far → IsNarrow s (with_column s f key so_far) → IsSorted s (with_column s f key so_far)
+column_is : (s : Shown) (f : BoundExpression SelectReference) (k : ValueKind) (key : SortKey) (so_far : Sorted) → IsBoundExpression (read s) f k → IsSorted s so_far → IsNarrow s (with_column s f key so_far) → IsSorted s (with_column s f key so_far)
 column_is s f k key so_far is h narrow =
     let long = length_push so_far.hidden f in
     let old : AreWithin (length s.outputs + length (so_far.hidden ++ f ∷ [])) so_far.items = within_more (length s.outputs + length so_far.hidden) (length s.outputs + length (so_far.hidden ++ f ∷ [])) so_far.items (omega arith) h.items_are in
@@ -154,11 +154,11 @@ column_is s f k key so_far is h narrow =
     record {
       items_are = all_push (λ (item : SortColumn). item.column < length s.outputs + length (so_far.hidden ++ f ∷ [])) so_far.items (record { column = length s.outputs + length so_far.hidden; key = key }) old new;
       kinds = h.kinds ++ k ∷ [];
-      hidden_are = formulas_append (read s) so_far.hidden (f ∷ []) h.kinds (k ∷ []) h.hidden_are (is, tt);
+      hidden_are = bound_expressions_append (read s) so_far.hidden (f ∷ []) h.kinds (k ∷ []) h.hidden_are (is, tt);
       narrow = narrow;
     }
 
-hidden_is : (s : Shown) (f : Formula SelectLeaf) (k : ValueKind) (key : SortKey) (so_far r : Sorted) → IsFormula (read s) f k → IsSorted s so_far → cond s.distinct (Err ForeignSortKey) (narrow_keys s (with_column s f key so_far)) ≡ Ok r → IsSorted s r × HasSome r.items
+hidden_is : (s : Shown) (f : BoundExpression SelectReference) (k : ValueKind) (key : SortKey) (so_far r : Sorted) → IsBoundExpression (read s) f k → IsSorted s so_far → cond s.distinct (Err ForeignSortKey) (narrow_keys s (with_column s f key so_far)) ≡ Ok r → IsSorted s r × HasSome r.items
 hidden_is s f k key so_far r is h g = by s.distinct g
   where
     wide : (b : Bool) → are_wide s.below (expressions_of s.outputs) (with_column s f key so_far).hidden ≡ b → cond b (Err TooMany) (Ok (with_column s f key so_far)) ≡ Ok r → IsSorted s r × HasSome r.items

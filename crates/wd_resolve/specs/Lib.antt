@@ -1,6 +1,6 @@
 pub mod Widths
 pub mod Selected
-pub mod Listings
+pub mod ReadLists
 pub mod Lowering
 pub mod Answers
 pub mod Laws

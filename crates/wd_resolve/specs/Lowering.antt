@@ -13,12 +13,12 @@ use Rattle.wd_resolve_operand.specs.Causes.{Meant, ◌>>=◌}
 use Rattle.wd_resolve_scope.specs.Resolving.{condition, all_defined}
 use Rattle.wd_resolve_scope.specs.declared.context.Place.TheVariants as place
 use Rattle.wd_resolve_scope.specs.Scopes.{ScopeRule}
-use Rattle.wd_resolve_call.specs.Windows.{KnownMeaning}
+use Rattle.wd_resolve_call.specs.Windows.{NamedBoundWindow}
 use Rattle.wd_resolve.specs.Selected.{JoinedTables, FromSoFar, called, named_table, derived_table, joined, together, first_admitted, next_admitted}
 use Rattle.wd_resolve_list.specs.Grouping.{below_meant, grouped_meant, grouped_rule}
-use Rattle.wd_resolve_list.specs.Listing.{Below}
-use Rattle.wd_resolve_list.specs.Outputs.{OutputMeaning, list_meant}
-use Rattle.wd_resolve_select.specs.Sorting.{Shown, unsorted, keys_sorted, cut_meant}
+use Rattle.wd_resolve_list.specs.SelectLists.{Below}
+use Rattle.wd_resolve_list.specs.Outputs.{BoundOutput, list_meant}
+use Rattle.wd_resolve_select.specs.Sorting.{Shown, unsorted, keys_sorted, row_limit_meant}
 use Rattle.wd_resolve_select.specs.Steps.{Lowered, filtered, lowered_shown}
 
 -- ---- whole selects
@@ -32,25 +32,25 @@ abbrev pub is_sorted : Keys → Bool
 is_sorted tree.no_keys = false
 is_sorted (tree.more_keys a direction nulls keys) = true
 
-abbrev pub shown_by : ScopeRule → Below → Bool → List OutputMeaning → Shown
+abbrev pub shown_by : ScopeRule → Below → Bool → List BoundOutput → Shown
 shown_by scope below distinct outputs = record { scope = scope; groups = option_map grouped_rule below.grouped; below = below; distinct = distinct; outputs = outputs }
 
 -- what a select shows, in its order and within its limits
 abbrev pub shown_sorted : Shown → Keys → Option Limits → PlanTree → Meant Lowered
 shown_sorted s order limits plan = do
   sorted ← keys_sorted s order unsorted
-  cut ← cut_meant (is_sorted order) limits
-  Ok (lowered_shown s sorted cut plan)
+  row_limit ← row_limit_meant (is_sorted order) limits
+  Ok (lowered_shown s sorted row_limit plan)
 
 -- a select after its FROM and its WINDOW: the select list, ORDER BY and the limits, from left to right
-abbrev pub selected : ScopeRule → Below → PlanTree → List KnownMeaning → Parts → Meant Lowered
+abbrev pub selected : ScopeRule → Below → PlanTree → List NamedBoundWindow → Parts → Meant Lowered
 selected scope below plan windows parts = do
   outputs ← list_meant below (record { scope = scope; groups = option_map grouped_rule below.grouped; windows = windows; place = place.SelectList }) parts.items
   shown_sorted (shown_by scope below (is_distinct parts.quantifier) outputs) parts.tail.order parts.tail.limits plan
 
 -- a select after its FROM: WHERE, GROUP BY, HAVING, WINDOW, and the rest
-abbrev pub behind_from : JoinedTables → Parts → Meant Lowered
-behind_from from parts = do
+abbrev pub after_from : JoinedTables → Parts → Meant Lowered
+after_from from parts = do
   plan ← filtered from.scope parts.tail.filter from.plan
   grouped ← grouped_meant from.scope parts
   below ← below_meant from.scope grouped parts.tail.grouping.having
@@ -58,8 +58,8 @@ behind_from from parts = do
   selected from.scope below plan known parts
 
 -- a table after a comma begins a new sequence of joins
-abbrev pub behind_comma : FromSoFar → JoinedTables → Meant FromSoFar
-behind_comma from part = do
+abbrev pub after_comma : FromSoFar → JoinedTables → Meant FromSoFar
+after_comma from part = do
   p ← next_admitted from part
   Ok (record { before = Some (together from.before from.current); current = p })
 
@@ -86,7 +86,7 @@ abbrev mutual
     part ← table_meant tables first
     start ← first_admitted part
     from ← joins_meant tables joins start
-    behind_from (together from.before from.current) parts
+    after_from (together from.before from.current) parts
 
   -- a table of FROM: a Scan, or its own plan
   pub table_meant : List TableRule → TableTree → Meant JoinedTables
@@ -102,7 +102,7 @@ abbrev mutual
     joins_meant tables joins next
 
   pub join_meant : List TableRule → JoinTree → FromSoFar → Meant FromSoFar
-  join_meant tables (comma table) from = table_meant tables table >>= λ part. behind_comma from part
+  join_meant tables (comma table) from = table_meant tables table >>= λ part. after_comma from part
   join_meant tables (cross table) from = table_meant tables table >>= λ part. crossed from part
   join_meant tables (inner with_inner table on) from = table_meant tables table >>= λ part. joined_on from on part
 

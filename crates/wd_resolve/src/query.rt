@@ -9,7 +9,7 @@ ghost use Rattle.wd_syntax.specs.View.{view_query};
 ghost use Rattle.wd_resolve.specs.Answers.{resolved_of, answer, name_in};
 
 use crate::part::LoweredSelect;
-use crate::select::{is_sorted, lowered};
+use crate::select::{is_sorted, lower};
 use std::alloc::Global;
 use wd_plan::Plan;
 use wd_resolve_operand::ResolveError;
@@ -32,7 +32,7 @@ pub fn resolve(alloc: Global, schema: &Schema, query: &Query) -> Result<Resolved
     ensures fitting { IfOk result (λ r. fits (schema_of schema.now) (plan_of r.plan) ≡ true) }
     ensures meant { Gives resolved_of result (answer (schema_of schema.now) (view_query query.now)) }
 {
-    let select = lowered(alloc, schema, &query.select)?;
+    let select = lower(alloc, schema, &query.select)?;
     let LoweredSelect { plan, columns } = select;
     let names = names_of(alloc, columns)?;
     let ordered = is_sorted(&query.select.order);

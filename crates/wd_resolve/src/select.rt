@@ -6,35 +6,36 @@ ghost use Rattle.wd_schema.specs.Schemas.{schema_of};
 ghost use Rattle.wd_syntax.specs.Tree.{joins_of, keys_of};
 ghost use Rattle.wd_syntax.specs.View.{view_item, view_joined, view_key, view_parts, view_select, view_table};
 ghost use Rattle.wd_resolve_operand.specs.Causes.{Gives};
-ghost use Rattle.wd_resolve_call.specs.Leaves.{formula_of};
+ghost use Rattle.wd_resolve_call.specs.References.{bound_expression_of};
 ghost use Rattle.wd_resolve_scope.specs.declared.context.Place.TheVariants as places;
 ghost use Rattle.wd_resolve_list.specs.Grouping.{below_of, grouped_rule};
 ghost use Rattle.wd_resolve_scope.specs.Scopes.{scope_of};
 ghost use Rattle.wd_resolve_call.specs.Windows.{known_of};
-ghost use Rattle.wd_resolve_select.specs.Cuts.{cut_of};
-ghost use Rattle.wd_resolve_list.specs.Listing.{needs_of, needs_shown};
-ghost use Rattle.wd_resolve_list.specs.Listing as listing;
+ghost use Rattle.wd_resolve_select.specs.RowLimits.{row_limit_of};
+ghost use Rattle.wd_resolve_list.specs.SelectLists.{projected_of, projected_shown};
+ghost use Rattle.wd_resolve_list.specs.SelectLists as listing;
 ghost use Rattle.wd_resolve_list.specs.Outputs.{output_of, expressions_of};
 ghost use Rattle.wd_resolve_list.specs.Outputs as outputs_spec;
-ghost use Rattle.wd_resolve.specs.Listings as listings;
+ghost use Rattle.wd_resolve.specs.ReadLists as listings;
 ghost use Rattle.wd_resolve.specs.Selected.{joined_of, from_of, lowered_of};
 ghost use Rattle.wd_resolve.specs.Selected as parts_spec;
 ghost use Rattle.wd_resolve_select.specs.Sorting.{sorted_of, shown_of, IsCounted, IsNarrow};
 ghost use Rattle.wd_resolve_select.specs.Steps as steps_spec;
 ghost use Rattle.wd_resolve.specs.Lowering as spec;
 
-use crate::listed::Listed;
+use crate::listed::ReadList;
 use crate::part::{FromSoFar, JoinedTables, LoweredSelect};
 use crate::tables::{
-    behind_comma, crossed, derived_table, first_admitted, joined_on, named_table, together,
+    admit_first, admit_joined, after_comma, derived_table, joined_on, named_table, together,
 };
 use std::alloc::Global;
 use wd_plan::Plan;
-use wd_resolve_operand::{Cause, Formula, ResolveError};
-use wd_resolve_scope::{Context, KnownWindow, Place, Scope, SelectLeaf, all_defined};
+use wd_resolve_operand::{BoundExpression, Cause, ResolveError};
+use wd_resolve_scope::{Context, KnownWindow, Place, Scope, SelectReference, define_windows};
 use wd_resolve_select::{
-    Below, Cut, Needs, Output, OutputColumn, Shown, Sorted, below_meant, cut_meant, deduplicated,
-    filtered, grouped_meant, item_meant, keys_sorted, limited, mapped, without_hidden,
+    Below, Output, OutputColumn, ProjectedInputs, RowLimit, Shown, Sorted, add_distinct,
+    add_filter, add_limit, add_map, below_meant, drop_hidden, grouped_meant, item_meant,
+    resolve_limits, resolve_sort_keys,
 };
 use wd_schema::Schema;
 use wd_syntax::{Alias, Item, Joined, Limits, Name, Quantifier, Select, SortKey, Table};
@@ -42,23 +43,19 @@ use wd_value::{OutOfMemory, Text};
 
 /// The plan of a select, and its columns.
 #[cycle(select)]
-pub fn lowered(
-    alloc: Global,
-    schema: &Schema,
-    select: &Select,
-) -> Result<LoweredSelect, ResolveError>
+pub fn lower(alloc: Global, schema: &Schema, select: &Select) -> Result<LoweredSelect, ResolveError>
     ensures { Gives lowered_of result (spec.lowered (schema_of schema.now) (view_select select.now)) }
 {
-    let first = table_meant(alloc, schema, &select.from.first)?;
-    let first = first_admitted(first)?;
-    let from = joins_meant(alloc, schema, first, &select.from.joined)?;
+    let first = resolve_table(alloc, schema, &select.from.first)?;
+    let first = admit_first(first)?;
+    let from = resolve_joins(alloc, schema, first, &select.from.joined)?;
     let part = together(alloc, from)?;
-    behind_from(alloc, part, select)
+    after_from(alloc, part, select)
 }
 
 /// The tables of FROM after the first, joined from left to right.
 #[cycle(select)]
-fn joins_meant(
+fn resolve_joins(
     alloc: Global,
     schema: &Schema,
     first: FromSoFar,
@@ -68,27 +65,36 @@ fn joins_meant(
 {
     let mut from = first;
     for join in joins {
-        from = join_meant(alloc, schema, from, join)?;
+        from = resolve_join(alloc, schema, from, join)?;
     }
     Ok(from)
 }
 
 /// A table of FROM: a Scan, or its own plan.
 #[cycle(select)]
-fn table_meant(alloc: Global, schema: &Schema, table: &Table) -> Result<JoinedTables, ResolveError>
+fn resolve_table(
+    alloc: Global,
+    schema: &Schema,
+    table: &Table,
+) -> Result<JoinedTables, ResolveError>
     ensures { Gives joined_of result (spec.table_meant (schema_of schema.now) (view_table table.now)) }
 {
     match table {
-        Table::Named(name, alias) => named_table(alloc, schema, &name.text, called(name, alias)),
+        Table::Named(name, alias) => named_table(
+            alloc,
+            schema,
+            &name.text,
+            table_name(name, alias),
+        ),
         Table::Derived(select, alias) => {
-            let plan = lowered(alloc, schema, select)?;
+            let plan = lower(alloc, schema, select)?;
             Ok(derived_table(alloc, &alias.name.text, plan)?)
         }
     }
 }
 
 /// What a table of the schema is called: by its alias, or else by its own name.
-fn called<'a>(name: &'a Name, alias: &'a Option<Alias>) -> &'a Text
+fn table_name<'a>(name: &'a Name, alias: &'a Option<Alias>) -> &'a Text
     ensures { result.now ≡ parts_spec.called name.now alias.now }
 {
     match alias {
@@ -98,7 +104,7 @@ fn called<'a>(name: &'a Name, alias: &'a Option<Alias>) -> &'a Text
 }
 
 #[cycle(select)]
-fn join_meant(
+fn resolve_join(
     alloc: Global,
     schema: &Schema,
     from: FromSoFar,
@@ -108,38 +114,38 @@ fn join_meant(
 {
     match join {
         Joined::Comma(table) => {
-            let part = table_meant(alloc, schema, table)?;
-            behind_comma(alloc, from, part)
+            let part = resolve_table(alloc, schema, table)?;
+            after_comma(alloc, from, part)
         }
         Joined::Cross(table) => {
-            let part = table_meant(alloc, schema, table)?;
-            crossed(alloc, from, part)
+            let part = resolve_table(alloc, schema, table)?;
+            admit_joined(alloc, from, part)
         }
         Joined::Inner(_, table, on) => {
-            let part = table_meant(alloc, schema, table)?;
+            let part = resolve_table(alloc, schema, table)?;
             joined_on(alloc, from, part, on)
         }
     }
 }
 
 /// A select after its FROM: WHERE, GROUP BY, HAVING, WINDOW, the select list, ORDER BY and the limits.
-fn behind_from(
+fn after_from(
     alloc: Global,
     from: JoinedTables,
     select: &Select,
 ) -> Result<LoweredSelect, ResolveError>
-    ensures { Gives lowered_of result (spec.behind_from (joined_of from) (view_parts select.now)) }
+    ensures { Gives lowered_of result (spec.after_from (joined_of from) (view_parts select.now)) }
 {
     let JoinedTables { scope, plan } = from;
-    let plan = filtered(alloc, &scope, &select.filter, plan)?;
+    let plan = add_filter(alloc, &scope, &select.filter, plan)?;
     let grouped = grouped_meant(alloc, &scope, select)?;
     let below = below_meant(alloc, &scope, grouped, &select.grouping.having)?;
-    let windows = all_defined(alloc, &scope, below.groups(), &select.windows)?;
-    selected(alloc, &scope, below, plan, &windows, select)
+    let windows = define_windows(alloc, &scope, below.groups(), &select.windows)?;
+    lower_select_list(alloc, &scope, below, plan, &windows, select)
 }
 
 /// A select after its FROM, WHERE, GROUP BY, HAVING and WINDOW: the select list, ORDER BY and the limits.
-fn selected(
+fn lower_select_list(
     alloc: Global,
     scope: &Scope,
     below: Below,
@@ -149,9 +155,9 @@ fn selected(
 ) -> Result<LoweredSelect, ResolveError>
     ensures { Gives lowered_of result (spec.selected (scope_of scope.now) (below_of below) (plan_of plan) (map known_of windows.now) (view_parts select.now)) }
 {
-    let listed = list_meant(alloc, scope, windows, below, &select.items)?;
+    let listed = resolve_list(alloc, scope, windows, below, &select.items)?;
     let distinct = is_distinct(select.quantifier);
-    shown_sorted(
+    lower_sorted(
         alloc,
         scope,
         distinct,
@@ -172,57 +178,57 @@ fn is_distinct(quantifier: Option<Quantifier>) -> bool
 }
 
 /// An empty select list.
-fn nothing_listed(alloc: Global, below: Below) -> Listed
+fn empty_list(alloc: Global, below: Below) -> ReadList
     ensures below { below_of result.below ≡ below_of below }
     ensures nothing { map output_of result.outputs.items ≡ [] }
     ensures counted { listings.IsCounted result }
 {
-    Listed {
+    ReadList {
         below,
         outputs: Vec::new(alloc),
-        needs: Needs::new(alloc),
+        projected: ProjectedInputs::new(alloc),
     }
 }
 
 /// The outputs of the select list: 415 at a member that makes a node too wide.
-fn list_meant(
+fn resolve_list(
     alloc: Global,
     scope: &Scope,
     windows: &[KnownWindow],
     below: Below,
     items: &[Item],
-) -> Result<Listed, ResolveError>
+) -> Result<ReadList, ResolveError>
     ensures meant { Gives (λ l. map output_of l.outputs.items) result (outputs_spec.list_meant (below_of below) (record { scope = scope_of scope.now; groups = option_map grouped_rule (below_of below).grouped; windows = map known_of windows.now; place = places.SelectList }) (map view_item items.now)) }
     ensures below { IfOk result (λ l. below_of l.below ≡ below_of below) }
     ensures counted { IfOk result (λ l. listings.IsCounted l) }
 {
-    let mut listed = nothing_listed(alloc, below);
+    let mut listed = empty_list(alloc, below);
     for item in items {
-        listed = item_listed(alloc, scope, windows, item, listed)?;
+        listed = add_item(alloc, scope, windows, item, listed)?;
     }
     Ok(listed)
 }
 
 /// Adds a member of the select list; 415 comes after the member's other refusals.
-fn item_listed(
+fn add_item(
     alloc: Global,
     scope: &Scope,
     windows: &[KnownWindow],
     item: &Item,
-    listed: Listed,
-) -> Result<Listed, ResolveError>
+    listed: ReadList,
+) -> Result<ReadList, ResolveError>
     requires { listings.IsCounted listed }
     ensures meant { Gives (λ l. map output_of l.outputs.items) result (outputs_spec.item_listed (below_of listed.below) (record { scope = scope_of scope.now; groups = option_map grouped_rule (below_of listed.below).grouped; windows = map known_of windows.now; place = places.SelectList }) (view_item item.now) (map output_of listed.outputs.items)) }
     ensures below { IfOk result (λ l. below_of l.below ≡ below_of listed.below) }
     ensures counted { IfOk result (λ l. listings.IsCounted l) }
 {
-    let more = item_shown(alloc, scope, windows, &listed.below, item)?;
-    let (below, outputs, needs) = with_outputs(alloc, listed, more)?;
-    narrow(alloc, below, outputs, needs)
+    let more = outputs_of_item(alloc, scope, windows, &listed.below, item)?;
+    let (below, outputs, projected) = with_outputs(alloc, listed, more)?;
+    narrow(alloc, below, outputs, projected)
 }
 
 /// The outputs of a member of a select list.
-fn item_shown<'a>(
+fn outputs_of_item<'a>(
     alloc: Global,
     scope: &'a Scope,
     windows: &'a [KnownWindow],
@@ -241,26 +247,26 @@ fn item_shown<'a>(
 }
 
 /// The outputs with further ones, and what all of them need.
-#[tactic(auto, using(crate::proofs::More::needs_listed))]
+#[tactic(auto, using(crate::proofs::More::projected_listed))]
 fn with_outputs(
     alloc: Global,
-    listed: Listed,
+    listed: ReadList,
     more: Vec<Output>,
-) -> Result<(Below, Vec<Output>, Needs), OutOfMemory>
+) -> Result<(Below, Vec<Output>, ProjectedInputs), OutOfMemory>
     requires { listings.IsCounted listed }
     ensures below { IfOk result (λ p. below_of p.0 ≡ below_of listed.below) }
     ensures outputs { IfOk result (λ p. map output_of p.1.items ≡ map output_of listed.outputs.items ++ map output_of more.items) }
-    ensures counted { IfOk result (λ p. needs_shown p.2 ≡ needs_of (expressions_of (map output_of p.1.items))) }
+    ensures counted { IfOk result (λ p. projected_shown p.2 ≡ projected_of (expressions_of (map output_of p.1.items))) }
 {
-    let Listed {
+    let ReadList {
         below,
         mut outputs,
-        needs,
+        projected,
     } = listed;
     let mut more = more;
-    let needs = needs.add_all(alloc, &more)?;
+    let projected = projected.add_all(alloc, &more)?;
     outputs.append(&mut more)?;
-    Ok((below, outputs, needs))
+    Ok((below, outputs, projected))
 }
 
 /// The outputs, if no node is too wide for them; else 415.
@@ -269,20 +275,20 @@ fn narrow(
     alloc: Global,
     below: Below,
     outputs: Vec<Output>,
-    needs: Needs,
-) -> Result<Listed, ResolveError>
-    requires { needs_shown needs ≡ needs_of (expressions_of (map output_of outputs.items)) }
+    projected: ProjectedInputs,
+) -> Result<ReadList, ResolveError>
+    requires { projected_shown projected ≡ projected_of (expressions_of (map output_of outputs.items)) }
     ensures meant { Gives (λ l. map output_of l.outputs.items) result (outputs_spec.narrow (below_of below) (map output_of outputs.items)) }
     ensures below { IfOk result (λ l. below_of l.below ≡ below_of below) }
     ensures counted { IfOk result (λ l. listings.IsCounted l) }
 {
-    if are_wide(alloc, &below, &outputs, &needs)? {
+    if are_wide(alloc, &below, &outputs, &projected)? {
         Err(ResolveError::Refused(Cause::TooMany))
     } else {
-        Ok(Listed {
+        Ok(ReadList {
             below,
             outputs,
-            needs,
+            projected,
         })
     }
 }
@@ -292,12 +298,12 @@ fn are_wide(
     alloc: Global,
     below: &Below,
     outputs: &[Output],
-    needs: &Needs,
+    projected: &ProjectedInputs,
 ) -> Result<bool, OutOfMemory>
-    requires { needs_shown needs.now ≡ needs_of (expressions_of (map output_of outputs.now)) }
+    requires { projected_shown projected.now ≡ projected_of (expressions_of (map output_of outputs.now)) }
     ensures { IfOk result (λ b. b ≡ listing.are_wide (below_of below.now) (expressions_of (map output_of outputs.now)) []) }
 {
-    needs.is_wide_with_having(alloc, outputs.len(), below)
+    projected.is_wide_with_having(alloc, outputs.len(), below)
 }
 
 /// Whether there are sort keys.
@@ -311,11 +317,11 @@ pub(crate) fn is_sorted(keys: &[SortKey]) -> bool
 }
 
 /// What a select shows, in its order and within its limits.
-fn shown_sorted(
+fn lower_sorted(
     alloc: Global,
     scope: &Scope,
     distinct: bool,
-    listed: Listed,
+    listed: ReadList,
     order: &[SortKey],
     limits: Option<Limits>,
     plan: Plan,
@@ -323,12 +329,12 @@ fn shown_sorted(
     requires { listings.IsCounted listed }
     ensures { Gives lowered_of result (spec.shown_sorted (spec.shown_by (scope_of scope.now) (below_of listed.below) distinct (map output_of listed.outputs.items)) (keys_of (map view_key order.now)) limits (plan_of plan)) }
 {
-    let Listed {
+    let ReadList {
         below,
         outputs,
-        needs,
+        projected,
     } = listed;
-    let needs = needs.add_having(&below.having)?;
+    let projected = projected.add_having(&below.having)?;
     let shown = Shown {
         scope,
         groups: below.groups(),
@@ -336,70 +342,72 @@ fn shown_sorted(
         distinct,
         outputs: &outputs,
     };
-    let sorted = keys_sorted(alloc, &shown, order, needs)?;
-    let cut = cut_meant(is_sorted(order), limits)?;
-    Ok(plan_shown(alloc, scope, &below, distinct, outputs, sorted, cut, plan)?)
+    let sorted = resolve_sort_keys(alloc, &shown, order, projected)?;
+    let row_limit = resolve_limits(is_sorted(order), limits)?;
+    Ok(lower_shown(
+        alloc, scope, &below, distinct, outputs, sorted, row_limit, plan,
+    )?)
 }
 
 /// The plan of what a select shows, sorts by and cuts off.
-fn plan_shown(
+fn lower_shown(
     alloc: Global,
     scope: &Scope,
     below: &Below,
     distinct: bool,
     outputs: Vec<Output>,
     sorted: Sorted,
-    cut: Option<Cut>,
+    row_limit: Option<RowLimit>,
     plan: Plan,
 ) -> Result<LoweredSelect, OutOfMemory>
     requires few { vec_len outputs ≤ 1024 }
     requires counted { IsCounted (spec.shown_by (scope_of scope.now) (below_of below.now) distinct (map output_of outputs.items)) sorted }
     requires narrow { IsNarrow (spec.shown_by (scope_of scope.now) (below_of below.now) distinct (map output_of outputs.items)) (sorted_of sorted) }
-    ensures { IfOk result (λ l. lowered_of l ≡ steps_spec.lowered_shown (spec.shown_by (scope_of scope.now) (below_of below.now) distinct (map output_of outputs.items)) (sorted_of sorted) (option_map cut_of cut) (plan_of plan)) }
+    ensures { IfOk result (λ l. lowered_of l ≡ steps_spec.lowered_shown (spec.shown_by (scope_of scope.now) (below_of below.now) distinct (map output_of outputs.items)) (sorted_of sorted) (option_map row_limit_of row_limit) (plan_of plan)) }
 {
     let Sorted {
         items,
         hidden,
-        needs,
+        projected,
     } = sorted;
     let hidden_count = hidden.len();
-    let (columns, formulas) = parts_of(alloc, outputs)?;
-    let plan = all_mapped(alloc, needs, below, formulas, hidden, plan)?;
-    let plan = deduplicated(alloc, distinct, plan)?;
-    let plan = limited(alloc, items, cut, plan)?;
-    let plan = without_hidden(alloc, columns.len(), hidden_count, plan)?;
+    let (columns, expressions) = parts_of(alloc, outputs)?;
+    let plan = add_outputs(alloc, projected, below, expressions, hidden, plan)?;
+    let plan = add_distinct(alloc, distinct, plan)?;
+    let plan = add_limit(alloc, items, row_limit, plan)?;
+    let plan = drop_hidden(alloc, columns.len(), hidden_count, plan)?;
     Ok(LoweredSelect { plan, columns })
 }
 
 /// A Map of outputs and hidden sort keys, over what is below them.
-fn all_mapped(
+fn add_outputs(
     alloc: Global,
-    needs: Needs,
+    projected: ProjectedInputs,
     below: &Below,
-    outputs: Vec<Formula<SelectLeaf>>,
-    hidden: Vec<Formula<SelectLeaf>>,
+    outputs: Vec<BoundExpression<SelectReference>>,
+    hidden: Vec<BoundExpression<SelectReference>>,
     plan: Plan,
 ) -> Result<Plan, OutOfMemory>
-    requires counted { needs_shown needs ≡ listing.all_needs (below_of below.now) (map formula_of outputs.items) (map formula_of hidden.items) }
-    requires narrow { listing.are_wide (below_of below.now) (map formula_of outputs.items) (map formula_of hidden.items) ≡ false }
-    ensures { IfOk result (λ p. plan_of p ≡ steps_spec.mapped (below_of below.now) (map formula_of outputs.items) (map formula_of hidden.items) (plan_of plan)) }
+    requires counted { projected_shown projected ≡ listing.all_projected (below_of below.now) (map bound_expression_of outputs.items) (map bound_expression_of hidden.items) }
+    requires narrow { listing.are_wide (below_of below.now) (map bound_expression_of outputs.items) (map bound_expression_of hidden.items) ≡ false }
+    ensures { IfOk result (λ p. plan_of p ≡ steps_spec.mapped (below_of below.now) (map bound_expression_of outputs.items) (map bound_expression_of hidden.items) (plan_of plan)) }
 {
-    let (mut formulas, mut hidden) = (outputs, hidden);
-    formulas.append(&mut hidden)?;
-    mapped(alloc, needs, below, formulas, plan)
+    let (mut expressions, mut hidden) = (outputs, hidden);
+    expressions.append(&mut hidden)?;
+    add_map(alloc, projected, below, expressions, plan)
 }
 
 /// The names and kinds of outputs, and their expressions.
 fn parts_of(
     alloc: Global,
     outputs: Vec<Output>,
-) -> Result<(Vec<OutputColumn>, Vec<Formula<SelectLeaf>>), OutOfMemory>
+) -> Result<(Vec<OutputColumn>, Vec<BoundExpression<SelectReference>>), OutOfMemory>
     ensures columns { IfOk result (λ p. p.0.items ≡ map steps_spec.column_shown (map output_of outputs.items)) }
-    ensures formulas { IfOk result (λ p. map formula_of p.1.items ≡ expressions_of (map output_of outputs.items)) }
+    ensures expressions { IfOk result (λ p. map bound_expression_of p.1.items ≡ expressions_of (map output_of outputs.items)) }
     ensures as_many { IfOk result (λ p. vec_len p.0 ≡ vec_len outputs) }
 {
     let mut columns = Vec::with_capacity(alloc, outputs.len())?;
-    let mut formulas = Vec::with_capacity(alloc, outputs.len())?;
+    let mut expressions = Vec::with_capacity(alloc, outputs.len())?;
     for output in outputs {
         let Output {
             name,
@@ -407,7 +415,7 @@ fn parts_of(
             kind,
         } = output;
         columns.push(OutputColumn { name, kind })?;
-        formulas.push(expression)?;
+        expressions.push(expression)?;
     }
-    Ok((columns, formulas))
+    Ok((columns, expressions))
 }

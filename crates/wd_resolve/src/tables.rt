@@ -138,7 +138,7 @@ pub fn derived_table(
 }
 
 /// Two scopes, the columns of the left one first.
-fn beside(left: Scope, right: Scope) -> Result<Scope, OutOfMemory>
+fn concatenate(left: Scope, right: Scope) -> Result<Scope, OutOfMemory>
     requires { vec_len left.columns + vec_len right.columns ≤ 1024 }
     ensures beside { IfOk result (λ s. scope_of s ≡ scopes.beside (scope_of left) (scope_of right)) }
     ensures tables { IfOk result (λ s. vec_len s.tables ≡ vec_len left.tables + vec_len right.tables) }
@@ -155,7 +155,7 @@ fn beside(left: Scope, right: Scope) -> Result<Scope, OutOfMemory>
 }
 
 /// Two parts, the left one first, with the condition that joins them.
-fn joined(
+fn join_parts(
     alloc: Global,
     condition: Option<Expr>,
     left: JoinedTables,
@@ -166,7 +166,7 @@ fn joined(
     ensures tables { IfOk result (λ p. vec_len p.scope.tables ≡ vec_len left.scope.tables + vec_len right.scope.tables) }
     ensures columns { IfOk result (λ p. vec_len p.scope.columns ≡ vec_len left.scope.columns + vec_len right.scope.columns) }
 {
-    let scope = beside(left.scope, right.scope)?;
+    let scope = concatenate(left.scope, right.scope)?;
     Ok(JoinedTables {
         scope,
         plan: Plan::Join {
@@ -190,7 +190,7 @@ fn together_of(
 {
     match before {
         None => Ok(current),
-        Some(before) => joined(alloc, None, before, current),
+        Some(before) => join_parts(alloc, None, before, current),
     }
 }
 
@@ -257,7 +257,7 @@ fn is_too_large(tables: usize, columns: usize) -> bool
 
 /// The first table; 415 past 8 tables or 1,024 columns.
 #[tactic(auto, using(crate::proofs::Beside::none_shared))]
-pub fn first_admitted(part: JoinedTables) -> Result<FromSoFar, ResolveError>
+pub fn admit_first(part: JoinedTables) -> Result<FromSoFar, ResolveError>
     ensures { Gives from_of result (spec.first_admitted (joined_of part)) }
 {
     if is_too_large(part.scope.tables.len(), part.scope.columns.len()) {
@@ -287,12 +287,12 @@ fn admit(from: &FromSoFar, part: &JoinedTables) -> Result<(), ResolveError>
 }
 
 /// A table after a comma, which begins a new sequence of joins.
-pub fn behind_comma(
+pub fn after_comma(
     alloc: Global,
     from: FromSoFar,
     part: JoinedTables,
 ) -> Result<FromSoFar, ResolveError>
-    ensures { Gives from_of result (lowering.behind_comma (from_of from) (joined_of part)) }
+    ensures { Gives from_of result (lowering.after_comma (from_of from) (joined_of part)) }
 {
     admit(&from, &part)?;
     let before = together_of(alloc, from.before, from.current)?;
@@ -303,7 +303,7 @@ pub fn behind_comma(
 }
 
 /// A table joined to those since the last comma, with all pairs of rows.
-pub fn crossed(
+pub fn admit_joined(
     alloc: Global,
     from: FromSoFar,
     part: JoinedTables,
@@ -312,7 +312,7 @@ pub fn crossed(
 {
     admit(&from, &part)?;
     let FromSoFar { before, current } = from;
-    let current = joined(alloc, None, current, part)?;
+    let current = join_parts(alloc, None, current, part)?;
     Ok(FromSoFar { before, current })
 }
 
@@ -327,7 +327,7 @@ pub fn joined_on(
 {
     admit(&from, &part)?;
     let FromSoFar { before, current } = from;
-    let scope = beside(current.scope, part.scope)?;
+    let scope = concatenate(current.scope, part.scope)?;
     let condition = condition(alloc, &scope, Place::On, on)?;
     let plan = Plan::Join {
         left: Box::new(alloc, current.plan)?,

@@ -21,38 +21,38 @@ use Rattle.wd_plan.specs.declared.function.Ranking.TheVariants as rank
 use Rattle.wd_resolve_call.specs.declared.call.AppliedFunction.{AppliedFunction}
 use Rattle.wd_resolve_call.specs.declared.call.AppliedFunction.TheVariants as function_code
 use Rattle.wd_resolve_call.specs.declared.call.WindowCall.{WindowCall}
-use Rattle.wd_resolve_call.specs.Rows.{ArgumentMeaning, AggregateMeaning, RowFormula, aggregate_of, argument_of, kind_of_aggregate, row_formula_of, same_aggregate, same_argument, same_row_formula}
-use Rattle.wd_resolve_call.specs.Windows.{KeyMeaning, WindowMeaning, window_of}
+use Rattle.wd_resolve_call.specs.Rows.{BoundArgument, BoundAggregate, RowExpression, aggregate_of, argument_of, kind_of_aggregate, row_expression_of, same_aggregate, same_argument, same_row_expression}
+use Rattle.wd_resolve_call.specs.Windows.{BoundKey, BoundWindow, window_of}
 
 -- a function over its arguments
-pub data FunctionMeaning : Type 0 where
+pub data BoundFunction : Type 0 where
   -- a number by the row's place; NTILE with its number of buckets
-  ranking : Ranking → FunctionMeaning
+  ranking : Ranking → BoundFunction
   -- LAG and LEAD: the value of the argument the given number of rows away, or a default
-  away : Direction → ArgumentMeaning RowFormula → ℕ → Value → FunctionMeaning
+  away : Direction → BoundArgument RowExpression → ℕ → Value → BoundFunction
   -- the value of the argument at one row of the frame
-  value_at : FrameRow → ArgumentMeaning RowFormula → FunctionMeaning
-  aggregate : AggregateMeaning RowFormula → FunctionMeaning
+  value_at : FrameRow → BoundArgument RowExpression → BoundFunction
+  aggregate : BoundAggregate RowExpression → BoundFunction
 
-abbrev pub function_of : AppliedFunction → FunctionMeaning
+abbrev pub function_of : AppliedFunction → BoundFunction
 function_of (function_code.Ranking r) = ranking r
-function_of (function_code.Shift direction a n default) = away direction (argument_of row_formula_of a) n default
-function_of (function_code.ValueAt row a) = value_at row (argument_of row_formula_of a)
-function_of (function_code.Aggregate a) = aggregate (aggregate_of row_formula_of a)
+function_of (function_code.Shift direction a n default) = away direction (argument_of row_expression_of a) n default
+function_of (function_code.ValueAt row a) = value_at row (argument_of row_expression_of a)
+function_of (function_code.Aggregate a) = aggregate (aggregate_of row_expression_of a)
 
 -- the kind of a function's values
-abbrev pub kind_of_function : FunctionMeaning → ValueKind
+abbrev pub kind_of_function : BoundFunction → ValueKind
 kind_of_function (ranking r) = Number
 kind_of_function (away direction a n default) = a.kind
 kind_of_function (value_at row a) = a.kind
 kind_of_function (aggregate a) = kind_of_aggregate a
 
 -- a call: a function over a window
-pub record CallMeaning : Type 0 where
-  pub function : FunctionMeaning
-  pub window : WindowMeaning
+pub record BoundCall : Type 0 where
+  pub function : BoundFunction
+  pub window : BoundWindow
 
-abbrev pub call_of : WindowCall → CallMeaning
+abbrev pub call_of : WindowCall → BoundCall
 call_of call = record { function = function_of call.function; window = window_of call.window }
 
 -- ---- equal calls
@@ -70,15 +70,15 @@ same_row Last Last = true
 same_row (Nth m) (Nth n) = nat_eq m n
 same_row r q = false
 
-abbrev pub same_function : FunctionMeaning → FunctionMeaning → Bool
+abbrev pub same_function : BoundFunction → BoundFunction → Bool
 same_function (ranking r) (ranking q) = same_ranking r q
-same_function (away direction a m v) (away other b n w) = sameb way_type direction other && (nat_eq m n && (same v w && same_argument same_row_formula a b))
-same_function (value_at r a) (value_at q b) = same_row r q && same_argument same_row_formula a b
-same_function (aggregate a) (aggregate b) = same_aggregate same_row_formula a b
+same_function (away direction a m v) (away other b n w) = sameb way_type direction other && (nat_eq m n && (same v w && same_argument same_row_expression a b))
+same_function (value_at r a) (value_at q b) = same_row r q && same_argument same_row_expression a b
+same_function (aggregate a) (aggregate b) = same_aggregate same_row_expression a b
 same_function f g = false
 
-abbrev pub same_key : KeyMeaning → KeyMeaning → Bool
-same_key k l = (beq k.key.desc l.key.desc && beq k.key.nulls_first l.key.nulls_first) && same_row_formula k.expression l.expression
+abbrev pub same_key : BoundKey → BoundKey → Bool
+same_key k l = (beq k.key.desc l.key.desc && beq k.key.nulls_first l.key.nulls_first) && same_row_expression k.expression l.expression
 
 abbrev pub same_bound : Bound → Bound → Bool
 same_bound UnboundedPreceding UnboundedPreceding = true
@@ -92,8 +92,8 @@ abbrev pub same_frame : Frame → Frame → Bool
 same_frame f g = (sameb mode f.mode g.mode && sameb exclusion f.exclusion g.exclusion) && (same_bound f.start g.start && same_bound f.end g.end)
 
 -- equal order, partition and frame; whether the frame is written does not count
-abbrev pub same_window : WindowMeaning → WindowMeaning → Bool
-same_window v w = same_frame v.frame w.frame && (pointwise same_key v.order w.order && pointwise same_row_formula v.partition w.partition)
+abbrev pub same_window : BoundWindow → BoundWindow → Bool
+same_window v w = same_frame v.frame w.frame && (pointwise same_key v.order w.order && pointwise same_row_expression v.partition w.partition)
 
-abbrev pub same_call : CallMeaning → CallMeaning → Bool
+abbrev pub same_call : BoundCall → BoundCall → Bool
 same_call c d = same_function c.function d.function && same_window c.window d.window

@@ -1,6 +1,6 @@
 pub mod Rows
 pub mod Windows
 pub mod Calls
-pub mod Leaves
+pub mod References
 pub mod Functions
 pub mod FunctionCode

@@ -32,26 +32,26 @@ use Rattle.wd_resolve_call.specs.declared.window.Window.{Window}
 use Rattle.wd_resolve_call.specs.declared.window.KnownWindow.{KnownWindow}
 use Rattle.wd_resolve_operand.specs.Causes.{Meant, ◌>>=◌}
 use Rattle.wd_resolve_operand.specs.Operands.{number}
-use Rattle.wd_resolve_call.specs.Rows.{RowFormula, row_formula_of}
+use Rattle.wd_resolve_call.specs.Rows.{RowExpression, row_expression_of}
 
 -- an expression to sort by, the kind of its values, and how they are sorted
-pub record KeyMeaning : Type 0 where
-  pub expression : RowFormula
+pub record BoundKey : Type 0 where
+  pub expression : RowExpression
   pub kind : ValueKind
   pub key : SortKey
 
-abbrev pub key_of : OrderKey → KeyMeaning
-key_of k = record { expression = row_formula_of k.expression; kind = k.kind; key = k.key }
+abbrev pub key_of : OrderKey → BoundKey
+key_of k = record { expression = row_expression_of k.expression; kind = k.kind; key = k.key }
 
 -- a window, and whether its frame is written
-pub record WindowMeaning : Type 0 where
-  pub partition : List RowFormula
-  pub order : List KeyMeaning
+pub record BoundWindow : Type 0 where
+  pub partition : List RowExpression
+  pub order : List BoundKey
   pub frame : Frame
   pub framed : Bool
 
-abbrev pub window_of : Window → WindowMeaning
-window_of w = record { partition = map row_formula_of w.partition.value.items; order = map key_of w.order.value.items; frame = w.frame; framed = w.framed }
+abbrev pub window_of : Window → BoundWindow
+window_of w = record { partition = map row_expression_of w.partition.value.items; order = map key_of w.order.value.items; frame = w.frame; framed = w.framed }
 
 -- ---- sort keys
 
@@ -104,7 +104,7 @@ frame_meant None = Ok default_frame
 frame_meant (Some f) = ends_meant f.extent >>= λ ends. Ok (record { mode = mode_meant f.mode; start = ends.0; end = ends.1; exclusion = exclusion_meant f.exclusion })
 
 -- exactly one sort key, of whole numbers
-abbrev pub is_one_number : List KeyMeaning → Bool
+abbrev pub is_one_number : List BoundKey → Bool
 is_one_number [] = false
 is_one_number (key ∷ []) = same_kind Number key.kind
 is_one_number (key ∷ other ∷ keys) = false
@@ -114,30 +114,30 @@ is_empty [] = true
 is_empty (x ∷ xs) = false
 
 -- an offset in RANGE needs exactly one sort key, of whole numbers, and GROUPS needs sort keys
-abbrev pub framed_by_mode : FrameMode → List KeyMeaning → Frame → Meant Frame
+abbrev pub framed_by_mode : FrameMode → List BoundKey → Frame → Meant Frame
 framed_by_mode mode.Rows order frame = Ok frame
 framed_by_mode mode.Range order frame = if (has_offset frame.start || has_offset frame.end) && not (is_one_number order) then Err RangeOffset else Ok frame
 framed_by_mode mode.Groups order frame = if is_empty order then Err GroupsWithoutOrder else Ok frame
 
 -- the frame over these sort keys; its bounds have to be in order
-abbrev pub frame_over : List KeyMeaning → Frame → Meant Frame
+abbrev pub frame_over : List BoundKey → Frame → Meant Frame
 frame_over order frame = if are_bounds frame.start frame.end then framed_by_mode frame.mode order frame else Err FrameBounds
 
 -- ---- windows that copy others
 
 -- the order of a window that copies another: only one of the two may have an order
-abbrev pub order_copied : List KeyMeaning → List KeyMeaning → Meant (List KeyMeaning)
+abbrev pub order_copied : List BoundKey → List BoundKey → Meant (List BoundKey)
 order_copied base [] = Ok base
 order_copied [] (key ∷ keys) = Ok (key ∷ keys)
 order_copied (other ∷ others) (key ∷ keys) = Err WindowCopy
 
 -- a window that copies another takes its partition and order and has no PARTITION BY, and the other has no frame clause
-abbrev pub copied : Option WindowMeaning → List RowFormula → List KeyMeaning → Meant (List RowFormula × List KeyMeaning)
+abbrev pub copied : Option BoundWindow → List RowExpression → List BoundKey → Meant (List RowExpression × List BoundKey)
 copied None partition order = Ok (partition, order)
 copied (Some base) partition order = if base.framed || not (is_empty partition) then Err WindowCopy else order_copied base.order order >>= λ keys. Ok (base.partition, keys)
 
 -- the window from the one that it copies, its own partition and order, and its frame
-abbrev pub window_meant : Option WindowMeaning → List RowFormula → List KeyMeaning → Option WrittenFrame → Meant WindowMeaning
+abbrev pub window_meant : Option BoundWindow → List RowExpression → List BoundKey → Option WrittenFrame → Meant BoundWindow
 window_meant base partition order written = do
   frame ← frame_meant written
   lists ← copied base partition order
@@ -146,19 +146,19 @@ window_meant base partition order written = do
 
 -- ---- the windows of a WINDOW clause
 
-pub record KnownMeaning : Type 0 where
+pub record NamedBoundWindow : Type 0 where
   pub name : List ℕ
-  pub window : WindowMeaning
+  pub window : BoundWindow
 
-abbrev pub known_of : KnownWindow → KnownMeaning
+abbrev pub known_of : KnownWindow → NamedBoundWindow
 known_of w = record { name = w.name; window = window_of w.window }
 
 -- the window of that name
-abbrev pub window_named : List KnownMeaning → List ℕ → Meant WindowMeaning
+abbrev pub window_named : List NamedBoundWindow → List ℕ → Meant BoundWindow
 window_named [] name = Err UnknownWindow
 window_named (known ∷ windows) name = if bytes_eq known.name name then Ok known.window else window_named windows name
 
 -- the window that the name before a window's own clauses stands for
-abbrev pub base_named : List KnownMeaning → Option (List ℕ) → Meant (Option WindowMeaning)
+abbrev pub base_named : List NamedBoundWindow → Option (List ℕ) → Meant (Option BoundWindow)
 base_named windows None = Ok None
 base_named windows (Some name) = window_named windows name >>= λ w. Ok (Some w)

@@ -7,14 +7,14 @@ ghost use Rattle.wd_resolve_call.specs.FunctionCode.{group_function_of};
 ghost use Rattle.wd_resolve_call.specs.Rows.{aggregate_of, argument_of, group_call_of};
 ghost use Rattle.wd_resolve_call.specs.Calls as calls;
 ghost use Rattle.wd_resolve_call.specs.Functions as spec;
-ghost use Rattle.wd_resolve_call.specs.Leaves.{operand_of, operands_of};
+ghost use Rattle.wd_resolve_call.specs.References.{operand_of, operands_of};
 
 use crate::call::AppliedFunction;
-use crate::leaf::{Argument, SelectLeaf, settled_over};
-use crate::row::{AppliedAggregate, GroupCall, RowLeaf, ValueArgument};
+use crate::reference::{Argument, SelectReference, settled_over};
+use crate::row::{AppliedAggregate, GroupCall, RowReference, ValueArgument};
 use std::alloc::Global;
 use wd_plan::{Direction, FrameRow, FunctionName, Ranking, ValueKind, has_extremes, same_kind};
-use wd_resolve_operand::{Cause, Formula, Meaning, ResolveError};
+use wd_resolve_operand::{BoundExpression, Cause, ResolveError, TypedOperand};
 use wd_value::Value;
 
 /// The distance of LAG and LEAD where it is not written.
@@ -37,7 +37,7 @@ impl AppliedFunction {
 }
 
 /// The function of this name, which is folded as unquoted names are.
-fn function_named(name: &str) -> Option<FunctionName>
+fn named_function(name: &str) -> Option<FunctionName>
     ensures { result ≡ spec.function_named name.now }
 {
     match name {
@@ -59,14 +59,14 @@ fn function_named(name: &str) -> Option<FunctionName>
 }
 
 /// A literal whole number that is not below `least`; else 405.
-fn whole(least: u64, operand: &Meaning<SelectLeaf>) -> Result<u64, ResolveError>
+fn whole(least: u64, operand: &TypedOperand<SelectReference>) -> Result<u64, ResolveError>
     ensures { Gives (λ n. n) result (spec.whole least (operand_of operand.now)) }
 {
-    let Meaning::Typed(expression, _) = operand else {
+    let TypedOperand::Typed(expression, _) = operand else {
         return Err(ResolveError::Refused(Cause::WrongCall));
     };
     match &**expression {
-        Formula::Literal(Value::Int(n), _) => at_least(least, *n),
+        BoundExpression::Literal(Value::Int(n), _) => at_least(least, *n),
         _ => Err(ResolveError::Refused(Cause::WrongCall)),
     }
 }
@@ -85,15 +85,15 @@ fn at_least(least: u64, n: i64) -> Result<u64, ResolveError>
 fn default_of(
     alloc: Global,
     kind: ValueKind,
-    operand: &Meaning<SelectLeaf>,
+    operand: &TypedOperand<SelectReference>,
 ) -> Result<Value, ResolveError>
     ensures { Gives (λ v. v) result (spec.default_of kind (operand_of operand.now)) }
 {
-    let Meaning::Typed(expression, _) = operand else {
+    let TypedOperand::Typed(expression, _) = operand else {
         return Ok(Value::Null);
     };
     match &**expression {
-        Formula::Literal(value, other) => if same_kind(kind, *other) {
+        BoundExpression::Literal(value, other) => if same_kind(kind, *other) {
             Ok(value.copy(alloc)?)
         } else {
             Err(ResolveError::Refused(Cause::WrongCall))
@@ -105,7 +105,7 @@ fn default_of(
 /// The value argument that an operand is; 406 where a window call is in it.
 fn argument<E: Argument>(
     alloc: Global,
-    operand: &Meaning<SelectLeaf>,
+    operand: &TypedOperand<SelectReference>,
 ) -> Result<ValueArgument<E>, ResolveError>
     ensures { Gives (argument_of E.shown) result (spec.argument E.over (operand_of operand.now)) }
 {
@@ -118,24 +118,27 @@ fn argument<E: Argument>(
 /// A value argument of whole numbers; a bare NULL counts as one; else 405.
 fn numbers<E: Argument>(
     alloc: Global,
-    operand: &Meaning<SelectLeaf>,
+    operand: &TypedOperand<SelectReference>,
 ) -> Result<ValueArgument<E>, ResolveError>
     ensures { Gives (argument_of E.shown) result (spec.numbers E.over (operand_of operand.now)) }
 {
     match operand {
-        Meaning::Null => Ok(ValueArgument {
-            expression: E::over(alloc, &Formula::Literal(Value::Null, ValueKind::Number))?,
+        TypedOperand::Null => Ok(ValueArgument {
+            expression: E::over(
+                alloc,
+                &BoundExpression::Literal(Value::Null, ValueKind::Number),
+            )?,
             kind: ValueKind::Number,
         }),
-        Meaning::Typed(_, ValueKind::Number) => argument(alloc, operand),
-        Meaning::Typed(_, _) => Err(ResolveError::Refused(Cause::WrongCall)),
+        TypedOperand::Typed(_, ValueKind::Number) => argument(alloc, operand),
+        TypedOperand::Typed(_, _) => Err(ResolveError::Refused(Cause::WrongCall)),
     }
 }
 
 /// A value argument that MIN and MAX accept; else 405.
-fn ordered<E: Argument>(
+fn ordered_argument<E: Argument>(
     alloc: Global,
-    operand: &Meaning<SelectLeaf>,
+    operand: &TypedOperand<SelectReference>,
 ) -> Result<ValueArgument<E>, ResolveError>
     ensures { Gives (argument_of E.shown) result (spec.ordered E.over (operand_of operand.now)) }
 {
@@ -150,7 +153,7 @@ fn ordered<E: Argument>(
 fn value_at(
     alloc: Global,
     row: FrameRow,
-    x: &Meaning<SelectLeaf>,
+    x: &TypedOperand<SelectReference>,
 ) -> Result<AppliedFunction, ResolveError>
     ensures { Gives function_of result (spec.over_argument (calls.value_at row) (operand_of x.now)) }
 {
@@ -160,8 +163,8 @@ fn value_at(
 /// NTH_VALUE, with the number of the row, from 1.
 fn nth(
     alloc: Global,
-    x: &Meaning<SelectLeaf>,
-    n: &Meaning<SelectLeaf>,
+    x: &TypedOperand<SelectReference>,
+    n: &TypedOperand<SelectReference>,
 ) -> Result<AppliedFunction, ResolveError>
     ensures { Gives function_of result (spec.nth (operand_of x.now) (operand_of n.now)) }
 {
@@ -173,7 +176,7 @@ fn nth(
 fn away(
     alloc: Global,
     direction: Direction,
-    x: &Meaning<SelectLeaf>,
+    x: &TypedOperand<SelectReference>,
     offset: u64,
     default: Value,
 ) -> Result<AppliedFunction, ResolveError>
@@ -188,12 +191,12 @@ fn away(
 }
 
 /// LAG and LEAD, with operands for the distance and the default.
-fn shifted(
+fn shift_function(
     alloc: Global,
     direction: Direction,
-    x: &Meaning<SelectLeaf>,
-    k: &Meaning<SelectLeaf>,
-    d: &Meaning<SelectLeaf>,
+    x: &TypedOperand<SelectReference>,
+    k: &TypedOperand<SelectReference>,
+    d: &TypedOperand<SelectReference>,
 ) -> Result<AppliedFunction, ResolveError>
     ensures { Gives function_of result (spec.shifted direction (operand_of x.now) (operand_of k.now) (operand_of d.now)) }
 {
@@ -217,15 +220,15 @@ fn over_none(name: FunctionName) -> Result<AppliedFunction, ResolveError>
 fn aggregate_over<E: Argument>(
     alloc: Global,
     name: FunctionName,
-    x: &Meaning<SelectLeaf>,
+    x: &TypedOperand<SelectReference>,
 ) -> Result<AppliedAggregate<E>, ResolveError>
     ensures { Gives (aggregate_of E.shown) result (spec.aggregate_over E.over name (operand_of x.now)) }
 {
     match name {
         FunctionName::Count => Ok(AppliedAggregate::Count(argument(alloc, x)?)),
         FunctionName::Sum => Ok(AppliedAggregate::Sum(numbers(alloc, x)?)),
-        FunctionName::Min => Ok(AppliedAggregate::Min(ordered(alloc, x)?)),
-        FunctionName::Max => Ok(AppliedAggregate::Max(ordered(alloc, x)?)),
+        FunctionName::Min => Ok(AppliedAggregate::Min(ordered_argument(alloc, x)?)),
+        FunctionName::Max => Ok(AppliedAggregate::Max(ordered_argument(alloc, x)?)),
         _ => Err(ResolveError::Refused(Cause::WrongCall)),
     }
 }
@@ -233,7 +236,7 @@ fn aggregate_over<E: Argument>(
 fn over_one(
     alloc: Global,
     name: FunctionName,
-    x: &Meaning<SelectLeaf>,
+    x: &TypedOperand<SelectReference>,
 ) -> Result<AppliedFunction, ResolveError>
     ensures { Gives function_of result (spec.over_one name (operand_of x.now)) }
 {
@@ -256,14 +259,14 @@ fn over_one(
 fn over_two(
     alloc: Global,
     name: FunctionName,
-    x: &Meaning<SelectLeaf>,
-    y: &Meaning<SelectLeaf>,
+    x: &TypedOperand<SelectReference>,
+    y: &TypedOperand<SelectReference>,
 ) -> Result<AppliedFunction, ResolveError>
     ensures { Gives function_of result (spec.over_two name (operand_of x.now) (operand_of y.now)) }
 {
     match name {
-        FunctionName::Lag => shifted(alloc, Direction::Lag, x, y, &Meaning::Null),
-        FunctionName::Lead => shifted(alloc, Direction::Lead, x, y, &Meaning::Null),
+        FunctionName::Lag => shift_function(alloc, Direction::Lag, x, y, &TypedOperand::Null),
+        FunctionName::Lead => shift_function(alloc, Direction::Lead, x, y, &TypedOperand::Null),
         FunctionName::NthValue => nth(alloc, x, y),
         _ => Err(ResolveError::Refused(Cause::WrongCall)),
     }
@@ -272,15 +275,15 @@ fn over_two(
 fn over_three(
     alloc: Global,
     name: FunctionName,
-    x: &Meaning<SelectLeaf>,
-    y: &Meaning<SelectLeaf>,
-    z: &Meaning<SelectLeaf>,
+    x: &TypedOperand<SelectReference>,
+    y: &TypedOperand<SelectReference>,
+    z: &TypedOperand<SelectReference>,
 ) -> Result<AppliedFunction, ResolveError>
     ensures { Gives function_of result (spec.over_three name (operand_of x.now) (operand_of y.now) (operand_of z.now)) }
 {
     match name {
-        FunctionName::Lag => shifted(alloc, Direction::Lag, x, y, z),
-        FunctionName::Lead => shifted(alloc, Direction::Lead, x, y, z),
+        FunctionName::Lag => shift_function(alloc, Direction::Lag, x, y, z),
+        FunctionName::Lead => shift_function(alloc, Direction::Lead, x, y, z),
         _ => Err(ResolveError::Refused(Cause::WrongCall)),
     }
 }
@@ -288,7 +291,7 @@ fn over_three(
 fn over_arguments(
     alloc: Global,
     name: FunctionName,
-    arguments: &[Meaning<SelectLeaf>],
+    arguments: &[TypedOperand<SelectReference>],
 ) -> Result<AppliedFunction, ResolveError>
     ensures { Gives function_of result (spec.over_arguments name (map operand_of arguments.now)) }
 {
@@ -312,14 +315,14 @@ fn over_star(name: FunctionName) -> Result<AppliedFunction, ResolveError>
 }
 
 /// The function of that name over its arguments, or over a star where there are none; 405 where it does not take them.
-pub fn applied(
+pub fn apply_function(
     alloc: Global,
     name: &str,
-    arguments: Option<Vec<Meaning<SelectLeaf>>>,
+    arguments: Option<Vec<TypedOperand<SelectReference>>>,
 ) -> Result<AppliedFunction, ResolveError>
     ensures { Gives function_of result (spec.applied (spec.function_named name.now) (option_map operands_of arguments)) }
 {
-    let Some(name) = function_named(name) else {
+    let Some(name) = named_function(name) else {
         return Err(ResolveError::Refused(Cause::WrongCall));
     };
     match arguments {
@@ -351,7 +354,10 @@ pub fn group_function_named(name: &str) -> Option<GroupFunction>
 }
 
 /// The columns of FROM that the operands are; 405 where one is no column.
-fn columns_only(alloc: Global, operands: &[Meaning<SelectLeaf>]) -> Result<Vec<u16>, ResolveError>
+fn columns_only(
+    alloc: Global,
+    operands: &[TypedOperand<SelectReference>],
+) -> Result<Vec<u16>, ResolveError>
     ensures { Gives (λ v. v.items) result (spec.columns_only (map operand_of operands.now)) }
 {
     let mut columns = Vec::new(alloc);
@@ -361,14 +367,16 @@ fn columns_only(alloc: Global, operands: &[Meaning<SelectLeaf>]) -> Result<Vec<u
     Ok(columns)
 }
 
-fn column_only(operand: &Meaning<SelectLeaf>) -> Result<u16, ResolveError>
+fn column_only(operand: &TypedOperand<SelectReference>) -> Result<u16, ResolveError>
     ensures { Gives (λ n. n) result (spec.column_only (operand_of operand.now)) }
 {
-    let Meaning::Typed(expression, _) = operand else {
+    let TypedOperand::Typed(expression, _) = operand else {
         return Err(ResolveError::Refused(Cause::WrongCall));
     };
     match &**expression {
-        Formula::Leaf(SelectLeaf::Row(RowLeaf::Column(number))) => Ok(*number),
+        BoundExpression::Reference(SelectReference::Row(RowReference::Column(number))) => Ok(
+            *number,
+        ),
         _ => Err(ResolveError::Refused(Cause::WrongCall)),
     }
 }
@@ -377,7 +385,7 @@ fn column_only(operand: &Meaning<SelectLeaf>) -> Result<u16, ResolveError>
 fn aggregate_of_one(
     alloc: Global,
     name: FunctionName,
-    arguments: &[Meaning<SelectLeaf>],
+    arguments: &[TypedOperand<SelectReference>],
 ) -> Result<GroupCall, ResolveError>
     ensures { Gives group_call_of result (spec.aggregate_of_one name (map operand_of arguments.now)) }
 {
@@ -402,7 +410,7 @@ fn grouping_over(columns: Vec<u16>) -> Result<GroupCall, ResolveError>
 pub fn grouped_over(
     alloc: Global,
     function: GroupFunction,
-    arguments: Option<Vec<Meaning<SelectLeaf>>>,
+    arguments: Option<Vec<TypedOperand<SelectReference>>>,
 ) -> Result<GroupCall, ResolveError>
     ensures { Gives group_call_of result (spec.grouped_over (group_function_of function) (option_map operands_of arguments)) }
 {

@@ -2,13 +2,13 @@
 
 ghost use Rattle.std.specs.Prelude.{◌≡◌, option_map};
 ghost use Rattle.wd_plan.specs.Expressions.{expression_of};
-ghost use Rattle.wd_resolve_call.specs.Rows.{group_call_of, row_formula_of, row_leaf_of, same_row_leaf};
+ghost use Rattle.wd_resolve_call.specs.Rows.{group_call_of, row_expression_of, row_reference_of, same_row_reference};
 ghost use Rattle.wd_resolve_call.specs.Rows as spec;
 
 use crate::same::same_group_call;
 use std::rc::Rc;
 use wd_plan::{Expr, ValueKind};
-use wd_resolve_operand::Leaf;
+use wd_resolve_operand::Reference;
 
 /// An expression as the argument of a function, and the kind of its values.
 #[derive(Drop)]
@@ -69,22 +69,22 @@ impl GroupCall {
 
 /// A column of FROM, by its number, or, where rows are grouped, a call over a group.
 #[derive(Drop)]
-pub enum RowLeaf {
+pub enum RowReference {
     Column(u16),
     Group(Rc<GroupCall>),
 }
 
-impl Leaf for RowLeaf {
-    ghost Shown = { spec.RowLeaf };
+impl Reference for RowReference {
+    ghost Shown = { spec.RowReference };
 
-    ghost shown = { row_leaf_of };
+    ghost shown = { row_reference_of };
 
-    ghost alike = { same_row_leaf };
+    ghost alike = { same_row_reference };
 
-    fn same(&self, other: &RowLeaf) -> bool {
+    fn same(&self, other: &RowReference) -> bool {
         match (self, other) {
-            (RowLeaf::Column(m), RowLeaf::Column(n)) => *m == *n,
-            (RowLeaf::Group(c), RowLeaf::Group(d)) => same_group_call(c, d),
+            (RowReference::Column(m), RowReference::Column(n)) => *m == *n,
+            (RowReference::Group(c), RowReference::Group(d)) => same_group_call(c, d),
             _ => false,
         }
     }

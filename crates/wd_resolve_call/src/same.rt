@@ -7,19 +7,22 @@ ghost use Rattle.wd_plan.specs.Equality.{same_expression};
 ghost use Rattle.wd_plan.specs.Expressions.{expression_of};
 ghost use Rattle.wd_resolve_call.specs.Calls.{call_of, function_of};
 ghost use Rattle.wd_resolve_call.specs.Calls as spec;
-ghost use Rattle.wd_resolve_call.specs.Rows.{aggregate_of, argument_of, group_call_of, row_formula_of, same_row_formula};
+ghost use Rattle.wd_resolve_call.specs.Rows.{aggregate_of, argument_of, group_call_of, row_expression_of, same_row_expression};
 ghost use Rattle.wd_resolve_call.specs.Rows as rows;
 ghost use Rattle.wd_resolve_call.specs.Windows.{key_of, window_of};
 
 use crate::call::{AppliedFunction, WindowCall};
-use crate::row::{AppliedAggregate, GroupCall, RowLeaf, ValueArgument};
+use crate::row::{AppliedAggregate, GroupCall, RowReference, ValueArgument};
 use crate::window::{OrderKey, Window};
 use wd_plan::{Bound, Expr, Frame, FrameRow, Ranking};
-use wd_resolve_operand::Formula;
+use wd_resolve_operand::BoundExpression;
 use wd_value::same;
 
-fn same_argument(a: &ValueArgument<Formula<RowLeaf>>, b: &ValueArgument<Formula<RowLeaf>>) -> bool
-    ensures { result ≡ rows.same_argument same_row_formula (argument_of row_formula_of a.now) (argument_of row_formula_of b.now) }
+fn same_argument(
+    a: &ValueArgument<BoundExpression<RowReference>>,
+    b: &ValueArgument<BoundExpression<RowReference>>,
+) -> bool
+    ensures { result ≡ rows.same_argument same_row_expression (argument_of row_expression_of a.now) (argument_of row_expression_of b.now) }
 {
     a.expression.same(&b.expression)
 }
@@ -48,10 +51,10 @@ fn same_row(r: FrameRow, q: FrameRow) -> bool
 }
 
 fn same_aggregate(
-    a: &AppliedAggregate<Formula<RowLeaf>>,
-    b: &AppliedAggregate<Formula<RowLeaf>>,
+    a: &AppliedAggregate<BoundExpression<RowReference>>,
+    b: &AppliedAggregate<BoundExpression<RowReference>>,
 ) -> bool
-    ensures { result ≡ rows.same_aggregate same_row_formula (aggregate_of row_formula_of a.now) (aggregate_of row_formula_of b.now) }
+    ensures { result ≡ rows.same_aggregate same_row_expression (aggregate_of row_expression_of a.now) (aggregate_of row_expression_of b.now) }
 {
     match (a, b) {
         (AppliedAggregate::CountRows, AppliedAggregate::CountRows) => true,
@@ -117,8 +120,8 @@ fn same_frame(f: &Frame, g: &Frame) -> bool
         && (same_bound(f.start, g.start) && same_bound(f.end, g.end))
 }
 
-fn same_partition(a: &[Formula<RowLeaf>], b: &[Formula<RowLeaf>]) -> bool
-    ensures { result ≡ pointwise same_row_formula (map row_formula_of a.now) (map row_formula_of b.now) }
+fn same_partition(a: &[BoundExpression<RowReference>], b: &[BoundExpression<RowReference>]) -> bool
+    ensures { result ≡ pointwise same_row_expression (map row_expression_of a.now) (map row_expression_of b.now) }
 {
     if a.len() != b.len() {
         return false;

@@ -1,16 +1,16 @@
 //! Windows: their partition and order, their frame, and what they copy.
 
 ghost use Rattle.std.specs.Prelude.{◌≡◌, map, option_map, IfOk};
-ghost use Rattle.wd_resolve_call.specs.Rows.{row_formula_of};
+ghost use Rattle.wd_resolve_call.specs.Rows.{row_expression_of};
 ghost use Rattle.wd_resolve_operand.specs.Causes.{Gives};
 ghost use Rattle.wd_resolve_call.specs.Windows.{key_of, window_of, known_of};
 ghost use Rattle.wd_resolve_call.specs.Windows as spec;
 
-use crate::row::RowLeaf;
+use crate::row::RowReference;
 use std::alloc::Global;
 use std::rc::Rc;
 use wd_plan::{Bound, Exclusion, Frame, FrameMode, ValueKind, are_bounds, same_kind};
-use wd_resolve_operand::{Cause, Formula, ResolveError, number};
+use wd_resolve_operand::{BoundExpression, Cause, ResolveError, number};
 use wd_syntax as written;
 use wd_syntax::{Extent, Name, NullsPlace, SortDirection};
 use wd_value::{OutOfMemory, SortKey, Text};
@@ -18,7 +18,7 @@ use wd_value::{OutOfMemory, SortKey, Text};
 /// An expression to sort by, the kind of its values, and how they are sorted.
 #[derive(Drop)]
 pub struct OrderKey {
-    pub expression: Formula<RowLeaf>,
+    pub expression: BoundExpression<RowReference>,
     pub kind: ValueKind,
     pub key: SortKey,
 }
@@ -26,7 +26,7 @@ pub struct OrderKey {
 /// A window. Windows that copy one another share their lists.
 #[derive(Drop)]
 pub struct Window {
-    pub partition: Rc<Vec<Formula<RowLeaf>>>,
+    pub partition: Rc<Vec<BoundExpression<RowReference>>>,
     pub order: Rc<Vec<OrderKey>>,
     pub frame: Frame,
     /// Whether the frame is written.
@@ -78,7 +78,7 @@ pub fn sort_key(direction: Option<SortDirection>, nulls: Option<NullsPlace>) -> 
     SortKey { desc, nulls_first }
 }
 
-fn mode_meant(mode: written::FrameMode) -> FrameMode
+fn resolve_mode(mode: written::FrameMode) -> FrameMode
     ensures { result ≡ spec.mode_meant mode }
 {
     match mode {
@@ -88,7 +88,7 @@ fn mode_meant(mode: written::FrameMode) -> FrameMode
     }
 }
 
-fn bound_meant(bound: written::Bound) -> Result<Bound, ResolveError>
+fn resolve_bound(bound: written::Bound) -> Result<Bound, ResolveError>
     ensures { Gives (λ b. b) result (spec.bound_meant bound) }
 {
     match bound {
@@ -101,19 +101,19 @@ fn bound_meant(bound: written::Bound) -> Result<Bound, ResolveError>
 }
 
 /// The two bounds; an omitted end is CURRENT ROW.
-fn ends_meant(extent: Extent) -> Result<(Bound, Bound), ResolveError>
+fn resolve_ends(extent: Extent) -> Result<(Bound, Bound), ResolveError>
     ensures { Gives (λ ends. ends) result (spec.ends_meant extent) }
 {
     match extent {
-        Extent::Start(start) => Ok((bound_meant(start)?, Bound::CurrentRow)),
+        Extent::Start(start) => Ok((resolve_bound(start)?, Bound::CurrentRow)),
         Extent::Between(start, end) => {
-            let start = bound_meant(start)?;
-            Ok((start, bound_meant(end)?))
+            let start = resolve_bound(start)?;
+            Ok((start, resolve_bound(end)?))
         }
     }
 }
 
-fn exclusion_meant(exclusion: Option<written::Exclusion>) -> Exclusion
+fn resolve_exclusion(exclusion: Option<written::Exclusion>) -> Exclusion
     ensures { result ≡ spec.exclusion_meant exclusion }
 {
     match exclusion {
@@ -124,18 +124,18 @@ fn exclusion_meant(exclusion: Option<written::Exclusion>) -> Exclusion
     }
 }
 
-fn frame_meant(frame: Option<written::Frame>) -> Result<Frame, ResolveError>
+fn resolve_frame(frame: Option<written::Frame>) -> Result<Frame, ResolveError>
     ensures { Gives (λ f. f) result (spec.frame_meant frame) }
 {
     let Some(frame) = frame else {
         return Ok(DEFAULT_FRAME);
     };
-    let (start, end) = ends_meant(frame.extent)?;
+    let (start, end) = resolve_ends(frame.extent)?;
     Ok(Frame {
-        mode: mode_meant(frame.mode),
+        mode: resolve_mode(frame.mode),
         start,
         end,
-        exclusion: exclusion_meant(frame.exclusion),
+        exclusion: resolve_exclusion(frame.exclusion),
     })
 }
 
@@ -172,7 +172,7 @@ fn frame_over(order: &[OrderKey], frame: Frame) -> Result<Frame, ResolveError>
 }
 
 /// The order of a window that copies another: only one of the two may have an order.
-fn order_copied(
+fn copy_order(
     alloc: Global,
     base: &Rc<Vec<OrderKey>>,
     order: Vec<OrderKey>,
@@ -190,13 +190,13 @@ fn order_copied(
 }
 
 /// The lists of a window together with those of the window that it copies.
-fn copied(
+fn copy_window(
     alloc: Global,
     base: Option<&Window>,
-    partition: Vec<Formula<RowLeaf>>,
+    partition: Vec<BoundExpression<RowReference>>,
     order: Vec<OrderKey>,
-) -> Result<(Rc<Vec<Formula<RowLeaf>>>, Rc<Vec<OrderKey>>), ResolveError>
-    ensures { Gives (λ lists. (map row_formula_of lists.0.value.items, map key_of lists.1.value.items)) result (spec.copied (option_map (λ w. window_of w.now) base.entry) (map row_formula_of partition.items) (map key_of order.items)) }
+) -> Result<(Rc<Vec<BoundExpression<RowReference>>>, Rc<Vec<OrderKey>>), ResolveError>
+    ensures { Gives (λ lists. (map row_expression_of lists.0.value.items, map key_of lists.1.value.items)) result (spec.copied (option_map (λ w. window_of w.now) base.entry) (map row_expression_of partition.items) (map key_of order.items)) }
 {
     let Some(base) = base else {
         return Ok((Rc::new(alloc, partition)?, Rc::new(alloc, order)?));
@@ -204,23 +204,23 @@ fn copied(
     if base.framed || !partition.is_empty() {
         return Err(ResolveError::Refused(Cause::WindowCopy));
     }
-    let order = order_copied(alloc, &base.order, order)?;
+    let order = copy_order(alloc, &base.order, order)?;
     Ok((base.partition.clone()?, order))
 }
 
 /// The window from the one that it copies, its own partition and order, and its frame.
-pub fn window_meant(
+pub fn resolve_window(
     alloc: Global,
     base: Option<&Window>,
-    partition: Vec<Formula<RowLeaf>>,
+    partition: Vec<BoundExpression<RowReference>>,
     order: Vec<OrderKey>,
     frame: Option<written::Frame>,
 ) -> Result<Window, ResolveError>
-    ensures { Gives window_of result (spec.window_meant (option_map (λ w. window_of w.now) base.entry) (map row_formula_of partition.items) (map key_of order.items) frame) }
+    ensures { Gives window_of result (spec.window_meant (option_map (λ w. window_of w.now) base.entry) (map row_expression_of partition.items) (map key_of order.items) frame) }
 {
     let framed = frame.is_some();
-    let frame = frame_meant(frame)?;
-    let (partition, order) = copied(alloc, base, partition, order)?;
+    let frame = resolve_frame(frame)?;
+    let (partition, order) = copy_window(alloc, base, partition, order)?;
     let frame = frame_over(&order, frame)?;
     Ok(Window {
         partition,
@@ -231,7 +231,7 @@ pub fn window_meant(
 }
 
 /// The window of that name; 407 where there is none.
-pub fn window_named<'a>(windows: &'a [KnownWindow], name: &Text) -> Result<&'a Window, ResolveError>
+pub fn find_window<'a>(windows: &'a [KnownWindow], name: &Text) -> Result<&'a Window, ResolveError>
     ensures { Gives (λ w. window_of w.now) result (spec.window_named (map known_of windows.now) name.now) }
 {
     for known in windows {
@@ -243,14 +243,14 @@ pub fn window_named<'a>(windows: &'a [KnownWindow], name: &Text) -> Result<&'a W
 }
 
 /// The window that the name before a window's own clauses stands for.
-pub fn base_named<'a>(
+pub fn find_base<'a>(
     windows: &'a [KnownWindow],
     base: &Option<Name>,
 ) -> Result<Option<&'a Window>, ResolveError>
     ensures { Gives (λ base. option_map (λ w. window_of w.now) base) result (spec.base_named (map known_of windows.now) (option_map (λ n. n.text) base.now)) }
 {
     match base {
-        Some(name) => Ok(Some(window_named(windows, &name.text)?)),
+        Some(name) => Ok(Some(find_window(windows, &name.text)?)),
         None => Ok(None),
     }
 }

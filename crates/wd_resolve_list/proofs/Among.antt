@@ -4,7 +4,7 @@ use Rattle.std.specs.List.{AllByRecursion, list_any, list_all, position_or_len}
 use Rattle.std.proofs.lemmas.Bool.{false≢true, le-ltb, lt-ltb, or_left, or_right}
 use Rattle.std.proofs.lemmas.List.{length-map}
 use Rattle.std.proofs.lemmas.List.Folds.{list_any-append}
-use Rattle.wd_resolve_list.specs.Listing.{with_new}
+use Rattle.wd_resolve_list.specs.SelectLists.{with_new}
 use Rattle.wd_resolve_scope.proofs.Lists.{all_push}
 use Rattle.wd_resolve_scope.proofs.Typing.{and_both}
 

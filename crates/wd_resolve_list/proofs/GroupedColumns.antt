@@ -20,7 +20,7 @@ use Rattle.wd_resolve_scope.specs.Typed.{kinds_in}
 use Rattle.wd_resolve_scope.proofs.TypedTrees.{column_named_is}
 use Rattle.wd_resolve_call.proofs.Meanings.{bound, ok_is}
 use Rattle.wd_resolve_list.specs.Grouping.{all_grouped, count_made, crossed_sets, cubed, group_column, group_columns, grouped_meant, item_grouped, joined_sets, made_of, no_groups, rolled_up, set_meant, sets_meant, with_sets}
-use Rattle.wd_resolve_list.specs.Listing.{GroupedBy}
+use Rattle.wd_resolve_list.specs.SelectLists.{GroupedBy}
 use Rattle.wd_resolve_list.proofs.Among.{all_append, all_on_each, all_with_new}
 
 -- ---- sets with a column

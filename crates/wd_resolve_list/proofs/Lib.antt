@@ -3,7 +3,7 @@ pub mod Narrow
 pub mod Counted
 pub mod Among
 pub mod ReadBy
-pub mod TypedFormulas
+pub mod TypedBoundExpressions
 pub mod GroupedColumns
 pub mod ListedOutputs
 pub mod ShownColumns

@@ -8,7 +8,7 @@ use Rattle.wd_plan.specs.Equality.{same_expression}
 use Rattle.wd_plan.specs.declared.expression.Expr.{Expr}
 use Rattle.wd_plan.specs.Expressions.{Column, expression_of}
 use Rattle.wd_resolve_call.specs.Rows.{count_rows, count_of, sum_of, least_of, greatest_of, GroupCall, of_rows, grouping}
-use Rattle.wd_resolve_list.specs.Listing.{GroupedBy, Needs, group_argument_of, group_inputs, is_group_wide, is_wide, is_window_wide, with_new}
+use Rattle.wd_resolve_list.specs.SelectLists.{GroupedBy, ProjectedInputs, group_argument_of, group_inputs, is_group_wide, is_wide, is_window_wide, with_new}
 
 -- the columns of the Group
 pub few_groups : (g : GroupedBy) (calls : List GroupCall) → is_group_wide (Some g) calls ≡ false → length g.columns + length calls ≤ 1024
@@ -54,5 +54,5 @@ pub few_inputs : (g : GroupedBy) (calls : List GroupCall) (inputs : List Expr) �
 few_inputs g calls inputs h e = subst (λ n. n ≤ 1024) (sym (ap length e) ∙ length-map inputs expression_of) (few_arguments g calls h)
 
 -- the nodes below the Map of what is shown
-pub narrow_below : (shown : ℕ) (grouped : Option GroupedBy) (needs : Needs) → is_wide shown grouped needs ≡ false → (is_window_wide needs ≡ false) × (is_group_wide grouped needs.groups ≡ false)
-narrow_below shown grouped needs h = or_parts (is_window_wide needs) (is_group_wide grouped needs.groups) (or_parts (nat_lt 1024 shown) _ h).1
+pub narrow_below : (shown : ℕ) (grouped : Option GroupedBy) (projected : ProjectedInputs) → is_wide shown grouped projected ≡ false → (is_window_wide projected ≡ false) × (is_group_wide grouped projected.groups ≡ false)
+narrow_below shown grouped projected h = or_parts (is_window_wide projected) (is_group_wide grouped projected.groups) (or_parts (nat_lt 1024 shown) _ h).1

@@ -11,10 +11,10 @@ use Rattle.wd_resolve_operand.specs.Causes.{Meant, ◌>>=◌}
 use Rattle.wd_resolve_scope.specs.Grouped.{GroupedRule, is_grouped}
 use Rattle.wd_resolve_scope.specs.Names.{column_named}
 use Rattle.wd_resolve_scope.specs.Resolving.{group_condition}
-use Rattle.wd_resolve_call.specs.Rows.{RowFormula, row_formula_of}
+use Rattle.wd_resolve_call.specs.Rows.{RowExpression, row_expression_of}
 use Rattle.wd_resolve_scope.specs.Scopes.{ScopeRule}
 use Rattle.wd_resolve_list.specs.declared.below.Below.{Below as CodeBelow}
-use Rattle.wd_resolve_list.specs.Listing.{Below, GroupedBy, grouped_by_of, having_groups, is_group_wide, with_new}
+use Rattle.wd_resolve_list.specs.SelectLists.{Below, GroupedBy, grouped_by_of, having_groups, is_group_wide, with_new}
 
 -- ---- columns
 
@@ -97,7 +97,7 @@ grouped_rule g = record { columns = g.columns; other = NotGrouped }
 
 -- ---- HAVING
 
-abbrev pub having_meant : ScopeRule → Option GroupedBy → Option Tree → Meant (Option RowFormula)
+abbrev pub having_meant : ScopeRule → Option GroupedBy → Option Tree → Meant (Option RowExpression)
 having_meant scope grouped None = Ok None
 having_meant scope grouped (Some a) = group_condition (option_map grouped_rule grouped) scope a >>= λ f. Ok (Some f)
 
@@ -120,10 +120,10 @@ numbers_from n [] set = []
 numbers_from n (c ∷ cs) set = if has set c then n ∷ numbers_from (n + 1) cs set else numbers_from (n + 1) cs set
 
 -- a set as the numbers of its columns among those that are grouped by, in order
-abbrev pub set_seated : List ℕ → List ℕ → List ℕ
-set_seated all set = numbers_from 0 all set
+abbrev pub set_rebased : List ℕ → List ℕ → List ℕ
+set_rebased all set = numbers_from 0 all set
 
 -- ---- what values of the code show
 
 abbrev pub below_of : CodeBelow → Below
-below_of b = record { grouped = option_map grouped_by_of b.grouped; having = option_map row_formula_of b.having }
+below_of b = record { grouped = option_map grouped_by_of b.grouped; having = option_map row_expression_of b.having }

@@ -1,3 +1,3 @@
-pub mod Listing
+pub mod SelectLists
 pub mod Outputs
 pub mod Grouping

@@ -3,22 +3,22 @@
 ghost use Rattle.std.specs.Prelude.{◌≡◌, ◌≤◌, [], ◌∷◌, map, length, vec_len, IfOk};
 ghost use Rattle.std.specs.List.{list_any, position_or_len};
 ghost use Rattle.wd_resolve_call.specs.Calls.{call_of, function_of};
-ghost use Rattle.wd_resolve_call.specs.Rows.{aggregate_of, argument_of, row_formula_of};
+ghost use Rattle.wd_resolve_call.specs.Rows.{aggregate_of, argument_of, row_expression_of};
 ghost use Rattle.wd_resolve_call.specs.Calls as spec;
-ghost use Rattle.wd_resolve_list.specs.Listing.{with_new};
+ghost use Rattle.wd_resolve_list.specs.SelectLists.{with_new};
 
 use std::alloc::Global;
-use wd_resolve_operand::Formula;
+use wd_resolve_operand::BoundExpression;
 use wd_resolve_scope::{
-    AppliedAggregate, AppliedFunction, RowLeaf, ValueArgument, WindowCall, copy_of, same_call,
+    AppliedAggregate, AppliedFunction, RowReference, ValueArgument, WindowCall, copy_of, same_call,
 };
 use wd_value::OutOfMemory;
 
 fn copy_argument(
     alloc: Global,
-    argument: &ValueArgument<Formula<RowLeaf>>,
-) -> Result<ValueArgument<Formula<RowLeaf>>, OutOfMemory>
-    ensures { IfOk result (λ a. argument_of row_formula_of a ≡ argument_of row_formula_of argument.now) }
+    argument: &ValueArgument<BoundExpression<RowReference>>,
+) -> Result<ValueArgument<BoundExpression<RowReference>>, OutOfMemory>
+    ensures { IfOk result (λ a. argument_of row_expression_of a ≡ argument_of row_expression_of argument.now) }
 {
     Ok(ValueArgument {
         expression: copy_of(alloc, &argument.expression)?,
@@ -28,9 +28,9 @@ fn copy_argument(
 
 fn copy_aggregate(
     alloc: Global,
-    aggregate: &AppliedAggregate<Formula<RowLeaf>>,
-) -> Result<AppliedAggregate<Formula<RowLeaf>>, OutOfMemory>
-    ensures { IfOk result (λ a. aggregate_of row_formula_of a ≡ aggregate_of row_formula_of aggregate.now) }
+    aggregate: &AppliedAggregate<BoundExpression<RowReference>>,
+) -> Result<AppliedAggregate<BoundExpression<RowReference>>, OutOfMemory>
+    ensures { IfOk result (λ a. aggregate_of row_expression_of a ≡ aggregate_of row_expression_of aggregate.now) }
 {
     match aggregate {
         AppliedAggregate::CountRows => Ok(AppliedAggregate::CountRows),

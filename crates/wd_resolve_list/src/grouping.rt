@@ -5,20 +5,20 @@ ghost use Rattle.wd_plan.specs.Plans.{sets_of};
 ghost use Rattle.wd_syntax.specs.View.{view_group_item, view_option, view_parts, view_set};
 ghost use Rattle.wd_resolve_operand.specs.Causes.{Gives};
 ghost use Rattle.wd_resolve_scope.specs.Grouped.{grouped_of};
-ghost use Rattle.wd_resolve_call.specs.Rows.{row_formula_of};
+ghost use Rattle.wd_resolve_call.specs.Rows.{row_expression_of};
 ghost use Rattle.wd_resolve_scope.specs.Scopes.{scope_of};
 ghost use Rattle.wd_resolve_list.specs.Grouping.{below_of};
 ghost use Rattle.wd_resolve_list.specs.Grouping as spec;
-ghost use Rattle.wd_resolve_list.specs.Listing.{grouped_by_of, with_new};
+ghost use Rattle.wd_resolve_list.specs.SelectLists.{grouped_by_of, with_new};
 
 use crate::below::Below;
 use crate::groups::add_having;
-use crate::needs::is_group_wide;
+use crate::projected::is_group_wide;
 use std::alloc::Global;
 use std::cmp::max;
 use wd_plan::has_column;
-use wd_resolve_operand::{Cause, Formula, ResolveError};
-use wd_resolve_scope::{Grouped, RowLeaf, Scope, group_condition, is_grouped};
+use wd_resolve_operand::{BoundExpression, Cause, ResolveError};
+use wd_resolve_scope::{Grouped, RowReference, Scope, group_condition, is_grouped};
 use wd_syntax as written;
 use wd_syntax::{GroupColumn, GroupItem, GroupingSet, GroupingWord, Select};
 use wd_value::OutOfMemory;
@@ -80,7 +80,7 @@ fn group_columns(
     Ok(numbers)
 }
 
-fn set_meant(alloc: Global, scope: &Scope, set: &GroupingSet) -> Result<Vec<u16>, ResolveError>
+fn resolve_set(alloc: Global, scope: &Scope, set: &GroupingSet) -> Result<Vec<u16>, ResolveError>
     ensures { Gives (λ v. v.items) result (spec.set_meant (scope_of scope.now) (view_set set.now)) }
 {
     match set {
@@ -93,7 +93,7 @@ fn set_meant(alloc: Global, scope: &Scope, set: &GroupingSet) -> Result<Vec<u16>
     }
 }
 
-fn sets_meant(
+fn resolve_sets(
     alloc: Global,
     scope: &Scope,
     sets: &[GroupingSet],
@@ -102,13 +102,13 @@ fn sets_meant(
 {
     let mut meant = Vec::new(alloc);
     for set in sets {
-        meant.push(set_meant(alloc, scope, set)?)?;
+        meant.push(resolve_set(alloc, scope, set)?)?;
     }
     Ok(meant)
 }
 
 /// How many sets the word makes of `count` sets, at most 65.
-fn count_made(word: GroupingWord, count: usize) -> usize
+fn number_of_sets(word: GroupingWord, count: usize) -> usize
     ensures { result ≡ min 65 (spec.count_made word count) }
 {
     match word {
@@ -149,7 +149,7 @@ fn add_sets(columns: &mut Vec<u16>, sets: &[Vec<u16>]) -> Result<(), OutOfMemory
 }
 
 /// The members of one set, followed by those of another.
-fn united(alloc: Global, set: &[u16], other: &[u16]) -> Result<Vec<u16>, OutOfMemory>
+fn unite(alloc: Global, set: &[u16], other: &[u16]) -> Result<Vec<u16>, OutOfMemory>
     ensures { IfOk result (λ v. v.items ≡ set.now ++ other.now) }
 {
     let mut all = Vec::new(alloc);
@@ -164,7 +164,7 @@ fn with_each(alloc: Global, set: &[u16], others: &[Vec<u16>]) -> Result<Vec<Vec<
 {
     let mut all = Vec::with_capacity(alloc, others.len())?;
     for other in others {
-        all.push(united(alloc, set, other)?)?;
+        all.push(unite(alloc, set, other)?)?;
     }
     Ok(all)
 }
@@ -193,13 +193,13 @@ fn rolled_up(alloc: Global, sets: &[Vec<u16>]) -> Result<Vec<Vec<u16>>, OutOfMem
 }
 
 /// All subsets: those with the first member before those without it.
-fn cubed(alloc: Global, sets: &[Vec<u16>]) -> Result<Vec<Vec<u16>>, OutOfMemory>
+fn all_subsets(alloc: Global, sets: &[Vec<u16>]) -> Result<Vec<Vec<u16>>, OutOfMemory>
     ensures { IfOk result (λ v. sets_of v.items ≡ spec.cubed (sets_of sets.now)) }
 {
     let [set, others @ ..] = sets else {
         return empty_set(alloc);
     };
-    let mut without = cubed(alloc, others)?;
+    let mut without = all_subsets(alloc, others)?;
     let mut made = with_each(alloc, set, &without)?;
     made.append(&mut without)?;
     Ok(made)
@@ -226,7 +226,7 @@ fn made_of(
 {
     match word {
         GroupingWord::Rollup => rolled_up(alloc, &sets),
-        GroupingWord::Cube => cubed(alloc, &sets),
+        GroupingWord::Cube => all_subsets(alloc, &sets),
         GroupingWord::Sets => some_of(alloc, sets),
     }
 }
@@ -256,7 +256,7 @@ fn with_sets(
 ) -> Result<GroupedBy, ResolveError>
     ensures { Gives grouped_by_of result (spec.with_sets (grouped_by_of so_far) word (sets_of sets.items)) }
 {
-    if are_too_many(so_far.sets.len(), count_made(word, sets.len())) {
+    if are_too_many(so_far.sets.len(), number_of_sets(word, sets.len())) {
         return Err(ResolveError::Refused(Cause::TooManySets));
     }
     Ok(joined_sets(alloc, so_far, word, sets)?)
@@ -281,7 +281,7 @@ fn joined_sets(
     Ok(GroupedBy { columns, sets })
 }
 
-fn item_grouped(
+fn add_group_item(
     alloc: Global,
     scope: &Scope,
     so_far: GroupedBy,
@@ -292,18 +292,18 @@ fn item_grouped(
     match item {
         GroupItem::Set(set) => {
             let mut sets = Vec::with_capacity(alloc, 1)?;
-            sets.push(set_meant(alloc, scope, set)?)?;
+            sets.push(resolve_set(alloc, scope, set)?)?;
             with_sets(alloc, so_far, GroupingWord::Sets, sets)
         }
         GroupItem::Sets(word, members) => {
-            let sets = sets_meant(alloc, scope, members)?;
+            let sets = resolve_sets(alloc, scope, members)?;
             with_sets(alloc, so_far, *word, sets)
         }
     }
 }
 
 /// How a select is grouped, if it is; without GROUP BY it has one set, which is empty.
-pub fn grouped_meant(
+pub fn resolve_group_by(
     alloc: Global,
     scope: &Scope,
     select: &Select,
@@ -313,11 +313,15 @@ pub fn grouped_meant(
     if !is_grouped(select) {
         return Ok(None);
     }
-    Ok(Some(all_grouped(alloc, scope, &select.grouping.items)?))
+    Ok(Some(resolve_group_items(alloc, scope, &select.grouping.items)?))
 }
 
 /// The columns and sets of the members of GROUP BY; without members the empty set alone.
-fn all_grouped(alloc: Global, scope: &Scope, items: &[GroupItem]) -> Result<GroupedBy, ResolveError>
+fn resolve_group_items(
+    alloc: Global,
+    scope: &Scope,
+    items: &[GroupItem],
+) -> Result<GroupedBy, ResolveError>
     ensures { Gives grouped_by_of result (spec.all_grouped (scope_of scope.now) spec.no_groups (map view_group_item items.now)) }
 {
     let mut grouped = GroupedBy {
@@ -325,13 +329,13 @@ fn all_grouped(alloc: Global, scope: &Scope, items: &[GroupItem]) -> Result<Grou
         sets: empty_set(alloc)?,
     };
     for item in items {
-        grouped = item_grouped(alloc, scope, grouped, item)?;
+        grouped = add_group_item(alloc, scope, grouped, item)?;
     }
     Ok(grouped)
 }
 
 /// What is below the windows of a select; 415 where HAVING makes a node too wide.
-pub fn below_meant(
+pub fn resolve_below(
     alloc: Global,
     scope: &Scope,
     grouped: Option<GroupedBy>,
@@ -339,18 +343,18 @@ pub fn below_meant(
 ) -> Result<Below, ResolveError>
     ensures { Gives below_of result (spec.below_meant (scope_of scope.now) (option_map grouped_by_of grouped) (view_option having.now)) }
 {
-    let having = having_meant(alloc, scope, &grouped, having)?;
+    let having = resolve_having(alloc, scope, &grouped, having)?;
     narrow_below(alloc, grouped, having)
 }
 
 /// The condition of HAVING, if there is one.
-fn having_meant(
+fn resolve_having(
     alloc: Global,
     scope: &Scope,
     grouped: &Option<GroupedBy>,
     having: &Option<written::Expr>,
-) -> Result<Option<Formula<RowLeaf>>, ResolveError>
-    ensures { Gives (λ f. option_map row_formula_of f) result (spec.having_meant (scope_of scope.now) (option_map grouped_by_of grouped.now) (view_option having.now)) }
+) -> Result<Option<BoundExpression<RowReference>>, ResolveError>
+    ensures { Gives (λ f. option_map row_expression_of f) result (spec.having_meant (scope_of scope.now) (option_map grouped_by_of grouped.now) (view_option having.now)) }
 {
     match having {
         None => Ok(None),
@@ -364,9 +368,9 @@ fn having_meant(
 fn narrow_below(
     alloc: Global,
     grouped: Option<GroupedBy>,
-    having: Option<Formula<RowLeaf>>,
+    having: Option<BoundExpression<RowReference>>,
 ) -> Result<Below, ResolveError>
-    ensures { Gives below_of result (spec.narrow_below (record { grouped = option_map grouped_by_of grouped; having = option_map row_formula_of having })) }
+    ensures { Gives below_of result (spec.narrow_below (record { grouped = option_map grouped_by_of grouped; having = option_map row_expression_of having })) }
 {
     let mut calls = Vec::new(alloc);
     add_having(&mut calls, &having)?;

@@ -4,21 +4,21 @@ ghost use Rattle.std.specs.Prelude.{◌≡◌, ◌≤◌, ◌∷◌, [], length,
 ghost use Rattle.std.specs.List.{list_any};
 ghost use Rattle.wd_plan.specs.Equality.{same_expression};
 ghost use Rattle.wd_plan.specs.Expressions.{Column, expression_of};
-ghost use Rattle.wd_resolve_operand.specs.Formulas.{leaves};
+ghost use Rattle.wd_resolve_operand.specs.BoundExpressions.{references};
 ghost use Rattle.wd_resolve_call.specs.Calls.{call_of, function_of};
-ghost use Rattle.wd_resolve_call.specs.Leaves.{call};
-ghost use Rattle.wd_resolve_call.specs.Rows.{aggregate_of, aggregated, group_call_of, row_formula_of, row_leaf_of, same_group_call};
+ghost use Rattle.wd_resolve_call.specs.References.{call};
+ghost use Rattle.wd_resolve_call.specs.Rows.{aggregate_of, aggregated, group_call_of, row_expression_of, row_reference_of, same_group_call};
 ghost use Rattle.wd_resolve_call.specs.Windows.{key_of};
-ghost use Rattle.wd_resolve_list.specs.Listing.{all_row_leaves, argument_of, group_argument_of, group_calls_among, group_calls_read, number_in, shared_call, sorted_by, with_new};
-ghost use Rattle.wd_resolve_list.specs.Listing as spec;
+ghost use Rattle.wd_resolve_list.specs.SelectLists.{all_row_references, argument_of, group_argument_of, group_calls_among, group_calls_read, number_in, shared_call, sorted_by, with_new};
+ghost use Rattle.wd_resolve_list.specs.SelectLists as spec;
 
 use crate::places::group_number;
 use std::alloc::Global;
 use std::rc::Rc;
 use wd_plan::Expr;
-use wd_resolve_operand::Formula;
+use wd_resolve_operand::BoundExpression;
 use wd_resolve_scope::{
-    AppliedAggregate, AppliedFunction, GroupCall, OrderKey, RowLeaf, WindowCall,
+    AppliedAggregate, AppliedFunction, GroupCall, OrderKey, RowReference, WindowCall,
 };
 use wd_value::OutOfMemory;
 
@@ -30,14 +30,14 @@ fn is_met(calls: &[Rc<GroupCall>], call: &GroupCall) -> bool
     group_number(calls, call) < calls.len()
 }
 
-/// Adds the call over groups that a leaf is, if it is new.
+/// Adds the call over groups that a reference is, if it is new.
 pub(crate) fn add_group_call(
     calls: &mut Vec<Rc<GroupCall>>,
-    leaf: &RowLeaf,
+    reference: &RowReference,
 ) -> Result<(), OutOfMemory>
-    ensures { IfOk result (λ u. map shared_call calls.new.items ≡ with_new same_group_call (map shared_call calls.old.items) (group_calls_among (row_leaf_of leaf.now ∷ []))) }
+    ensures { IfOk result (λ u. map shared_call calls.new.items ≡ with_new same_group_call (map shared_call calls.old.items) (group_calls_among (row_reference_of reference.now ∷ []))) }
 {
-    if let RowLeaf::Group(call) = leaf {
+    if let RowReference::Group(call) = reference {
         if !is_met(calls, call) {
             calls.push(call.clone()?)?;
         }
@@ -49,24 +49,25 @@ pub(crate) fn add_group_call(
 #[tactic(auto, using(crate::proofs::FirstMet::groups_added))]
 fn add_row_calls(
     calls: &mut Vec<Rc<GroupCall>>,
-    formula: &Formula<RowLeaf>,
+    expression: &BoundExpression<RowReference>,
 ) -> Result<(), OutOfMemory>
-    ensures { IfOk result (λ u. map shared_call calls.new.items ≡ with_new same_group_call (map shared_call calls.old.items) (group_calls_among (leaves (row_formula_of formula.now)))) }
+    ensures { IfOk result (λ u. map shared_call calls.new.items ≡ with_new same_group_call (map shared_call calls.old.items) (group_calls_among (references (row_expression_of expression.now)))) }
 {
-    match formula {
-        Formula::Leaf(leaf) => add_group_call(calls, leaf),
-        Formula::Literal(_, _) => Ok(()),
-        Formula::Negate(a) | Formula::Not(a) | Formula::IsNull(a) | Formula::IsNotNull(a) => {
-            add_row_calls(calls, a)
-        }
-        Formula::Arithmetic(_, a, b)
-        | Formula::Compare(_, a, b)
-        | Formula::And(a, b)
-        | Formula::Or(a, b) => {
+    match expression {
+        BoundExpression::Reference(reference) => add_group_call(calls, reference),
+        BoundExpression::Literal(_, _) => Ok(()),
+        BoundExpression::Negate(a)
+        | BoundExpression::Not(a)
+        | BoundExpression::IsNull(a)
+        | BoundExpression::IsNotNull(a) => { add_row_calls(calls, a) }
+        BoundExpression::Arithmetic(_, a, b)
+        | BoundExpression::Compare(_, a, b)
+        | BoundExpression::And(a, b)
+        | BoundExpression::Or(a, b) => {
             add_row_calls(calls, a)?;
             add_row_calls(calls, b)
         }
-        Formula::Case(_, a, b, c) => {
+        BoundExpression::Case(_, a, b, c) => {
             add_row_calls(calls, a)?;
             add_row_calls(calls, b)?;
             add_row_calls(calls, c)
@@ -75,12 +76,12 @@ fn add_row_calls(
 }
 
 /// Adds the calls over groups of an aggregate's value argument.
-#[tactic(auto, using(crate::proofs::FirstMet::one_formula))]
+#[tactic(auto, using(crate::proofs::FirstMet::one_bound_expression))]
 fn add_aggregate_calls(
     calls: &mut Vec<Rc<GroupCall>>,
-    aggregate: &AppliedAggregate<Formula<RowLeaf>>,
+    aggregate: &AppliedAggregate<BoundExpression<RowReference>>,
 ) -> Result<(), OutOfMemory>
-    ensures { IfOk result (λ u. map shared_call calls.new.items ≡ with_new same_group_call (map shared_call calls.old.items) (group_calls_among (all_row_leaves (aggregated (aggregate_of row_formula_of aggregate.now))))) }
+    ensures { IfOk result (λ u. map shared_call calls.new.items ≡ with_new same_group_call (map shared_call calls.old.items) (group_calls_among (all_row_references (aggregated (aggregate_of row_expression_of aggregate.now))))) }
 {
     match aggregate.argument() {
         None => Ok(()),
@@ -89,12 +90,12 @@ fn add_aggregate_calls(
 }
 
 /// Adds the calls over groups of a function's value argument.
-#[tactic(auto, using(crate::proofs::FirstMet::one_formula))]
+#[tactic(auto, using(crate::proofs::FirstMet::one_bound_expression))]
 fn add_argument_calls(
     calls: &mut Vec<Rc<GroupCall>>,
     function: &AppliedFunction,
 ) -> Result<(), OutOfMemory>
-    ensures { IfOk result (λ u. map shared_call calls.new.items ≡ with_new same_group_call (map shared_call calls.old.items) (group_calls_among (all_row_leaves (argument_of (function_of function.now))))) }
+    ensures { IfOk result (λ u. map shared_call calls.new.items ≡ with_new same_group_call (map shared_call calls.old.items) (group_calls_among (all_row_references (argument_of (function_of function.now))))) }
 {
     match function {
         AppliedFunction::Ranking(_) => Ok(()),
@@ -108,9 +109,9 @@ fn add_argument_calls(
 #[tactic(auto, using(crate::proofs::FirstMet::groups_added))]
 fn add_partition_calls(
     calls: &mut Vec<Rc<GroupCall>>,
-    expressions: &[Formula<RowLeaf>],
+    expressions: &[BoundExpression<RowReference>],
 ) -> Result<(), OutOfMemory>
-    ensures { IfOk result (λ u. map shared_call calls.new.items ≡ with_new same_group_call (map shared_call calls.old.items) (group_calls_among (all_row_leaves (map row_formula_of expressions.now)))) }
+    ensures { IfOk result (λ u. map shared_call calls.new.items ≡ with_new same_group_call (map shared_call calls.old.items) (group_calls_among (all_row_references (map row_expression_of expressions.now)))) }
 {
     for expression in expressions {
         add_row_calls(calls, expression)?;
@@ -121,7 +122,7 @@ fn add_partition_calls(
 /// Adds the calls over groups of the sort keys' expressions.
 #[tactic(auto, using(crate::proofs::FirstMet::groups_added))]
 fn add_order_calls(calls: &mut Vec<Rc<GroupCall>>, keys: &[OrderKey]) -> Result<(), OutOfMemory>
-    ensures { IfOk result (λ u. map shared_call calls.new.items ≡ with_new same_group_call (map shared_call calls.old.items) (group_calls_among (all_row_leaves (map sorted_by (map key_of keys.now))))) }
+    ensures { IfOk result (λ u. map shared_call calls.new.items ≡ with_new same_group_call (map shared_call calls.old.items) (group_calls_among (all_row_references (map sorted_by (map key_of keys.now))))) }
 {
     for key in keys {
         add_row_calls(calls, &key.expression)?;
@@ -145,9 +146,9 @@ pub(crate) fn add_groups_read(
 /// Adds the calls over groups of the condition of HAVING.
 pub(crate) fn add_having(
     calls: &mut Vec<Rc<GroupCall>>,
-    having: &Option<Formula<RowLeaf>>,
+    having: &Option<BoundExpression<RowReference>>,
 ) -> Result<(), OutOfMemory>
-    ensures { IfOk result (λ u. map shared_call calls.new.items ≡ spec.having_groups (map shared_call calls.old.items) (option_map row_formula_of having.now)) }
+    ensures { IfOk result (λ u. map shared_call calls.new.items ≡ spec.having_groups (map shared_call calls.old.items) (option_map row_expression_of having.now)) }
 {
     match having {
         None => Ok(()),
@@ -156,7 +157,7 @@ pub(crate) fn add_having(
 }
 
 /// Further references to these calls.
-pub(crate) fn shared(
+pub(crate) fn share_calls(
     alloc: Global,
     calls: &[Rc<GroupCall>],
 ) -> Result<Vec<Rc<GroupCall>>, OutOfMemory>
@@ -234,7 +235,7 @@ fn add_group_argument(
 }
 
 /// Columns of FROM as expressions.
-fn columns_shown(alloc: Global, columns: &[u16]) -> Result<Vec<Expr>, OutOfMemory>
+fn column_outputs(alloc: Global, columns: &[u16]) -> Result<Vec<Expr>, OutOfMemory>
     ensures { IfOk result (λ v. map expression_of v.items ≡ map Column columns.now) }
 {
     let mut expressions = Vec::with_capacity(alloc, columns.len())?;
@@ -253,7 +254,7 @@ pub fn group_inputs(
 ) -> Result<Vec<Expr>, OutOfMemory>
     ensures { IfOk result (λ v. map expression_of v.items ≡ spec.group_inputs columns.now (map shared_call calls.now)) }
 {
-    let mut inputs = columns_shown(alloc, columns)?;
+    let mut inputs = column_outputs(alloc, columns)?;
     for call in calls {
         add_group_argument(alloc, &mut inputs, call)?;
     }

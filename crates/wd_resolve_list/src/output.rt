@@ -1,8 +1,8 @@
 //! The outputs of a select, before there is a plan.
 
 use wd_plan::ValueKind;
-use wd_resolve_operand::Formula;
-use wd_resolve_scope::SelectLeaf;
+use wd_resolve_operand::BoundExpression;
+use wd_resolve_scope::SelectReference;
 use wd_value::Text;
 
 /// The name and the kind of an output.
@@ -16,6 +16,6 @@ pub struct OutputColumn {
 #[derive(Drop)]
 pub struct Output {
     pub name: Text,
-    pub expression: Formula<SelectLeaf>,
+    pub expression: BoundExpression<SelectReference>,
     pub kind: ValueKind,
 }

@@ -11,8 +11,8 @@ ghost use Rattle.wd_resolve_list.specs.Outputs as spec;
 
 use crate::output::Output;
 use std::alloc::Global;
-use wd_resolve_operand::{Cause, Formula, ResolveError};
-use wd_resolve_scope::{Context, RowLeaf, ScopeColumn, SelectLeaf, resolved};
+use wd_resolve_operand::{BoundExpression, Cause, ResolveError};
+use wd_resolve_scope::{Context, RowReference, ScopeColumn, SelectReference, resolve_expression};
 use wd_syntax as written;
 use wd_syntax::{Alias, Item, Sign};
 use wd_value::{OutOfMemory, Text};
@@ -35,7 +35,7 @@ fn name_of(tree: &written::Expr) -> &str
     }
 }
 
-fn name_shown<'a>(tree: &'a written::Expr, alias: &'a Option<Alias>) -> &'a str
+fn output_name<'a>(tree: &'a written::Expr, alias: &'a Option<Alias>) -> &'a str
     ensures { result.now ≡ spec.name_shown (view tree.now) alias.now }
 {
     match alias {
@@ -60,7 +60,7 @@ fn column_output(alloc: Global, number: u16, column: &ScopeColumn) -> Result<Out
 {
     Ok(Output {
         name: column.name.copy()?,
-        expression: Formula::Leaf(SelectLeaf::Row(RowLeaf::Column(number))),
+        expression: BoundExpression::Reference(SelectReference::Row(RowReference::Column(number))),
         kind: column.kind,
     })
 }
@@ -109,7 +109,7 @@ fn columns_of(
 }
 
 /// The columns of one table of FROM; 401 where there is none of that name.
-fn table_shown(
+fn outputs_of_table(
     alloc: Global,
     context: &Context<'_>,
     table: &Text,
@@ -124,7 +124,7 @@ fn table_shown(
 }
 
 /// The output of an expression of the select list.
-fn output_shown(
+fn resolve_output(
     alloc: Global,
     context: &Context<'_>,
     tree: &written::Expr,
@@ -132,11 +132,11 @@ fn output_shown(
 ) -> Result<Vec<Output>, ResolveError>
     ensures { Gives (λ v. map output_of v.items) result (spec.item_meant (context_of context.now) (shown (view tree.now) alias.now)) }
 {
-    let operand = resolved(alloc, context, tree)?;
+    let operand = resolve_expression(alloc, context, tree)?;
     let kind = operand.kind();
     let mut outputs = Vec::with_capacity(alloc, 1)?;
     outputs.push(Output {
-        name: Text::from_str(alloc, name_shown(tree, alias))?,
+        name: Text::from_str(alloc, output_name(tree, alias))?,
         expression: operand.settled(),
         kind,
     })?;
@@ -144,7 +144,7 @@ fn output_shown(
 }
 
 /// The outputs of a member of the select list.
-pub fn item_meant(
+pub fn resolve_item(
     alloc: Global,
     context: &Context<'_>,
     item: &Item,
@@ -153,7 +153,7 @@ pub fn item_meant(
 {
     match item {
         Item::All => columns_of(alloc, context, None),
-        Item::AllOf(table) => table_shown(alloc, context, &table.text),
-        Item::Expr(tree, alias) => output_shown(alloc, context, tree, alias),
+        Item::AllOf(table) => outputs_of_table(alloc, context, &table.text),
+        Item::Expr(tree, alias) => resolve_output(alloc, context, tree, alias),
     }
 }

@@ -1,12 +1,12 @@
-//! The columns of leaves of rows, in FROM or in a Group.
+//! The columns of references of rows, in FROM or in a Group.
 
 ghost use Rattle.std.specs.Prelude.{◌≡◌, ◌+◌, ◌≤◌, length, map, nat_eq};
-ghost use Rattle.wd_resolve_call.specs.Rows.{group_call_of, row_leaf_of, same_group_call};
-ghost use Rattle.wd_resolve_list.specs.Listing.{number_in, shared_call};
-ghost use Rattle.wd_resolve_list.specs.Listing as spec;
+ghost use Rattle.wd_resolve_call.specs.Rows.{group_call_of, row_reference_of, same_group_call};
+ghost use Rattle.wd_resolve_list.specs.SelectLists.{number_in, shared_call};
+ghost use Rattle.wd_resolve_list.specs.SelectLists as spec;
 
 use std::rc::Rc;
-use wd_resolve_scope::{GroupCall, RowLeaf, same_group_call};
+use wd_resolve_scope::{GroupCall, RowReference, same_group_call};
 
 /// The number of a column among those that are grouped by, and their number where it is not among them.
 pub fn column_number(columns: &[u16], column: u16) -> usize
@@ -34,23 +34,23 @@ pub(crate) fn group_number(calls: &[Rc<GroupCall>], call: &GroupCall) -> usize
     calls.len()
 }
 
-/// The column of FROM that a leaf of rows is.
-pub(crate) fn column_read(leaf: &RowLeaf) -> u16
-    ensures { result ≡ spec.column_of (row_leaf_of leaf.now) }
+/// The column of FROM that a reference of rows is.
+pub(crate) fn column_of_from(reference: &RowReference) -> u16
+    ensures { result ≡ spec.column_of (row_reference_of reference.now) }
 {
-    match leaf {
-        RowLeaf::Column(number) => *number,
-        RowLeaf::Group(_) => 0,
+    match reference {
+        RowReference::Column(number) => *number,
+        RowReference::Group(_) => 0,
     }
 }
 
-/// The column of a leaf of rows in a Group with these columns and calls.
-pub(crate) fn group_place(columns: &[u16], calls: &[Rc<GroupCall>], leaf: &RowLeaf) -> u16
+/// The column of a reference of rows in a Group with these columns and calls.
+pub(crate) fn group_place(columns: &[u16], calls: &[Rc<GroupCall>], reference: &RowReference) -> u16
     requires { length columns.now + length calls.now ≤ 1024 }
-    ensures { result ≡ spec.group_place columns.now (map shared_call calls.now) (row_leaf_of leaf.now) }
+    ensures { result ≡ spec.group_place columns.now (map shared_call calls.now) (row_reference_of reference.now) }
 {
-    match leaf {
-        RowLeaf::Column(number) => column_number(columns, *number) as u16,
-        RowLeaf::Group(call) => (columns.len() + group_number(calls, call)) as u16,
+    match reference {
+        RowReference::Column(number) => column_number(columns, *number) as u16,
+        RowReference::Group(call) => (columns.len() + group_number(calls, call)) as u16,
     }
 }

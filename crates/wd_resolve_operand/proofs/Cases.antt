@@ -7,7 +7,7 @@ use Rattle.wd_resolve_operand.specs.declared.cause.Cause.{Cause}
 use Rattle.wd_resolve_operand.specs.declared.cause.ResolveError.{ResolveError}
 use Rattle.wd_resolve_operand.specs.declared.cause.ResolveError.TheVariants.{Refused, OutOfMemory}
 use Rattle.wd_resolve_operand.specs.Causes.{Meant, Fails}
-use Rattle.wd_resolve_operand.specs.Formulas.{Formula}
+use Rattle.wd_resolve_operand.specs.BoundExpressions.{BoundExpression}
 use Rattle.wd_resolve_operand.specs.Operands.{Operand, arm_over, arms_over, branch_after}
 
 -- where the rest has no meaning, the whole has none
@@ -16,7 +16,7 @@ arms_err branch kind [] cause = refl
 arms_err branch kind (arm ∷ arms) cause = ap (arm_over branch kind arm) (arms_err Later kind arms cause)
 
 -- the last arm stands before the rest
-pub arms_push : {L : Type 0} (branch : Branch) (kind : ValueKind) (arms : List (Operand L × Operand L)) (arm : Operand L × Operand L) (rest : Meant (Formula L)) → arms_over branch kind (arms ++ arm ∷ []) rest ≡ arms_over branch kind arms (arm_over (branch_after branch arms) kind arm rest)
+pub arms_push : {L : Type 0} (branch : Branch) (kind : ValueKind) (arms : List (Operand L × Operand L)) (arm : Operand L × Operand L) (rest : Meant (BoundExpression L)) → arms_over branch kind (arms ++ arm ∷ []) rest ≡ arms_over branch kind arms (arm_over (branch_after branch arms) kind arm rest)
 arms_push branch kind [] arm rest = refl
 arms_push branch kind (other ∷ []) arm rest = refl
 arms_push branch kind (other ∷ another ∷ arms) arm rest = ap (arm_over branch kind other) (arms_push Later kind (another ∷ arms) arm rest)

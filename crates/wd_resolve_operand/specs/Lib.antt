@@ -1,4 +1,4 @@
 pub mod Causes
-pub mod Formulas
+pub mod BoundExpressions
 pub mod Operands
 pub mod Mappings

@@ -1,4 +1,4 @@
--- Trees made of expressions, by what each leaf becomes.
+-- Trees made of expressions, by what each reference becomes.
 use Rattle.std.specs.Prelude.{◌≡◌, ℕ, ◌+◌, List, [], ◌∷◌, ◌++◌, Option, Some, None, Result, Ok, Err}
 use Rattle.std.proofs.Common.{Bor}
 use Rattle.std.specs.List.{sum_by}
@@ -12,14 +12,14 @@ use Rattle.wd_resolve_operand.specs.declared.maker.Unary.TheVariants as unary
 use Rattle.wd_resolve_operand.specs.declared.maker.Binary.{Binary}
 use Rattle.wd_resolve_operand.specs.declared.maker.Binary.TheVariants as binary
 use Rattle.wd_resolve_operand.specs.declared.cause.ResolveError.{ResolveError}
-use Rattle.wd_resolve_operand.specs.declared.formula.Formula.{Formula as Code}
+use Rattle.wd_resolve_operand.specs.declared.expression.BoundExpression.{BoundExpression as Code}
 use Rattle.wd_resolve_operand.specs.declared.walk.Pending.{Pending}
 use Rattle.wd_resolve_operand.specs.declared.walk.Pending.TheVariants as pending
 use Rattle.wd_resolve_operand.specs.declared.walk.Step.{Step}
 use Rattle.wd_resolve_operand.specs.declared.walk.Step.TheVariants as step
 use Rattle.wd_resolve_operand.specs.Causes.{Fails, Meant, ◌>>=◌}
-use Rattle.wd_resolve_operand.specs.Formulas as f
-use Rattle.wd_resolve_operand.specs.Formulas.{Formula, formula_of, leaves}
+use Rattle.wd_resolve_operand.specs.BoundExpressions as f
+use Rattle.wd_resolve_operand.specs.BoundExpressions.{BoundExpression, bound_expression_of, references}
 
 -- how trees are made of their parts
 pub record Making (T : Type 0) : Type 0 where
@@ -28,20 +28,20 @@ pub record Making (T : Type 0) : Type 0 where
   pub between : Binary → T → T → T
   pub branch : Branch → T → T → T → T
 
-abbrev pub formula_under : {L : Type 0} → Unary → Formula L → Formula L
-formula_under unary.Negate a = f.Negate a
-formula_under unary.Not a = f.Not a
-formula_under unary.IsNull a = f.IsNull a
-formula_under unary.IsNotNull a = f.IsNotNull a
+abbrev pub bound_expression_under : {L : Type 0} → Unary → BoundExpression L → BoundExpression L
+bound_expression_under unary.Negate a = f.Negate a
+bound_expression_under unary.Not a = f.Not a
+bound_expression_under unary.IsNull a = f.IsNull a
+bound_expression_under unary.IsNotNull a = f.IsNotNull a
 
-abbrev pub formula_between : {L : Type 0} → Binary → Formula L → Formula L → Formula L
-formula_between (binary.Arithmetic op) a b = f.Arithmetic op a b
-formula_between (binary.Compare op) a b = f.Compare op a b
-formula_between binary.And a b = f.And a b
-formula_between binary.Or a b = f.Or a b
+abbrev pub bound_expression_between : {L : Type 0} → Binary → BoundExpression L → BoundExpression L → BoundExpression L
+bound_expression_between (binary.Arithmetic op) a b = f.Arithmetic op a b
+bound_expression_between (binary.Compare op) a b = f.Compare op a b
+bound_expression_between binary.And a b = f.And a b
+bound_expression_between binary.Or a b = f.Or a b
 
-abbrev pub formulas : {L : Type 0} → Making (Formula L)
-formulas = record { literal = f.Literal; under = formula_under; between = formula_between; branch = f.Case }
+abbrev pub expressions : {L : Type 0} → Making (BoundExpression L)
+expressions = record { literal = f.Literal; under = bound_expression_under; between = bound_expression_between; branch = f.Case }
 
 abbrev pub expression_under : Unary → Expression → Expression
 expression_under unary.Negate a = e.Negate a
@@ -58,32 +58,32 @@ expression_between binary.Or a b = e.Or a b
 abbrev pub expressions : Making Expression
 expressions = record { literal = e.Literal; under = expression_under; between = expression_between; branch = e.Case }
 
--- what a leaf becomes, as an expression
-abbrev pub leaf_over : {K L : Type 0} → (K → Meant L) → K → Meant (Formula L)
-leaf_over leaf k = leaf k >>= λ l. Ok (f.Leaf l)
+-- what a reference becomes, as an expression
+abbrev pub reference_over : {K L : Type 0} → (K → Meant L) → K → Meant (BoundExpression L)
+reference_over reference k = reference k >>= λ l. Ok (f.Reference l)
 
 abbrev pub column_over : {K : Type 0} → (K → Meant ℕ) → K → Meant Expression
 column_over at k = at k >>= λ n. Ok (e.Column n)
 
--- the tree made of an expression, where each leaf becomes a tree; the first leaf that becomes none decides
-abbrev pub mapped : {K T : Type 0} → Making T → (K → Meant T) → Formula K → Meant T
-mapped made leaf (f.Leaf l) = leaf l
-mapped made leaf (f.Literal v kind) = Ok (made.literal v kind)
-mapped made leaf (f.Negate a) = mapped made leaf a >>= λ x. Ok (made.under unary.Negate x)
-mapped made leaf (f.Arithmetic op a b) = mapped made leaf a >>= λ x. mapped made leaf b >>= λ y. Ok (made.between (binary.Arithmetic op) x y)
-mapped made leaf (f.Compare op a b) = mapped made leaf a >>= λ x. mapped made leaf b >>= λ y. Ok (made.between (binary.Compare op) x y)
-mapped made leaf (f.Not a) = mapped made leaf a >>= λ x. Ok (made.under unary.Not x)
-mapped made leaf (f.And a b) = mapped made leaf a >>= λ x. mapped made leaf b >>= λ y. Ok (made.between binary.And x y)
-mapped made leaf (f.Or a b) = mapped made leaf a >>= λ x. mapped made leaf b >>= λ y. Ok (made.between binary.Or x y)
-mapped made leaf (f.IsNull a) = mapped made leaf a >>= λ x. Ok (made.under unary.IsNull x)
-mapped made leaf (f.IsNotNull a) = mapped made leaf a >>= λ x. Ok (made.under unary.IsNotNull x)
-mapped made leaf (f.Case branch a b c) = mapped made leaf a >>= λ x. mapped made leaf b >>= λ y. mapped made leaf c >>= λ z. Ok (made.branch branch x y z)
+-- the tree made of an expression, where each reference becomes a tree; the first reference that becomes none decides
+abbrev pub mapped : {K T : Type 0} → Making T → (K → Meant T) → BoundExpression K → Meant T
+mapped made reference (f.Reference l) = reference l
+mapped made reference (f.Literal v kind) = Ok (made.literal v kind)
+mapped made reference (f.Negate a) = mapped made reference a >>= λ x. Ok (made.under unary.Negate x)
+mapped made reference (f.Arithmetic op a b) = mapped made reference a >>= λ x. mapped made reference b >>= λ y. Ok (made.between (binary.Arithmetic op) x y)
+mapped made reference (f.Compare op a b) = mapped made reference a >>= λ x. mapped made reference b >>= λ y. Ok (made.between (binary.Compare op) x y)
+mapped made reference (f.Not a) = mapped made reference a >>= λ x. Ok (made.under unary.Not x)
+mapped made reference (f.And a b) = mapped made reference a >>= λ x. mapped made reference b >>= λ y. Ok (made.between binary.And x y)
+mapped made reference (f.Or a b) = mapped made reference a >>= λ x. mapped made reference b >>= λ y. Ok (made.between binary.Or x y)
+mapped made reference (f.IsNull a) = mapped made reference a >>= λ x. Ok (made.under unary.IsNull x)
+mapped made reference (f.IsNotNull a) = mapped made reference a >>= λ x. Ok (made.under unary.IsNotNull x)
+mapped made reference (f.Case branch a b c) = mapped made reference a >>= λ x. mapped made reference b >>= λ y. mapped made reference c >>= λ z. Ok (made.branch branch x y z)
 
 -- ---- what is still to be done
 
-module _ {K L T S : Type 0} (read : K → L) (shown : T → S) (made : Making S) (leaf : L → Meant S) where
+module _ {K L T S : Type 0} (read : K → L) (shown : T → S) (made : Making S) (reference : L → Meant S) where
   abbrev pub mapped_of : Code K → Meant S
-  mapped_of formula = mapped made leaf (formula_of read formula)
+  mapped_of expression = mapped made reference (bound_expression_of read expression)
 
   -- what becomes of the tree of an operand
   abbrev pub closed : Pending K T → S → Meant S
@@ -109,8 +109,8 @@ module _ {K L T S : Type 0} (read : K → L) (shown : T → S) (made : Making S)
   Leads (Err e) meant = Fails e meant
 
 -- how many steps an expression takes
-abbrev pub steps : {L : Type 0} → Formula L → ℕ
-steps (f.Leaf l) = 1
+abbrev pub steps : {L : Type 0} → BoundExpression L → ℕ
+steps (f.Reference l) = 1
 steps (f.Literal v kind) = 1
 steps (f.Negate a) = steps a + 2
 steps (f.Arithmetic op a b) = steps a + steps b + 3
@@ -123,7 +123,7 @@ steps (f.IsNotNull a) = steps a + 2
 steps (f.Case branch a b c) = steps a + steps b + steps c + 4
 
 abbrev pub part_steps : {K L : Type 0} → (K → L) → Code K → ℕ
-part_steps read formula = steps (formula_of read formula)
+part_steps read expression = steps (bound_expression_of read expression)
 
 module _ {K L T : Type 0} (read : K → L) where
   abbrev pub pending_steps : Pending K T → ℕ
@@ -138,17 +138,17 @@ module _ {K L T : Type 0} (read : K → L) where
   steps_left (step.Made tree) = 0
   steps_left (step.Into outer part) = part_steps read part.now + pending_steps outer
 
--- ---- leaves
+-- ---- references
 
--- the leaf that was met, if one was
-abbrev pub leaf_or_none : {K L : Type 0} → (K → L) → Option (Bor K) → List L
-leaf_or_none shown None = []
-leaf_or_none shown (Some k) = shown k.now ∷ []
+-- the reference that was met, if one was
+abbrev pub reference_or_none : {K L : Type 0} → (K → L) → Option (Bor K) → List L
+reference_or_none shown None = []
+reference_or_none shown (Some k) = shown k.now ∷ []
 
--- the leaves of the expressions that wait, the last one first
+-- the references of the expressions that wait, the last one first
 abbrev pub waiting : {K L : Type 0} → (K → L) → List (Bor (Code K)) → List L
 waiting shown [] = []
-waiting shown (f ∷ fs) = waiting shown fs ++ leaves (formula_of shown f.now)
+waiting shown (f ∷ fs) = waiting shown fs ++ references (bound_expression_of shown f.now)
 
 -- how many steps the waiting expressions take
 abbrev pub waiting_steps : {K L : Type 0} → (K → L) → List (Bor (Code K)) → ℕ

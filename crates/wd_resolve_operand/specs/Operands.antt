@@ -16,27 +16,27 @@ use Rattle.wd_plan.specs.declared.expression.Branch.{Branch}
 use Rattle.wd_plan.specs.declared.expression.Branch.TheVariants.{First, Later}
 use Rattle.wd_plan.specs.Fits.{same_kind}
 use Rattle.wd_resolve_operand.specs.declared.cause.Cause.TheVariants.{Types}
-use Rattle.wd_resolve_operand.specs.declared.meaning.Meaning.{Meaning}
-use Rattle.wd_resolve_operand.specs.declared.meaning.Meaning.TheVariants as code
+use Rattle.wd_resolve_operand.specs.declared.meaning.TypedOperand.{TypedOperand}
+use Rattle.wd_resolve_operand.specs.declared.meaning.TypedOperand.TheVariants as code
 use Rattle.wd_resolve_operand.specs.declared.operator.CaseArm.{CaseArm}
 use Rattle.wd_resolve_operand.specs.Causes.{Meant, ◌>>=◌}
-use Rattle.wd_resolve_operand.specs.Formulas as f
-use Rattle.wd_resolve_operand.specs.Formulas.{Formula, formula_of}
+use Rattle.wd_resolve_operand.specs.BoundExpressions as f
+use Rattle.wd_resolve_operand.specs.BoundExpressions.{BoundExpression, bound_expression_of}
 
 -- a bare NULL, whose kind its place decides, or an expression and the kind of its values
 pub data Operand (L : Type 0) : Type 0 where
   bare_null : Operand L
-  typed : Formula L → ValueKind → Operand L
+  typed : BoundExpression L → ValueKind → Operand L
 
--- the operand that a value of the code shows, by what its leaves show
-abbrev pub operand_of : {C L : Type 0} → (C → L) → Meaning C → Operand L
+-- the operand that a value of the code shows, by what its references show
+abbrev pub operand_of : {C L : Type 0} → (C → L) → TypedOperand C → Operand L
 operand_of shown code.Null = bare_null
-operand_of shown (code.Typed a kind) = typed (formula_of shown a.value) kind
+operand_of shown (code.Typed a kind) = typed (bound_expression_of shown a.value) kind
 
 -- ---- the kind that a place requires
 
 -- an operand in a place that requires a kind: a bare NULL takes it, and any other operand has to have it
-abbrev pub of_kind : {L : Type 0} → ValueKind → Operand L → Meant (Formula L)
+abbrev pub of_kind : {L : Type 0} → ValueKind → Operand L → Meant (BoundExpression L)
 of_kind kind bare_null = Ok (f.Literal Null kind)
 of_kind kind (typed a other) = if same_kind kind other then Ok a else Err Types
 
@@ -45,7 +45,7 @@ abbrev pub kind_of : {L : Type 0} → Operand L → ValueKind
 kind_of bare_null = Text
 kind_of (typed a kind) = kind
 
-abbrev pub settled : {L : Type 0} → Operand L → Formula L
+abbrev pub settled : {L : Type 0} → Operand L → BoundExpression L
 settled bare_null = f.Literal Null Text
 settled (typed a kind) = a
 
@@ -86,7 +86,7 @@ signed_number s.Minus n = if nat_le n (2 ^ 63) then int_literal (neg_ℤ (pos n)
 -- ---- operators
 
 -- a plus adds no node
-abbrev pub sign_over : {L : Type 0} → Sign → Formula L → Formula L
+abbrev pub sign_over : {L : Type 0} → Sign → BoundExpression L → BoundExpression L
 sign_over s.Plus a = a
 sign_over s.Minus a = f.Negate a
 
@@ -97,7 +97,7 @@ abbrev pub negated : {L : Type 0} → Operand L → Meant (Operand L)
 negated a = of_kind Truth a >>= λ inner. Ok (typed (f.Not inner) Truth)
 
 -- IS NULL, or IS NOT NULL where true
-abbrev pub null_test : {L : Type 0} → Bool → Formula L → Formula L
+abbrev pub null_test : {L : Type 0} → Bool → BoundExpression L → BoundExpression L
 null_test true a = f.IsNotNull a
 null_test false a = f.IsNull a
 
@@ -125,7 +125,7 @@ given_by o.Remainder = Number
 given_by operator = Truth
 
 -- an operator over two expressions
-abbrev pub over_both : {L : Type 0} → Operator → Formula L → Formula L → Formula L
+abbrev pub over_both : {L : Type 0} → Operator → BoundExpression L → BoundExpression L → BoundExpression L
 over_both o.Or a b = f.Or a b
 over_both o.And a b = f.And a b
 over_both o.Equal a b = f.Compare comparison.Equal a b
@@ -154,7 +154,7 @@ abbrev pub arm_of : {C L : Type 0} → (C → L) → CaseArm C → Operand L × 
 arm_of shown arm = (operand_of shown arm.when, operand_of shown arm.gives)
 
 -- WHEN a truth value THEN a result of this kind, followed by the rest; a wrong type is the only cause in either
-abbrev pub arm_over : {L : Type 0} → Branch → ValueKind → Operand L × Operand L → Meant (Formula L) → Meant (Formula L)
+abbrev pub arm_over : {L : Type 0} → Branch → ValueKind → Operand L × Operand L → Meant (BoundExpression L) → Meant (BoundExpression L)
 arm_over branch kind arm rest = do
   otherwise ← rest
   when ← of_kind Truth arm.0
@@ -162,7 +162,7 @@ arm_over branch kind arm rest = do
   Ok (f.Case branch when gives otherwise)
 
 -- the branches of a CASE from this one on, followed by its rest
-abbrev pub arms_over : {L : Type 0} → Branch → ValueKind → List (Operand L × Operand L) → Meant (Formula L) → Meant (Formula L)
+abbrev pub arms_over : {L : Type 0} → Branch → ValueKind → List (Operand L × Operand L) → Meant (BoundExpression L) → Meant (BoundExpression L)
 arms_over branch kind [] rest = rest
 arms_over branch kind (arm ∷ arms) rest = arm_over branch kind arm (arms_over Later kind arms rest)
 

@@ -5,8 +5,8 @@ ghost use Rattle.wd_resolve_operand.specs.Operands.{operand_of};
 ghost use Rattle.wd_resolve_operand.specs.Operands as spec;
 
 use crate::cause::{Cause, ResolveError};
-use crate::formula::{Formula, Leaf};
-use crate::meaning::Meaning;
+use crate::expression::{BoundExpression, Reference};
+use crate::meaning::TypedOperand;
 use std::alloc::Global;
 use wd_plan::ValueKind;
 use wd_syntax::{Literal, Sign};
@@ -29,45 +29,52 @@ pub fn number(n: u64) -> Result<u64, ResolveError>
     }
 }
 
-fn number_literal<L: Leaf>(alloc: Global, n: u64) -> Result<Meaning<L>, ResolveError>
+fn number_literal<L: Reference>(alloc: Global, n: u64) -> Result<TypedOperand<L>, ResolveError>
     ensures { Gives (operand_of L.shown) result (spec.unsigned_number n) }
 {
     let value = Value::Int(number(n)? as i64);
-    Meaning::typed(
+    TypedOperand::typed(
         alloc,
-        Formula::Literal(value, ValueKind::Number),
+        BoundExpression::Literal(value, ValueKind::Number),
         ValueKind::Number,
     )
 }
 
 /// A literal; a bare NULL has no kind of its own.
-pub fn literal<L: Leaf>(alloc: Global, literal: &Literal) -> Result<Meaning<L>, ResolveError>
+pub fn literal<L: Reference>(
+    alloc: Global,
+    literal: &Literal,
+) -> Result<TypedOperand<L>, ResolveError>
     ensures { Gives (operand_of L.shown) result (spec.literal literal.now) }
 {
     match literal {
         Literal::Number(n) => number_literal(alloc, *n),
         Literal::Text(text) => {
             let value = Value::Text(text.copy()?);
-            Meaning::typed(
+            TypedOperand::typed(
                 alloc,
-                Formula::Literal(value, ValueKind::Text),
+                BoundExpression::Literal(value, ValueKind::Text),
                 ValueKind::Text,
             )
         }
         Literal::Truth(truth) => {
             let value = Value::Bool(*truth);
-            Meaning::typed(
+            TypedOperand::typed(
                 alloc,
-                Formula::Literal(value, ValueKind::Truth),
+                BoundExpression::Literal(value, ValueKind::Truth),
                 ValueKind::Truth,
             )
         }
-        Literal::Null => Ok(Meaning::Null),
+        Literal::Null => Ok(TypedOperand::Null),
     }
 }
 
 /// A number with a sign directly before it; 9223372036854775808 is allowed only after a minus.
-pub fn signed_number<L: Leaf>(alloc: Global, sign: Sign, n: u64) -> Result<Meaning<L>, ResolveError>
+pub fn signed_number<L: Reference>(
+    alloc: Global,
+    sign: Sign,
+    n: u64,
+) -> Result<TypedOperand<L>, ResolveError>
     ensures { Gives (operand_of L.shown) result (spec.signed_number sign n) }
 {
     match sign {
@@ -82,9 +89,9 @@ pub fn signed_number<L: Leaf>(alloc: Global, sign: Sign, n: u64) -> Result<Meani
     }
 }
 
-fn int_literal<L: Leaf>(alloc: Global, n: i64) -> Result<Meaning<L>, ResolveError>
+fn int_literal<L: Reference>(alloc: Global, n: i64) -> Result<TypedOperand<L>, ResolveError>
     ensures { Gives (operand_of L.shown) result (spec.int_literal n) }
 {
-    let literal = Formula::Literal(Value::Int(n), ValueKind::Number);
-    Meaning::typed(alloc, literal, ValueKind::Number)
+    let literal = BoundExpression::Literal(Value::Int(n), ValueKind::Number);
+    TypedOperand::typed(alloc, literal, ValueKind::Number)
 }

@@ -1,4 +1,4 @@
-//! How trees of literals and operators are made from what the leaves of an expression become.
+//! How trees of literals and operators are made from what the references of an expression become.
 
 ghost use Rattle.std.specs.Prelude.{◌≡◌};
 ghost use Rattle.wd_resolve_operand.specs.Causes.{Gives, Meant};
@@ -27,7 +27,7 @@ pub(crate) enum Binary {
     Or,
 }
 
-/// Makes a tree of what leaves become, of literals and of operators.
+/// Makes a tree of what references become, of literals and of operators.
 pub(crate) trait Maker {
     type From: Drop;
 
@@ -45,9 +45,9 @@ pub(crate) trait Maker {
 
     ghost meaning: { Self → Read → Meant Shown };
 
-    /// The tree in place of a leaf.
-    fn leaf(&self, alloc: Global, leaf: &Self::From) -> Result<Self::To, ResolveError>
-        ensures { Gives shown result (meaning self.now (read leaf.now)) };
+    /// The tree in place of a reference.
+    fn reference(&self, alloc: Global, reference: &Self::From) -> Result<Self::To, ResolveError>
+        ensures { Gives shown result (meaning self.now (read reference.now)) };
 
     fn literal(value: Value, kind: ValueKind) -> Self::To
         ensures { shown result ≡ making.literal value kind };

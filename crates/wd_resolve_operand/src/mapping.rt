@@ -1,20 +1,20 @@
-//! Expressions over other leaves, and over columns.
+//! Expressions over other references, and over columns.
 
 ghost use Rattle.std.specs.Prelude.{ℕ};
 ghost use Rattle.wd_plan.specs.Expressions.{expression_of};
 ghost use Rattle.wd_resolve_operand.specs.Causes.{Gives, Meant};
-ghost use Rattle.wd_resolve_operand.specs.Formulas.{formula_of, over_columns, over_leaves};
+ghost use Rattle.wd_resolve_operand.specs.BoundExpressions.{bound_expression_of, over_columns, over_references};
 
 use crate::cause::ResolveError;
-use crate::formula::Formula;
+use crate::expression::BoundExpression;
 use crate::maker::{Binary, Maker, Unary};
-use crate::walk::made;
+use crate::walk::make;
 use std::alloc::Global;
 use wd_plan::{Branch, Expr, ValueKind};
 use wd_value::Value;
 
-/// Which leaf each leaf becomes.
-pub trait LeafMap {
+/// Which reference each reference becomes.
+pub trait ReferenceMap {
     type From: Drop;
 
     type To: Drop;
@@ -29,12 +29,12 @@ pub trait LeafMap {
 
     ghost meaning: { Self → Read → Meant Shown };
 
-    /// The leaf in place of another.
-    fn leaf(&self, alloc: Global, leaf: &Self::From) -> Result<Self::To, ResolveError>
-        ensures { Gives shown result (meaning self.now (read leaf.now)) };
+    /// The reference in place of another.
+    fn reference(&self, alloc: Global, reference: &Self::From) -> Result<Self::To, ResolveError>
+        ensures { Gives shown result (meaning self.now (read reference.now)) };
 }
 
-/// The column of each leaf.
+/// The column of each reference.
 pub trait ColumnMap {
     type From: Drop;
 
@@ -44,48 +44,48 @@ pub trait ColumnMap {
 
     ghost meaning: { Self → Read → Meant ℕ };
 
-    /// The column of a leaf.
-    fn column(&self, leaf: &Self::From) -> Result<u16, ResolveError>
-        ensures { Gives (λ n. n) result (meaning self.now (read leaf.now)) };
+    /// The column of a reference.
+    fn column(&self, reference: &Self::From) -> Result<u16, ResolveError>
+        ensures { Gives (λ n. n) result (meaning self.now (read reference.now)) };
 }
 
-/// An expression with each leaf replaced.
-#[tactic(auto, using(crate::proofs::Mapped::mapped_over_leaves))]
-pub fn over_leaves<M: LeafMap>(
+/// An expression with each reference replaced.
+#[tactic(auto, using(crate::proofs::Mapped::mapped_over_references))]
+pub fn over_references<M: ReferenceMap>(
     alloc: Global,
     map: &M,
-    formula: &Formula<M::From>,
-) -> Result<Formula<M::To>, ResolveError>
-    ensures { Gives (formula_of M.shown) result (over_leaves (M.meaning map.now) (formula_of M.read formula.now)) }
+    expression: &BoundExpression<M::From>,
+) -> Result<BoundExpression<M::To>, ResolveError>
+    ensures { Gives (bound_expression_of M.shown) result (over_references (M.meaning map.now) (bound_expression_of M.read expression.now)) }
 {
-    made(alloc, &OverLeaves { map }, formula)
+    make(alloc, &OverReferences { map }, expression)
 }
 
-/// The expression over the columns of its leaves.
+/// The expression over the columns of its references.
 pub fn over_columns<M: ColumnMap>(
     alloc: Global,
     map: &M,
-    formula: &Formula<M::From>,
+    expression: &BoundExpression<M::From>,
 ) -> Result<Expr, ResolveError>
-    ensures { Gives expression_of result (over_columns (M.meaning map.now) (formula_of M.read formula.now)) }
+    ensures { Gives expression_of result (over_columns (M.meaning map.now) (bound_expression_of M.read expression.now)) }
 {
-    made(alloc, &OverColumns { map }, formula)
+    make(alloc, &OverColumns { map }, expression)
 }
 
-/// Makes expressions over other leaves.
+/// Makes expressions over other references.
 #[derive(Drop)]
-struct OverLeaves<'m, M> {
+struct OverReferences<'m, M> {
     map: &'m M,
 }
 
-impl<'m, M: LeafMap> Maker for OverLeaves<'m, M> {
+impl<'m, M: ReferenceMap> Maker for OverReferences<'m, M> {
     ghost use Rattle.std.specs.Prelude.{◌≡◌};
-    ghost use Rattle.wd_resolve_operand.specs.Formulas.{Formula as Tree};
-    ghost use Rattle.wd_resolve_operand.specs.Mappings.{formulas, leaf_over};
+    ghost use Rattle.wd_resolve_operand.specs.BoundExpressions.{BoundExpression as Tree};
+    ghost use Rattle.wd_resolve_operand.specs.Mappings.{expressions, reference_over};
 
     type From = M::From;
 
-    type To = Formula<M::To>;
+    type To = BoundExpression<M::To>;
 
     ghost Read = { M.Read };
 
@@ -93,51 +93,59 @@ impl<'m, M: LeafMap> Maker for OverLeaves<'m, M> {
 
     ghost Shown = { Tree M.Shown };
 
-    ghost shown = { formula_of M.shown };
+    ghost shown = { bound_expression_of M.shown };
 
-    ghost making = { formulas };
+    ghost making = { expressions };
 
-    ghost meaning = { λ s l. leaf_over (M.meaning s.map.now) l };
+    ghost meaning = { λ s l. reference_over (M.meaning s.map.now) l };
 
-    fn leaf(&self, alloc: Global, leaf: &M::From) -> Result<Formula<M::To>, ResolveError> {
-        Ok(Formula::Leaf(self.map.leaf(alloc, leaf)?))
+    fn reference(
+        &self,
+        alloc: Global,
+        reference: &M::From,
+    ) -> Result<BoundExpression<M::To>, ResolveError> {
+        Ok(BoundExpression::Reference(self.map.reference(alloc, reference)?))
     }
 
-    fn literal(value: Value, kind: ValueKind) -> Formula<M::To> {
-        Formula::Literal(value, kind)
+    fn literal(value: Value, kind: ValueKind) -> BoundExpression<M::To> {
+        BoundExpression::Literal(value, kind)
     }
 
-    fn under(operator: Unary, a: Box<Formula<M::To>>) -> Formula<M::To>
-        ensures { formula_of M.shown result ≡ formulas.under operator (formula_of M.shown a.value) }
+    fn under(operator: Unary, a: Box<BoundExpression<M::To>>) -> BoundExpression<M::To>
+        ensures { bound_expression_of M.shown result ≡ expressions.under operator (bound_expression_of M.shown a.value) }
     {
         match operator {
-            Unary::Negate => Formula::Negate(a),
-            Unary::Not => Formula::Not(a),
-            Unary::IsNull => Formula::IsNull(a),
-            Unary::IsNotNull => Formula::IsNotNull(a),
+            Unary::Negate => BoundExpression::Negate(a),
+            Unary::Not => BoundExpression::Not(a),
+            Unary::IsNull => BoundExpression::IsNull(a),
+            Unary::IsNotNull => BoundExpression::IsNotNull(a),
         }
     }
 
-    fn between(operator: Binary, a: Box<Formula<M::To>>, b: Box<Formula<M::To>>) -> Formula<M::To>
-        ensures { formula_of M.shown result ≡ formulas.between operator (formula_of M.shown a.value) (formula_of M.shown b.value) }
+    fn between(
+        operator: Binary,
+        a: Box<BoundExpression<M::To>>,
+        b: Box<BoundExpression<M::To>>,
+    ) -> BoundExpression<M::To>
+        ensures { bound_expression_of M.shown result ≡ expressions.between operator (bound_expression_of M.shown a.value) (bound_expression_of M.shown b.value) }
     {
         match operator {
-            Binary::Arithmetic(op) => Formula::Arithmetic(op, a, b),
-            Binary::Compare(op) => Formula::Compare(op, a, b),
-            Binary::And => Formula::And(a, b),
-            Binary::Or => Formula::Or(a, b),
+            Binary::Arithmetic(op) => BoundExpression::Arithmetic(op, a, b),
+            Binary::Compare(op) => BoundExpression::Compare(op, a, b),
+            Binary::And => BoundExpression::And(a, b),
+            Binary::Or => BoundExpression::Or(a, b),
         }
     }
 
     fn branch(
         branch: Branch,
-        a: Box<Formula<M::To>>,
-        b: Box<Formula<M::To>>,
-        c: Box<Formula<M::To>>,
-    ) -> Formula<M::To>
-        ensures { formula_of M.shown result ≡ formulas.branch branch (formula_of M.shown a.value) (formula_of M.shown b.value) (formula_of M.shown c.value) }
+        a: Box<BoundExpression<M::To>>,
+        b: Box<BoundExpression<M::To>>,
+        c: Box<BoundExpression<M::To>>,
+    ) -> BoundExpression<M::To>
+        ensures { bound_expression_of M.shown result ≡ expressions.branch branch (bound_expression_of M.shown a.value) (bound_expression_of M.shown b.value) (bound_expression_of M.shown c.value) }
     {
-        Formula::Case(branch, a, b, c)
+        BoundExpression::Case(branch, a, b, c)
     }
 }
 
@@ -168,8 +176,8 @@ impl<'m, M: ColumnMap> Maker for OverColumns<'m, M> {
 
     ghost meaning = { λ s l. column_over (M.meaning s.map.now) l };
 
-    fn leaf(&self, alloc: Global, leaf: &M::From) -> Result<Expr, ResolveError> {
-        Ok(Expr::Column(self.map.column(leaf)?))
+    fn reference(&self, alloc: Global, reference: &M::From) -> Result<Expr, ResolveError> {
+        Ok(Expr::Column(self.map.column(reference)?))
     }
 
     fn literal(value: Value, kind: ValueKind) -> Expr {

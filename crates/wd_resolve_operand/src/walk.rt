@@ -3,11 +3,11 @@
 
 ghost use Rattle.std.specs.Prelude.{◌<◌, IfOk};
 ghost use Rattle.wd_resolve_operand.specs.Causes.{Gives};
-ghost use Rattle.wd_resolve_operand.specs.Formulas.{formula_of};
+ghost use Rattle.wd_resolve_operand.specs.BoundExpressions.{bound_expression_of};
 ghost use Rattle.wd_resolve_operand.specs.Mappings.{Leads, closed, mapped, part_steps, pending_steps, steps_left};
 
 use crate::cause::ResolveError;
-use crate::formula::Formula;
+use crate::expression::BoundExpression;
 use crate::maker::{Binary, Maker, Unary};
 use std::alloc::Global;
 use wd_plan::Branch;
@@ -17,11 +17,11 @@ use wd_plan::Branch;
 enum Pending<'f, K, T> {
     Under(Unary),
     /// The tree is that of a left operand; the right operand's is still to be made.
-    Left(Binary, &'f Formula<K>),
+    Left(Binary, &'f BoundExpression<K>),
     Right(Binary, Box<T>),
     /// The tree is that of a branch's condition; those of the result and of the rest are still to be made.
-    Condition(Branch, &'f Formula<K>, &'f Formula<K>),
-    Result(Branch, Box<T>, &'f Formula<K>),
+    Condition(Branch, &'f BoundExpression<K>, &'f BoundExpression<K>),
+    Result(Branch, Box<T>, &'f BoundExpression<K>),
     Rest(Branch, Box<T>, Box<T>),
 }
 
@@ -29,65 +29,74 @@ enum Pending<'f, K, T> {
 #[derive(Drop)]
 enum Step<'f, K, T> {
     Made(T),
-    Into(Pending<'f, K, T>, &'f Formula<K>),
+    Into(Pending<'f, K, T>, &'f BoundExpression<K>),
 }
 
 /// The tree that is made of an expression.
 #[tactic(auto, using(crate::proofs::Walked::all_closed_push, crate::proofs::Walked::all_closed_err))]
-pub(crate) fn made<M: Maker>(
+pub(crate) fn make<M: Maker>(
     alloc: Global,
     maker: &M,
-    formula: &Formula<M::From>,
+    expression: &BoundExpression<M::From>,
 ) -> Result<M::To, ResolveError>
-    ensures { Gives M.shown result (mapped M.making (M.meaning maker.now) (formula_of M.read formula.now)) }
+    ensures { Gives M.shown result (mapped M.making (M.meaning maker.now) (bound_expression_of M.read expression.now)) }
 {
     let mut pending = Vec::new(alloc);
-    let mut step = opened(alloc, maker, formula)?;
+    let mut step = open(alloc, maker, expression)?;
     loop {
         match step {
             Step::Into(outer, part) => {
                 pending.push(outer)?;
-                step = opened(alloc, maker, part)?;
+                step = open(alloc, maker, part)?;
             }
             Step::Made(tree) => {
                 let Some(outer) = pending.pop() else {
                     return Ok(tree);
                 };
-                step = closed(alloc, maker, outer, tree)?;
+                step = close(alloc, maker, outer, tree)?;
             }
         }
     }
 }
 
 /// The first step into an expression: along its left side.
-fn opened<'f, M: Maker>(
+fn open<'f, M: Maker>(
     alloc: Global,
     maker: &M,
-    formula: &'f Formula<M::From>,
+    expression: &'f BoundExpression<M::From>,
 ) -> Result<Step<'f, M::From, M::To>, ResolveError>
-    ensures leads { Leads M.read M.shown M.making (M.meaning maker.now) result (mapped M.making (M.meaning maker.now) (formula_of M.read formula.now)) }
-    ensures fewer { IfOk result (λ s. steps_left M.read s < part_steps M.read formula.now) }
+    ensures leads { Leads M.read M.shown M.making (M.meaning maker.now) result (mapped M.making (M.meaning maker.now) (bound_expression_of M.read expression.now)) }
+    ensures fewer { IfOk result (λ s. steps_left M.read s < part_steps M.read expression.now) }
 {
-    match formula {
-        Formula::Leaf(leaf) => Ok(Step::Made(maker.leaf(alloc, leaf)?)),
-        Formula::Literal(value, kind) => Ok(Step::Made(M::literal(value.copy(alloc)?, *kind))),
-        Formula::Negate(a) => Ok(Step::Into(Pending::Under(Unary::Negate), a)),
-        Formula::Arithmetic(op, a, b) => Ok(Step::Into(
+    match expression {
+        BoundExpression::Reference(reference) => Ok(Step::Made(maker.reference(alloc, reference)?)),
+        BoundExpression::Literal(value, kind) => Ok(Step::Made(M::literal(
+            value.copy(alloc)?,
+            *kind,
+        ))),
+        BoundExpression::Negate(a) => Ok(Step::Into(Pending::Under(Unary::Negate), a)),
+        BoundExpression::Arithmetic(op, a, b) => Ok(Step::Into(
             Pending::Left(Binary::Arithmetic(*op), b),
             a,
         )),
-        Formula::Compare(op, a, b) => Ok(Step::Into(Pending::Left(Binary::Compare(*op), b), a)),
-        Formula::Not(a) => Ok(Step::Into(Pending::Under(Unary::Not), a)),
-        Formula::And(a, b) => Ok(Step::Into(Pending::Left(Binary::And, b), a)),
-        Formula::Or(a, b) => Ok(Step::Into(Pending::Left(Binary::Or, b), a)),
-        Formula::IsNull(a) => Ok(Step::Into(Pending::Under(Unary::IsNull), a)),
-        Formula::IsNotNull(a) => Ok(Step::Into(Pending::Under(Unary::IsNotNull), a)),
-        Formula::Case(branch, a, b, c) => Ok(Step::Into(Pending::Condition(*branch, b, c), a)),
+        BoundExpression::Compare(op, a, b) => Ok(Step::Into(
+            Pending::Left(Binary::Compare(*op), b),
+            a,
+        )),
+        BoundExpression::Not(a) => Ok(Step::Into(Pending::Under(Unary::Not), a)),
+        BoundExpression::And(a, b) => Ok(Step::Into(Pending::Left(Binary::And, b), a)),
+        BoundExpression::Or(a, b) => Ok(Step::Into(Pending::Left(Binary::Or, b), a)),
+        BoundExpression::IsNull(a) => Ok(Step::Into(Pending::Under(Unary::IsNull), a)),
+        BoundExpression::IsNotNull(a) => Ok(Step::Into(Pending::Under(Unary::IsNotNull), a)),
+        BoundExpression::Case(branch, a, b, c) => Ok(Step::Into(
+            Pending::Condition(*branch, b, c),
+            a,
+        )),
     }
 }
 
 /// The step after the tree of an operand is made.
-fn closed<'f, M: Maker>(
+fn close<'f, M: Maker>(
     alloc: Global,
     maker: &M,
     outer: Pending<'f, M::From, M::To>,

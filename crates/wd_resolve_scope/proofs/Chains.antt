@@ -6,12 +6,12 @@ use Rattle.wd_syntax.specs.View.{chained, tested}
 use Rattle.wd_resolve_operand.specs.Causes.{Meant, ◌>>=◌}
 use Rattle.wd_resolve_operand.specs.Operands.{Operand, combined}
 use Rattle.wd_resolve_operand.specs.Operands as operands
-use Rattle.wd_resolve_call.specs.Leaves.{SelectLeaf}
+use Rattle.wd_resolve_call.specs.References.{SelectReference}
 use Rattle.wd_resolve_scope.specs.Parts.{chain_meant, link_meant}
 use Rattle.wd_resolve_scope.specs.Resolving.{ContextRule, resolved}
 
 -- tests for NULL, one after another
-abbrev pub tests_meant : List Bool → Operand SelectLeaf → Operand SelectLeaf
+abbrev pub tests_meant : List Bool → Operand SelectReference → Operand SelectReference
 tests_meant [] x = x
 tests_meant (not ∷ nots) x = tests_meant nots (operands.tested not x)
 
@@ -30,8 +30,8 @@ tests_mean c a (not ∷ nots) = tests_mean c (IsNull a not) nots ∙ bind_assoc 
 
 chain_means : (c : ContextRule) (a : Tree) (links : List (Operator × Tree)) → resolved c (chained a links) ≡ (resolved c a >>= λ x. chain_meant c links x)
 chain_means c a [] = bind_whole (resolved c a)
-chain_means c a (link ∷ links) = chain_means c (Binary link.0 a link.1) links ∙ bind_assoc (resolved c a) (link_meant c link) (λ (z : Operand SelectLeaf). chain_meant c links z)
+chain_means c a (link ∷ links) = chain_means c (Binary link.0 a link.1) links ∙ bind_assoc (resolved c a) (link_meant c link) (λ (z : Operand SelectReference). chain_meant c links z)
 
 -- a chain by its first operand, the operators before the last, and the last
 pub chain_ends : (c : ContextRule) (a : Tree) (before : List (Operator × Tree)) (last : Operator × Tree) → resolved c (Binary last.0 (chained a before) last.1) ≡ (resolved c a >>= λ x. chain_meant c before x >>= λ y. link_meant c last y)
-chain_ends c a before last = ap (λ (m : Meant (Operand SelectLeaf)). m >>= λ y. link_meant c last y) (chain_means c a before) ∙ bind_assoc (resolved c a) (λ x. chain_meant c before x) (λ y. link_meant c last y)
+chain_ends c a before last = ap (λ (m : Meant (Operand SelectReference)). m >>= λ y. link_meant c last y) (chain_means c a before) ∙ bind_assoc (resolved c a) (λ x. chain_meant c before x) (λ y. link_meant c last y)

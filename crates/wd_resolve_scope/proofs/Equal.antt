@@ -11,12 +11,12 @@ use Rattle.wd_plan.specs.contracts.expression.ArithmeticOp.{the_type as operatio
 use Rattle.wd_plan.specs.contracts.expression.ComparisonOp.{the_type as comparison}
 use Rattle.wd_plan.specs.contracts.expression.Branch.{the_type as branches}
 use Rattle.wd_plan.specs.Expressions.{Expression, Column, Literal, Negate, Arithmetic, Compare, Not, And, Or, IsNull, IsNotNull, Case}
-use Rattle.wd_resolve_operand.specs.Formulas as formulas
-use Rattle.wd_resolve_operand.specs.Formulas.{Formula, kind_over, leaves, same_formula}
-use Rattle.wd_resolve_call.specs.Rows.{ArgumentMeaning, AggregateMeaning, count_rows, count_of, sum_of, least_of, greatest_of, GroupCall, of_rows, grouping, RowFormula, RowLeaf, column, of_group, kind_of_aggregate, kind_of_group_call, same_aggregate, same_argument, same_group_call, same_row_formula, same_row_leaf}
-use Rattle.wd_resolve_call.specs.Calls.{FunctionMeaning, ranking, away, value_at, aggregate, CallMeaning, kind_of_function, same_call, same_function, same_row}
+use Rattle.wd_resolve_operand.specs.BoundExpressions as expressions
+use Rattle.wd_resolve_operand.specs.BoundExpressions.{BoundExpression, kind_over, references, same_bound_expression}
+use Rattle.wd_resolve_call.specs.Rows.{BoundArgument, BoundAggregate, count_rows, count_of, sum_of, least_of, greatest_of, GroupCall, of_rows, grouping, RowExpression, RowReference, column, of_group, kind_of_aggregate, kind_of_group_call, same_aggregate, same_argument, same_group_call, same_row_expression, same_row_reference}
+use Rattle.wd_resolve_call.specs.Calls.{BoundFunction, ranking, away, value_at, aggregate, BoundCall, kind_of_function, same_call, same_function, same_row}
 use Rattle.wd_plan.specs.Equality.{same_expression}
-use Rattle.wd_resolve_scope.specs.Typed.{IsAggregate, IsArgument, IsFunction, IsGroupCall, IsOfKind, IsRowFormula, IsRowLeaf, Readable, row_kind_at}
+use Rattle.wd_resolve_scope.specs.Typed.{IsAggregate, IsArgument, IsFunction, IsGroupCall, IsOfKind, IsRowExpression, IsRowReference, Readable, row_kind_at}
 use Rattle.wd_resolve_scope.proofs.Lists.{all_left, all_right}
 use Rattle.wd_resolve_scope.proofs.Typing.{both, same_kind-is, some_is}
 
@@ -37,27 +37,27 @@ same_expression-is x y h = absurd (false≢true h)
 -- ---- kinds
 
 module _ {L : Type 0} (kinds : L → Option ValueKind) (same : L → L → Bool) (P : L → Type 0) (alike : (l m : L) → same l m ≡ true → P l → P m → kinds l ≡ kinds m) where
-  pub same_formula-kind : (f g : Formula L) → same_formula same f g ≡ true → AllByRecursion P (leaves f) → AllByRecursion P (leaves g) → kind_over kinds f ≡ kind_over kinds g
-  same_formula-kind (formulas.Leaf l) (formulas.Leaf m) s h i = alike l m s h.0 i.0
-  same_formula-kind (formulas.Literal v k) (formulas.Literal w j) s h i = ap Some (same_kind-is k j (both _ _ s).1)
-  same_formula-kind (formulas.Negate a) (formulas.Negate b) s h i = refl
-  same_formula-kind (formulas.Arithmetic op a b) (formulas.Arithmetic other c d) s h i = refl
-  same_formula-kind (formulas.Compare op a b) (formulas.Compare other c d) s h i = refl
-  same_formula-kind (formulas.Not a) (formulas.Not b) s h i = refl
-  same_formula-kind (formulas.And a b) (formulas.And c d) s h i = refl
-  same_formula-kind (formulas.Or a b) (formulas.Or c d) s h i = refl
-  same_formula-kind (formulas.IsNull a) (formulas.IsNull b) s h i = refl
-  same_formula-kind (formulas.IsNotNull a) (formulas.IsNotNull b) s h i = refl
-  same_formula-kind (formulas.Case branch a b c) (formulas.Case other d e f) s h i =
+  pub same_bound_expression-kind : (f g : BoundExpression L) → same_bound_expression same f g ≡ true → AllByRecursion P (references f) → AllByRecursion P (references g) → kind_over kinds f ≡ kind_over kinds g
+  same_bound_expression-kind (expressions.Reference l) (expressions.Reference m) s h i = alike l m s h.0 i.0
+  same_bound_expression-kind (expressions.Literal v k) (expressions.Literal w j) s h i = ap Some (same_kind-is k j (both _ _ s).1)
+  same_bound_expression-kind (expressions.Negate a) (expressions.Negate b) s h i = refl
+  same_bound_expression-kind (expressions.Arithmetic op a b) (expressions.Arithmetic other c d) s h i = refl
+  same_bound_expression-kind (expressions.Compare op a b) (expressions.Compare other c d) s h i = refl
+  same_bound_expression-kind (expressions.Not a) (expressions.Not b) s h i = refl
+  same_bound_expression-kind (expressions.And a b) (expressions.And c d) s h i = refl
+  same_bound_expression-kind (expressions.Or a b) (expressions.Or c d) s h i = refl
+  same_bound_expression-kind (expressions.IsNull a) (expressions.IsNull b) s h i = refl
+  same_bound_expression-kind (expressions.IsNotNull a) (expressions.IsNotNull b) s h i = refl
+  same_bound_expression-kind (expressions.Case branch a b c) (expressions.Case other d e f) s h i =
       let o = both _ _ s in let p = both _ _ o.1 in let q = both _ _ p.1 in
-      same_formula-kind b e q.0 (all_right P (leaves a) (leaves b) (all_left P (leaves a ++ leaves b) (leaves c) h)) (all_right P (leaves d) (leaves e) (all_left P (leaves d ++ leaves e) (leaves f) i))
-  same_formula-kind f g s h i = absurd (false≢true s)
+      same_bound_expression-kind b e q.0 (all_right P (references a) (references b) (all_left P (references a ++ references b) (references c) h)) (all_right P (references d) (references e) (all_left P (references d ++ references e) (references f) i))
+  same_bound_expression-kind f g s h i = absurd (false≢true s)
 
 module _ {E : Type 0} (Is : E → ValueKind → Type 0) (same : E → E → Bool) (one : (e f : E) (k l : ValueKind) → same e f ≡ true → Is e k → Is f l → k ≡ l) where
-  argument_kind : (a b : ArgumentMeaning E) → same_argument same a b ≡ true → IsArgument Is a → IsArgument Is b → a.kind ≡ b.kind
+  argument_kind : (a b : BoundArgument E) → same_argument same a b ≡ true → IsArgument Is a → IsArgument Is b → a.kind ≡ b.kind
   argument_kind a b s h g = one a.expression b.expression a.kind b.kind s h g
 
-  aggregate_kind : (a b : AggregateMeaning E) → same_aggregate same a b ≡ true → IsAggregate Is a → IsAggregate Is b → kind_of_aggregate a ≡ kind_of_aggregate b
+  aggregate_kind : (a b : BoundAggregate E) → same_aggregate same a b ≡ true → IsAggregate Is a → IsAggregate Is b → kind_of_aggregate a ≡ kind_of_aggregate b
   aggregate_kind count_rows count_rows s h g = refl
   aggregate_kind (count_of a) (count_of b) s h g = refl
   aggregate_kind (sum_of a) (sum_of b) s h g = refl
@@ -74,23 +74,23 @@ module _ (r : Readable) where
   group_call_kind (grouping cs) (grouping ds) s h g = refl
   group_call_kind c d s h g = absurd (false≢true s)
 
-  pub row_leaf_kind : (l m : RowLeaf) → same_row_leaf l m ≡ true → IsRowLeaf r l → IsRowLeaf r m → row_kind_at r.kinds l ≡ row_kind_at r.kinds m
-  row_leaf_kind (column m) (column n) s h g = ap r.kinds (eqb-true m n s)
-  row_leaf_kind (of_group c) (of_group d) s h g = ap Some (group_call_kind c d s h.1 g.1)
-  row_leaf_kind l m s h g = absurd (false≢true s)
+  pub row_reference_kind : (l m : RowReference) → same_row_reference l m ≡ true → IsRowReference r l → IsRowReference r m → row_kind_at r.kinds l ≡ row_kind_at r.kinds m
+  row_reference_kind (column m) (column n) s h g = ap r.kinds (eqb-true m n s)
+  row_reference_kind (of_group c) (of_group d) s h g = ap Some (group_call_kind c d s h.1 g.1)
+  row_reference_kind l m s h g = absurd (false≢true s)
 
-  pub one_row_kind : (f g : RowFormula) (k l : ValueKind) → same_row_formula f g ≡ true → IsRowFormula r f k → IsRowFormula r g l → k ≡ l
-  one_row_kind f g k l s h i = some_is k l (sym h.has ∙ same_formula-kind (row_kind_at r.kinds) same_row_leaf (IsRowLeaf r) row_leaf_kind f g s h.leaves_are i.leaves_are ∙ i.has)
+  pub one_row_kind : (f g : RowExpression) (k l : ValueKind) → same_row_expression f g ≡ true → IsRowExpression r f k → IsRowExpression r g l → k ≡ l
+  one_row_kind f g k l s h i = some_is k l (sym h.has ∙ same_bound_expression-kind (row_kind_at r.kinds) same_row_reference (IsRowReference r) row_reference_kind f g s h.references_are i.references_are ∙ i.has)
 
-  argument : (a b : ArgumentMeaning RowFormula) → same_argument same_row_formula a b ≡ true → IsArgument (IsRowFormula r) a → IsArgument (IsRowFormula r) b → a.kind ≡ b.kind
-  argument a b s h g = argument_kind (IsRowFormula r) same_row_formula one_row_kind a b s h g
+  argument : (a b : BoundArgument RowExpression) → same_argument same_row_expression a b ≡ true → IsArgument (IsRowExpression r) a → IsArgument (IsRowExpression r) b → a.kind ≡ b.kind
+  argument a b s h g = argument_kind (IsRowExpression r) same_row_expression one_row_kind a b s h g
 
-  pub same_function-kind : (f g : FunctionMeaning) → same_function f g ≡ true → IsFunction r f → IsFunction r g → kind_of_function f ≡ kind_of_function g
+  pub same_function-kind : (f g : BoundFunction) → same_function f g ≡ true → IsFunction r f → IsFunction r g → kind_of_function f ≡ kind_of_function g
   same_function-kind (ranking r) (ranking q) s h i = refl
   same_function-kind (away direction a m v) (away other b n w) s h i = let p = both (sameb ways direction other) _ s in let q = both (nat_eq m n) _ p.1 in argument a b (both (same_value v w) _ q.1).1 h.0 i.0
   same_function-kind (value_at r a) (value_at q b) s h i = argument a b (both (same_row r q) _ s).1 h.0 i.0
-  same_function-kind (aggregate a) (aggregate b) s h i = aggregate_kind (IsRowFormula r) same_row_formula one_row_kind a b s h i
+  same_function-kind (aggregate a) (aggregate b) s h i = aggregate_kind (IsRowExpression r) same_row_expression one_row_kind a b s h i
   same_function-kind f g s h i = absurd (false≢true s)
 
-  pub same_call-kind : (x y : CallMeaning) → same_call x y ≡ true → IsFunction r x.function → IsFunction r y.function → kind_of_function x.function ≡ kind_of_function y.function
+  pub same_call-kind : (x y : BoundCall) → same_call x y ≡ true → IsFunction r x.function → IsFunction r y.function → kind_of_function x.function ≡ kind_of_function y.function
   same_call-kind x y s h i = same_function-kind x.function y.function (both _ _ s).0 h i

@@ -3,7 +3,7 @@ pub mod Chains
 pub mod Rolled
 pub mod Lists
 pub mod Typing
-pub mod Seated
+pub mod Rebased
 pub mod TypedOperands
 pub mod OverColumns
 pub mod TypedCalls

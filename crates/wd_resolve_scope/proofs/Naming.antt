@@ -25,12 +25,12 @@ get_mid [] y ys = refl
 get_mid (x ∷ xs) y ys = get_mid xs y ys
 
 -- elements with their numbers stand at these numbers
-pub numbered_behind : {A : Type 0} (before xs : List A) → AllByRecursion (λ (x : ℕ × A). slice_get (before ++ xs) x.0 ≡ Some x.1) (zip (range_with_len (length before) (length xs)) xs)
-numbered_behind before [] = tt
-numbered_behind before (x ∷ xs) = (
+pub numbered_after : {A : Type 0} (before xs : List A) → AllByRecursion (λ (x : ℕ × A). slice_get (before ++ xs) x.0 ≡ Some x.1) (zip (range_with_len (length before) (length xs)) xs)
+numbered_after before [] = tt
+numbered_after before (x ∷ xs) = (
   get_mid before x xs,
   subst (λ n. AllByRecursion (λ (y : ℕ × _). slice_get (before ++ x ∷ xs) y.0 ≡ Some y.1) (zip (range_with_len n (length xs)) xs)) (length_push before x)
-      (subst (λ ys. AllByRecursion (λ (y : ℕ × _). slice_get ys y.0 ≡ Some y.1) (zip (range_with_len (length (before ++ x ∷ [])) (length xs)) xs)) (append_assoc before (x ∷ []) xs) (numbered_behind (before ++ x ∷ []) xs)),
+      (subst (λ ys. AllByRecursion (λ (y : ℕ × _). slice_get ys y.0 ≡ Some y.1) (zip (range_with_len (length (before ++ x ∷ [])) (length xs)) xs)) (append_assoc before (x ∷ []) xs) (numbered_after (before ++ x ∷ []) xs)),
 )
 
 pub all_filter : {A : Type 0} (P : A → Type 0) (t : A → Bool) (xs : List A) → AllByRecursion P xs → AllByRecursion P (filter t xs)

@@ -12,20 +12,20 @@ use Rattle.wd_syntax.specs.Tree.{Tree, Constant, Column, Qualified, CallAll, Cal
 use Rattle.wd_plan.specs.Plans.{has}
 use Rattle.wd_resolve_operand.specs.declared.cause.Cause.TheVariants.{CallNotAllowed, GroupCallNotAllowed, GroupingOfOther}
 use Rattle.wd_resolve_operand.specs.Causes.{Meant, ◌>>=◌}
-use Rattle.wd_resolve_operand.specs.Formulas.{Leaf}
+use Rattle.wd_resolve_operand.specs.BoundExpressions.{Reference}
 use Rattle.wd_resolve_operand.specs.Operands.{Operand, typed, combined, negated, literal, case_of, settled}
 use Rattle.wd_resolve_operand.specs.Operands as operands
 use Rattle.wd_resolve_call.specs.Calls.{kind_of_function}
 use Rattle.wd_resolve_call.specs.Functions.{GroupFunction, aggregates, applied, function_named, group_function_named, grouped, grouped_over}
 use Rattle.wd_resolve_scope.specs.Grouped.{GroupedRule, column_allowed, column_meant, column_operand}
-use Rattle.wd_resolve_call.specs.Leaves.{SelectLeaf, of_row, call, over_rows}
-use Rattle.wd_resolve_call.specs.Rows.{GroupCall, RowFormula, kind_of_group_call, of_group}
+use Rattle.wd_resolve_call.specs.References.{SelectReference, of_row, call, over_rows}
+use Rattle.wd_resolve_call.specs.Rows.{GroupCall, RowExpression, kind_of_group_call, of_group}
 use Rattle.wd_resolve_scope.specs.Names.{column_named, the_only}
 use Rattle.wd_resolve_scope.specs.Resolving.{ContextRule, all_resolved, all_settled, arguments_in, arms_resolved, call_over, called, else_resolved, group_called, key_meant, keys_resolved, may_group, resolved, sign_meant, where_allowed, window_resolved, without_over, moved_to, written_number}
 use Rattle.wd_resolve_scope.specs.Scopes.{ScopeRule, carries, numbered}
-use Rattle.wd_resolve_call.specs.Windows.{KeyMeaning, KnownMeaning, WindowMeaning, base_named, sort_key, window_meant, window_named}
-use Rattle.wd_resolve_scope.specs.Typed.{AreKeys, AreKnown, AreTyped, IsGroupCall, IsOperand, IsRowFormula, IsWindow, Readable, allowed, kinds_in, readable}
-use Rattle.wd_resolve_scope.proofs.Naming.{all_filter, numbered_behind}
+use Rattle.wd_resolve_call.specs.Windows.{BoundKey, NamedBoundWindow, BoundWindow, base_named, sort_key, window_meant, window_named}
+use Rattle.wd_resolve_scope.specs.Typed.{AreKeys, AreKnown, AreTyped, IsGroupCall, IsOperand, IsRowExpression, IsWindow, Readable, allowed, kinds_in, readable}
+use Rattle.wd_resolve_scope.proofs.Naming.{all_filter, numbered_after}
 use Rattle.wd_resolve_scope.proofs.OverColumns.{over_rows_is}
 use Rattle.wd_resolve_scope.proofs.Typing.{both}
 use Rattle.wd_resolve_call.proofs.Meanings.{bound, ok_is}
@@ -42,7 +42,7 @@ read_in c = readable c.scope c.groups
 
 -- ---- windows that have names
 
-known_is : (r : Readable) (windows : List KnownMeaning) (name : List ℕ) (w : WindowMeaning) → AreKnown r windows → window_named windows name ≡ Ok w → IsWindow r w
+known_is : (r : Readable) (windows : List NamedBoundWindow) (name : List ℕ) (w : BoundWindow) → AreKnown r windows → window_named windows name ≡ Ok w → IsWindow r w
 known_is r [] name w h is = cc
 known_is r (known ∷ windows) name w h is = by (bytes_eq known.name name) is (λ later. known_is r windows name w h.1 later)
   where
@@ -50,14 +50,14 @@ known_is r (known ∷ windows) name w h is = by (bytes_eq known.name name) is (�
     by true is later = subst (IsWindow r) (ok_is _ _ is) h.0
     by false is later = later is
 
-base_is : (r : Readable) (windows : List KnownMeaning) (name : Option (List ℕ)) (base : Option WindowMeaning) → AreKnown r windows → base_named windows name ≡ Ok base → IsBase r base
+base_is : (r : Readable) (windows : List NamedBoundWindow) (name : Option (List ℕ)) (base : Option BoundWindow) → AreKnown r windows → base_named windows name ≡ Ok base → IsBase r base
 base_is r windows None base h is = subst (IsBase r) (ok_is _ _ is) tt
 base_is r windows (Some name) base h is =
     let w = bound (window_named windows name) (λ v. Ok (Some v)) base is in
     subst (IsBase r) (ok_is _ _ w.2) (known_is r windows name w.0 h w.1)
 
 -- the window where calls may stand
-where_is : (c : ContextRule) (m : Meant WindowMeaning) (w : WindowMeaning) → where_allowed c m ≡ Ok w → m ≡ Ok w
+where_is : (c : ContextRule) (m : Meant BoundWindow) (w : BoundWindow) → where_allowed c m ≡ Ok w → m ≡ Ok w
 where_is c m w h = by (allows_window_calls c.place) h
   where
     by : (b : Bool) → cond b m (Err CallNotAllowed) ≡ Ok w → m ≡ Ok w
@@ -78,7 +78,7 @@ only_is scope (c ∷ other ∷ others) x there h = cc
 pub column_named_is : (scope : ScopeRule) (table : Option (List ℕ)) (name : List ℕ) (x : ℕ × ValueKind) → column_named scope table name ≡ Ok x → IsNamed scope x
 column_named_is scope table name x h =
     let test = λ (c : ℕ × ScopeColumn). carries table name c.1 in
-    only_is scope (filter test (numbered scope.columns)) x (all_filter (λ (c : ℕ × ScopeColumn). slice_get scope.columns c.0 ≡ Some c.1) test (numbered scope.columns) (numbered_behind [] scope.columns)) h
+    only_is scope (filter test (numbered scope.columns)) x (all_filter (λ (c : ℕ × ScopeColumn). slice_get scope.columns c.0 ≡ Some c.1) test (numbered scope.columns) (numbered_after [] scope.columns)) h
 
 -- what may stand there is allowed
 pub allowed_is : (groups : Option GroupedRule) (n : ℕ) (u : ⊤) → column_allowed groups n ≡ Ok u → allowed groups n ≡ true
@@ -90,9 +90,9 @@ allowed_is (Some g) n u h = by (has g.columns n) h
     by false h = cc
 
 column_is : (scope : ScopeRule) (groups : Option GroupedRule) (x : ℕ × ValueKind) → IsNamed scope x → allowed groups x.0 ≡ true → IsOperand (readable scope groups) (column_operand x)
-column_is scope groups x named may = record { is = rw named refl; has = named; leaves_are = ((rw named refl, may), tt) }
+column_is scope groups x named may = record { is = rw named refl; has = named; references_are = ((rw named refl, may), tt) }
 
-name_is : (c : ContextRule) (table : Option (List ℕ)) (name : List ℕ) (x : Operand SelectLeaf) → (column_named c.scope table name >>= λ y. column_meant c.groups y) ≡ Ok x → IsOperand (read_in c) x
+name_is : (c : ContextRule) (table : Option (List ℕ)) (name : List ℕ) (x : Operand SelectReference) → (column_named c.scope table name >>= λ y. column_meant c.groups y) ≡ Ok x → IsOperand (read_in c) x
 name_is c table name x h =
     let y = bound (column_named c.scope table name) (λ z. column_meant c.groups z) x h in
     let u = bound (column_allowed c.groups y.0.0) (λ v. Ok (column_operand y.0)) x y.2 in
@@ -100,42 +100,42 @@ name_is c table name x h =
 
 -- ---- places where no window calls stand
 
-all_settled_is : (r : Readable) (xs : List (Operand SelectLeaf)) (es : List RowFormula) → AllByRecursion (IsOperand r) xs → all_settled xs ≡ Ok es → AreTyped r es
+all_settled_is : (r : Readable) (xs : List (Operand SelectReference)) (es : List RowExpression) → AllByRecursion (IsOperand r) xs → all_settled xs ≡ Ok es → AreTyped r es
 all_settled_is r [] es h is = subst (AreTyped r) (ok_is _ _ is) tt
 all_settled_is r (x ∷ xs) es h is =
     let e = bound (over_rows (settled x)) (λ f. all_settled xs >>= λ fs. Ok (f ∷ fs)) es is in
     let more = bound (all_settled xs) (λ fs. Ok (e.0 ∷ fs)) es e.2 in
-    subst (AreTyped r) (ok_is _ _ more.2) (record { kind = operands.kind_of x; formula = over_rows_is r (settled x) (operands.kind_of x) e.0 (settled_is r x h.0) e.1 }, all_settled_is r xs more.0 h.1 more.1)
+    subst (AreTyped r) (ok_is _ _ more.2) (record { kind = operands.kind_of x; expression = over_rows_is r (settled x) (operands.kind_of x) e.0 (settled_is r x h.0) e.1 }, all_settled_is r xs more.0 h.1 more.1)
 
-key_is : (r : Readable) (x : Operand SelectLeaf) (direction : Option SortDirection) (nulls : Option NullsPlace) (key : KeyMeaning) → IsOperand r x → key_meant x direction nulls ≡ Ok key → IsRowFormula r key.expression key.kind
+key_is : (r : Readable) (x : Operand SelectReference) (direction : Option SortDirection) (nulls : Option NullsPlace) (key : BoundKey) → IsOperand r x → key_meant x direction nulls ≡ Ok key → IsRowExpression r key.expression key.kind
 key_is r x direction nulls key h is =
     let e = bound (over_rows (settled x)) (λ f. Ok (record { expression = f; kind = operands.kind_of x; key = sort_key direction nulls })) key is in
-    subst (λ (k : KeyMeaning). IsRowFormula r k.expression k.kind) (ok_is _ _ e.2) (over_rows_is r (settled x) (operands.kind_of x) e.0 (settled_is r x h) e.1)
+    subst (λ (k : BoundKey). IsRowExpression r k.expression k.kind) (ok_is _ _ e.2) (over_rows_is r (settled x) (operands.kind_of x) e.0 (settled_is r x h) e.1)
 
 -- ---- calls and signs
 
-called_is : (r : Readable) (f : Name) (arguments : Option (List (Operand SelectLeaf))) (w : WindowMeaning) (x : Operand SelectLeaf) → AreArguments r arguments → IsWindow r w → called f arguments w ≡ Ok x → IsOperand r x
+called_is : (r : Readable) (f : Name) (arguments : Option (List (Operand SelectReference))) (w : BoundWindow) (x : Operand SelectReference) → AreArguments r arguments → IsWindow r w → called f arguments w ≡ Ok x → IsOperand r x
 called_is r f arguments w x xs win is =
-    let g = bound (applied (function_named f.text) arguments) (λ function. Ok (typed (Leaf (call (record { function = function; window = w }))) (kind_of_function function))) x is in
-    subst (IsOperand r) (ok_is _ _ g.2) (record { is = refl; has = refl; leaves_are = (record { function = applied_is r (function_named f.text) arguments g.0 xs g.1; window = win }, tt) })
+    let g = bound (applied (function_named f.text) arguments) (λ function. Ok (typed (Reference (call (record { function = function; window = w }))) (kind_of_function function))) x is in
+    subst (IsOperand r) (ok_is _ _ g.2) (record { is = refl; has = refl; references_are = (record { function = applied_is r (function_named f.text) arguments g.0 xs g.1; window = win }, tt) })
 
 -- the arguments of GROUPING may be the columns that are grouped by, whatever refuses others
 same_readable : (scope : ScopeRule) (groups : Option GroupedRule) → readable scope (option_map (λ (g : GroupedRule). record { columns = g.columns; other = GroupingOfOther }) groups) ≡ readable scope groups
 same_readable scope None = refl
 same_readable scope (Some g) = refl
 
-grouped_is : (c : ContextRule) (function : GroupFunction) (arguments : Option (List (Operand SelectLeaf))) (g : GroupCall) → AreArguments (read_in (without_over (Some function) c)) arguments → grouped_over function arguments ≡ Ok g → IsGroupCall (read_in c) g
+grouped_is : (c : ContextRule) (function : GroupFunction) (arguments : Option (List (Operand SelectReference))) (g : GroupCall) → AreArguments (read_in (without_over (Some function) c)) arguments → grouped_over function arguments ≡ Ok g → IsGroupCall (read_in c) g
 grouped_is c (aggregates name) arguments g xs is = group_aggregate_is (readable c.scope None) (allowed c.groups) (is_some c.groups) name arguments g xs is
 grouped_is c grouped arguments g xs is = subst (λ (r : Readable). IsGroupCall r g) (same_readable c.scope c.groups) (grouping_is (read_in (without_over (Some grouped) c)) arguments g xs is)
 
-group_called_is : (c : ContextRule) (function : Option GroupFunction) (arguments : Option (List (Operand SelectLeaf))) (x : Operand SelectLeaf) → AreArguments (read_in (without_over function c)) arguments → group_called c function arguments ≡ Ok x → IsOperand (read_in c) x
+group_called_is : (c : ContextRule) (function : Option GroupFunction) (arguments : Option (List (Operand SelectReference))) (x : Operand SelectReference) → AreArguments (read_in (without_over function c)) arguments → group_called c function arguments ≡ Ok x → IsOperand (read_in c) x
 group_called_is c None arguments x xs is = cc
 group_called_is c (Some function) arguments x xs is =
-    let p = let_through (may_group c) (grouped_over function arguments >>= λ g. Ok (typed (Leaf (of_row (of_group g))) (kind_of_group_call g))) x GroupCallNotAllowed is in
-    let g = bound (grouped_over function arguments) (λ g. Ok (typed (Leaf (of_row (of_group g))) (kind_of_group_call g))) x p.1 in
-    subst (IsOperand (read_in c)) (ok_is _ _ g.2) (record { is = refl; has = refl; leaves_are = (((both (is_some c.groups) (allows_group_calls c.place) p.0).0, grouped_is c function arguments g.0 xs g.1), tt) })
+    let p = let_through (may_group c) (grouped_over function arguments >>= λ g. Ok (typed (Reference (of_row (of_group g))) (kind_of_group_call g))) x GroupCallNotAllowed is in
+    let g = bound (grouped_over function arguments) (λ g. Ok (typed (Reference (of_row (of_group g))) (kind_of_group_call g))) x p.1 in
+    subst (IsOperand (read_in c)) (ok_is _ _ g.2) (record { is = refl; has = refl; references_are = (((both (is_some c.groups) (allows_group_calls c.place) p.0).0, grouped_is c function arguments g.0 xs g.1), tt) })
 
-sign_is : (r : Readable) (sign : Sign) (n : Option ℕ) (m : Meant (Operand SelectLeaf)) (x : Operand SelectLeaf) → ((y : Operand SelectLeaf) → m ≡ Ok y → IsOperand r y) → sign_meant sign n m ≡ Ok x → IsOperand r x
+sign_is : (r : Readable) (sign : Sign) (n : Option ℕ) (m : Meant (Operand SelectReference)) (x : Operand SelectReference) → ((y : Operand SelectReference) → m ≡ Ok y → IsOperand r y) → sign_meant sign n m ≡ Ok x → IsOperand r x
 sign_is r sign (Some n) m x k h = signed_number_is r sign n x h
 sign_is r sign None m x k h = let y = bound m (λ z. operands.signed sign z) x h in signed_is r sign y.0 x (k y.0 y.1) y.2
 
@@ -153,7 +153,7 @@ known_within c f (over_name name) h = h
 known_within c f (over_window v) h = h
 
 mutual
-  pub resolved_is : (c : ContextRule) (a : Tree) (x : Operand SelectLeaf) → AreKnown (read_in c) c.windows → resolved c a ≡ Ok x → IsOperand (read_in c) x
+  pub resolved_is : (c : ContextRule) (a : Tree) (x : Operand SelectReference) → AreKnown (read_in c) c.windows → resolved c a ≡ Ok x → IsOperand (read_in c) x
   resolved_is c (Constant y) x known h = literal_is (read_in c) y x h
   resolved_is c (Column name) x known h = name_is c None name.text x h
   resolved_is c (Qualified table name) x known h = name_is c (Some table.text) name.text x h
@@ -178,14 +178,14 @@ mutual
       let y = bound (resolved c a) (λ z. negated z) x h in
       negated_is (read_in c) y.0 x (resolved_is c a y.0 known y.1) y.2
 
-  all_is : (c : ContextRule) (trees : Trees) (xs : List (Operand SelectLeaf)) → AreKnown (read_in c) c.windows → all_resolved c trees ≡ Ok xs → AllByRecursion (IsOperand (read_in c)) xs
+  all_is : (c : ContextRule) (trees : Trees) (xs : List (Operand SelectReference)) → AreKnown (read_in c) c.windows → all_resolved c trees ≡ Ok xs → AllByRecursion (IsOperand (read_in c)) xs
   all_is c no_trees xs known h = subst (AllByRecursion (IsOperand (read_in c))) (ok_is _ _ h) tt
   all_is c (more_trees a trees) xs known h =
       let x = bound (resolved c a) (λ y. all_resolved c trees >>= λ ys. Ok (y ∷ ys)) xs h in
       let more = bound (all_resolved c trees) (λ ys. Ok (x.0 ∷ ys)) xs x.2 in
       subst (AllByRecursion (IsOperand (read_in c))) (ok_is _ _ more.2) (resolved_is c a x.0 known x.1, all_is c trees more.0 known more.1)
 
-  arms_are : (c : ContextRule) (arms : Arms) (xs : List (Operand SelectLeaf × Operand SelectLeaf)) → AreKnown (read_in c) c.windows → arms_resolved c arms ≡ Ok xs → AreArms (read_in c) xs
+  arms_are : (c : ContextRule) (arms : Arms) (xs : List (Operand SelectReference × Operand SelectReference)) → AreKnown (read_in c) c.windows → arms_resolved c arms ≡ Ok xs → AreArms (read_in c) xs
   arms_are c no_arms xs known h = subst (AreArms (read_in c)) (ok_is _ _ h) tt
   arms_are c (more_arms when gives arms) xs known h =
       let x = bound (resolved c when) (λ z. resolved c gives >>= λ w. arms_resolved c arms >>= λ ys. Ok ((z, w) ∷ ys)) xs h in
@@ -193,11 +193,11 @@ mutual
       let more = bound (arms_resolved c arms) (λ ys. Ok ((x.0, y.0) ∷ ys)) xs y.2 in
       subst (AreArms (read_in c)) (ok_is _ _ more.2) (resolved_is c when x.0 known x.1, resolved_is c gives y.0 known y.1, arms_are c arms more.0 known more.1)
 
-  else_is : (c : ContextRule) (other : Otherwise) (x : Operand SelectLeaf) → AreKnown (read_in c) c.windows → else_resolved c other ≡ Ok x → IsOperand (read_in c) x
+  else_is : (c : ContextRule) (other : Otherwise) (x : Operand SelectReference) → AreKnown (read_in c) c.windows → else_resolved c other ≡ Ok x → IsOperand (read_in c) x
   else_is c no_else x known h = subst (IsOperand (read_in c)) (ok_is _ _ h) tt
   else_is c (or_else a) x known h = resolved_is c a x known h
 
-  keys_are : (c : ContextRule) (keys : Keys) (ks : List KeyMeaning) → AreKnown (read_in c) c.windows → keys_resolved c keys ≡ Ok ks → AreKeys (read_in c) ks
+  keys_are : (c : ContextRule) (keys : Keys) (ks : List BoundKey) → AreKnown (read_in c) c.windows → keys_resolved c keys ≡ Ok ks → AreKeys (read_in c) ks
   keys_are c no_keys ks known h = subst (AreKeys (read_in c)) (ok_is _ _ h) tt
   keys_are c (more_keys a direction nulls keys) ks known h =
       let x = bound (resolved c a) (λ y. key_meant y direction nulls >>= λ k. keys_resolved c keys >>= λ ls. Ok (k ∷ ls)) ks h in
@@ -205,7 +205,7 @@ mutual
       let more = bound (keys_resolved c keys) (λ ls. Ok (k.0 ∷ ls)) ks k.2 in
       subst (AreKeys (read_in c)) (ok_is _ _ more.2) (key_is (read_in c) x.0 direction nulls k.0 (resolved_is c a x.0 known x.1) k.1, keys_are c keys more.0 known more.1)
 
-  call_over_is : (c : ContextRule) (f : Name) (arguments : Option (List (Operand SelectLeaf))) (over : OverTree) (x : Operand SelectLeaf) → AreKnown (read_in c) c.windows → AreArguments (read_in (arguments_in c f over)) arguments → call_over c f arguments over ≡ Ok x → IsOperand (read_in c) x
+  call_over_is : (c : ContextRule) (f : Name) (arguments : Option (List (Operand SelectReference))) (over : OverTree) (x : Operand SelectReference) → AreKnown (read_in c) c.windows → AreArguments (read_in (arguments_in c f over)) arguments → call_over c f arguments over ≡ Ok x → IsOperand (read_in c) x
   call_over_is c f arguments no_over x known xs e = group_called_is c (group_function_named f.text) arguments x xs e
   call_over_is c f arguments (over_name name) x known xs e =
       let w = bound (where_allowed c (window_named c.windows name.text)) (λ v. called f arguments v) x e in
@@ -214,7 +214,7 @@ mutual
       let w = bound (where_allowed c (window_resolved c v)) (λ meaning. called f arguments meaning) x e in
       called_is (read_in c) f arguments w.0 x xs (window_resolved_is c v w.0 known (where_is c (window_resolved c v) w.0 w.1)) w.2
 
-  pub window_resolved_is : (c : ContextRule) (v : WindowTree) (w : WindowMeaning) → AreKnown (read_in c) c.windows → window_resolved c v ≡ Ok w → IsWindow (read_in c) w
+  pub window_resolved_is : (c : ContextRule) (v : WindowTree) (w : BoundWindow) → AreKnown (read_in c) c.windows → window_resolved c v ≡ Ok w → IsWindow (read_in c) w
   window_resolved_is c (window base partition order frame) w known h =
       let name = option_map (λ (n : Name). n.text) base in
       let inside = moved_to place.Window c in

@@ -8,11 +8,11 @@ use Rattle.wd_plan.specs.declared.expression.ValueKind.{ValueKind}
 use Rattle.wd_plan.specs.Plans.{has}
 use Rattle.wd_resolve_operand.specs.declared.cause.Cause.{Cause}
 use Rattle.wd_resolve_operand.specs.Causes.{Meant, ◌>>=◌}
-use Rattle.wd_resolve_operand.specs.Formulas.{Leaf}
+use Rattle.wd_resolve_operand.specs.BoundExpressions.{Reference}
 use Rattle.wd_resolve_operand.specs.Operands.{Operand, typed}
 use Rattle.wd_resolve_scope.specs.declared.context.Grouped.{Grouped}
 use Rattle.wd_resolve_call.specs.Functions.{group_function_named}
-use Rattle.wd_resolve_call.specs.Leaves.{SelectLeaf, of_row}
+use Rattle.wd_resolve_call.specs.References.{SelectReference, of_row}
 use Rattle.wd_resolve_call.specs.Rows.{column}
 
 -- ---- how it is grouped
@@ -87,13 +87,13 @@ pub record GroupedRule : Type 0 where
 abbrev pub grouped_of : Grouped → GroupedRule
 grouped_of g = record { columns = g.columns.now; other = g.other }
 
-abbrev pub column_operand : ℕ × ValueKind → Operand SelectLeaf
-column_operand x = typed (Leaf (of_row (column x.0))) x.1
+abbrev pub column_operand : ℕ × ValueKind → Operand SelectReference
+column_operand x = typed (Reference (of_row (column x.0))) x.1
 
 -- a grouped select has to be grouped by the column
 abbrev pub column_allowed : Option GroupedRule → ℕ → Meant ⊤
 column_allowed None n = Ok tt
 column_allowed (Some g) n = if has g.columns n then Ok tt else Err g.other
 
-abbrev pub column_meant : Option GroupedRule → ℕ × ValueKind → Meant (Operand SelectLeaf)
+abbrev pub column_meant : Option GroupedRule → ℕ × ValueKind → Meant (Operand SelectReference)
 column_meant groups x = column_allowed groups x.0 >>= λ u. Ok (column_operand x)

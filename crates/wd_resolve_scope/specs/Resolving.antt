@@ -20,19 +20,19 @@ use Rattle.wd_resolve_scope.specs.Places.{allows_group_calls, allows_window_call
 use Rattle.wd_resolve_operand.specs.Causes.{Meant, ◌>>=◌}
 use Rattle.wd_resolve_scope.specs.Scopes.{ScopeRule, scope_of}
 use Rattle.wd_resolve_scope.specs.Names.{column_named}
-use Rattle.wd_resolve_operand.specs.Formulas.{Formula, Leaf}
+use Rattle.wd_resolve_operand.specs.BoundExpressions.{BoundExpression, Reference}
 use Rattle.wd_resolve_operand.specs.Operands.{Operand, bare_null, typed, of_kind, settled, kind_of, literal, signed_number, signed, negated, tested, combined, case_of}
-use Rattle.wd_resolve_call.specs.Windows.{KeyMeaning, WindowMeaning, KnownMeaning, known_of, sort_key, window_meant, window_named, base_named}
+use Rattle.wd_resolve_call.specs.Windows.{BoundKey, BoundWindow, NamedBoundWindow, known_of, sort_key, window_meant, window_named, base_named}
 use Rattle.wd_resolve_call.specs.Calls.{kind_of_function}
 use Rattle.wd_resolve_call.specs.Functions.{GroupFunction, aggregates, applied, function_named, group_function_named, grouped, grouped_over}
-use Rattle.wd_resolve_call.specs.Leaves.{SelectLeaf, of_row, call, over_columns, over_rows}
-use Rattle.wd_resolve_call.specs.Rows.{RowFormula, kind_of_group_call, of_group}
+use Rattle.wd_resolve_call.specs.References.{SelectReference, of_row, call, over_columns, over_rows}
+use Rattle.wd_resolve_call.specs.Rows.{RowExpression, kind_of_group_call, of_group}
 
 -- the context of an expression: the columns in scope, those that a grouped select is grouped by, the named windows, and the place
 pub record ContextRule : Type 0 where
   pub scope : ScopeRule
   pub groups : Option GroupedRule
-  pub windows : List KnownMeaning
+  pub windows : List NamedBoundWindow
   pub place : Place
 
 abbrev pub context_of : Context → ContextRule
@@ -65,29 +65,29 @@ abbrev pub may_group : ContextRule → Bool
 may_group c = is_some c.groups && allows_group_calls c.place
 
 -- a call without OVER: an aggregate or GROUPING over its arguments, where these are allowed
-abbrev pub group_called : ContextRule → Option GroupFunction → Option (List (Operand SelectLeaf)) → Meant (Operand SelectLeaf)
+abbrev pub group_called : ContextRule → Option GroupFunction → Option (List (Operand SelectReference)) → Meant (Operand SelectReference)
 group_called c None arguments = Err WrongCall
-group_called c (Some function) arguments = if may_group c then (grouped_over function arguments >>= λ g. Ok (typed (Leaf (of_row (of_group g))) (kind_of_group_call g))) else Err GroupCallNotAllowed
+group_called c (Some function) arguments = if may_group c then (grouped_over function arguments >>= λ g. Ok (typed (Reference (of_row (of_group g))) (kind_of_group_call g))) else Err GroupCallNotAllowed
 
 -- a call with OVER: its function over its arguments, and its window
-abbrev pub called : Name → Option (List (Operand SelectLeaf)) → WindowMeaning → Meant (Operand SelectLeaf)
+abbrev pub called : Name → Option (List (Operand SelectReference)) → BoundWindow → Meant (Operand SelectReference)
 called f arguments w = do
   function ← applied (function_named f.text) arguments
-  Ok (typed (Leaf (call (record { function = function; window = w }))) (kind_of_function function))
+  Ok (typed (Reference (call (record { function = function; window = w }))) (kind_of_function function))
 
 -- a sign over an operand, or over the number directly after it
-abbrev pub sign_meant : Sign → Option ℕ → Meant (Operand SelectLeaf) → Meant (Operand SelectLeaf)
+abbrev pub sign_meant : Sign → Option ℕ → Meant (Operand SelectReference) → Meant (Operand SelectReference)
 sign_meant sign (Some n) inner = signed_number sign n
 sign_meant sign None inner = inner >>= λ x. signed sign x
 
 -- an expression to sort by
-abbrev pub key_meant : Operand SelectLeaf → Option SortDirection → Option NullsPlace → Meant KeyMeaning
+abbrev pub key_meant : Operand SelectReference → Option SortDirection → Option NullsPlace → Meant BoundKey
 key_meant x direction place = do
   expression ← over_rows (settled x)
   Ok (record { expression = expression; kind = kind_of x; key = sort_key direction place })
 
 -- expressions in places that require no kind
-abbrev pub all_settled : List (Operand SelectLeaf) → Meant (List RowFormula)
+abbrev pub all_settled : List (Operand SelectReference) → Meant (List RowExpression)
 all_settled [] = Ok []
 all_settled (x ∷ xs) = do
   e ← over_rows (settled x)
@@ -95,12 +95,12 @@ all_settled (x ∷ xs) = do
   Ok (e ∷ es)
 
 -- what is in OVER, where window calls are allowed
-abbrev pub where_allowed : ContextRule → Meant WindowMeaning → Meant WindowMeaning
+abbrev pub where_allowed : ContextRule → Meant BoundWindow → Meant BoundWindow
 where_allowed c w = if allows_window_calls c.place then w else Err CallNotAllowed
 
 abbrev mutual
   -- the meaning of an expression
-  pub resolved : ContextRule → Tree → Meant (Operand SelectLeaf)
+  pub resolved : ContextRule → Tree → Meant (Operand SelectReference)
   resolved c (Constant x) = literal x
   resolved c (Column name) = column_named c.scope None name.text >>= λ x. column_meant c.groups x
   resolved c (Qualified table name) = column_named c.scope (Some table.text) name.text >>= λ x. column_meant c.groups x
@@ -122,7 +122,7 @@ abbrev mutual
   resolved c (Negated a) = resolved c a >>= λ x. negated x
 
   -- the arguments of a call, and the expressions of a partition
-  pub all_resolved : ContextRule → Trees → Meant (List (Operand SelectLeaf))
+  pub all_resolved : ContextRule → Trees → Meant (List (Operand SelectReference))
   all_resolved c no_trees = Ok []
   all_resolved c (more_trees a trees) = do
     x ← resolved c a
@@ -130,7 +130,7 @@ abbrev mutual
     Ok (x ∷ xs)
 
   -- the conditions and results of a CASE
-  pub arms_resolved : ContextRule → Arms → Meant (List (Operand SelectLeaf × Operand SelectLeaf))
+  pub arms_resolved : ContextRule → Arms → Meant (List (Operand SelectReference × Operand SelectReference))
   arms_resolved c no_arms = Ok []
   arms_resolved c (more_arms when gives arms) = do
     x ← resolved c when
@@ -139,12 +139,12 @@ abbrev mutual
     Ok ((x, y) ∷ xs)
 
   -- without ELSE a CASE ends in NULL
-  pub else_resolved : ContextRule → Otherwise → Meant (Operand SelectLeaf)
+  pub else_resolved : ContextRule → Otherwise → Meant (Operand SelectReference)
   else_resolved c no_else = Ok bare_null
   else_resolved c (or_else a) = resolved c a
 
   -- the sort keys of a window
-  pub keys_resolved : ContextRule → Keys → Meant (List KeyMeaning)
+  pub keys_resolved : ContextRule → Keys → Meant (List BoundKey)
   keys_resolved c no_keys = Ok []
   keys_resolved c (more_keys a direction place keys) = do
     x ← resolved c a
@@ -153,13 +153,13 @@ abbrev mutual
     Ok (k ∷ ks)
 
   -- a call after its arguments: first what is in OVER, then the call itself; OVER is looked at only where window calls are allowed
-  pub call_over : ContextRule → Name → Option (List (Operand SelectLeaf)) → OverTree → Meant (Operand SelectLeaf)
+  pub call_over : ContextRule → Name → Option (List (Operand SelectReference)) → OverTree → Meant (Operand SelectReference)
   call_over c f xs no_over = group_called c (group_function_named f.text) xs
   call_over c f xs (over_name name) = where_allowed c (window_named c.windows name.text) >>= λ w. called f xs w
   call_over c f xs (over_window w) = where_allowed c (window_resolved c w) >>= λ meaning. called f xs meaning
 
   -- a window: the one that it copies, its partition, its order, and then its frame
-  pub window_resolved : ContextRule → WindowTree → Meant WindowMeaning
+  pub window_resolved : ContextRule → WindowTree → Meant BoundWindow
   window_resolved c (window base partition order frame) = do
     copied ← base_named c.windows (option_map (λ (n : Name). n.text) base)
     xs ← all_resolved (moved_to place.Window c) partition
@@ -170,11 +170,11 @@ abbrev mutual
 -- ---- expressions outside the select list
 
 -- an expression at a place where no windows have names
-abbrev pub plain : Place → Option GroupedRule → ScopeRule → Tree → Meant (Operand SelectLeaf)
+abbrev pub plain : Place → Option GroupedRule → ScopeRule → Tree → Meant (Operand SelectReference)
 plain place groups scope a = resolved (record { scope = scope; groups = groups; windows = []; place = place }) a
 
 -- the condition of HAVING, a truth value over groups, where no windows are known
-abbrev pub group_condition : Option GroupedRule → ScopeRule → Tree → Meant RowFormula
+abbrev pub group_condition : Option GroupedRule → ScopeRule → Tree → Meant RowExpression
 group_condition groups scope a = do
   x ← plain place.Having groups scope a
   truth ← of_kind Truth x
@@ -190,14 +190,14 @@ condition place scope a = do
 -- ---- the WINDOW clause
 
 -- an earlier window has the name
-abbrev pub is_known : List KnownMeaning → List ℕ → Bool
+abbrev pub is_known : List NamedBoundWindow → List ℕ → Bool
 is_known windows name = list_any (λ known. bytes_eq known.name name) windows
 
 -- a window of the WINDOW clause, which may copy the ones before it
-abbrev pub defined : ScopeRule → Option GroupedRule → List KnownMeaning → Name → WindowTree → Meant KnownMeaning
+abbrev pub defined : ScopeRule → Option GroupedRule → List NamedBoundWindow → Name → WindowTree → Meant NamedBoundWindow
 defined scope groups windows name w = if is_known windows name.text then Err UnknownWindow else window_resolved (record { scope = scope; groups = groups; windows = windows; place = place.Window }) w >>= λ meaning. Ok (record { name = name.text; window = meaning })
 
 -- the windows of the WINDOW clause, after those before them; each is checked, even where no call uses it
-abbrev pub all_defined : ScopeRule → Option GroupedRule → List KnownMeaning → List (Name × WindowTree) → Meant (List KnownMeaning)
+abbrev pub all_defined : ScopeRule → Option GroupedRule → List NamedBoundWindow → List (Name × WindowTree) → Meant (List NamedBoundWindow)
 all_defined scope groups windows [] = Ok windows
 all_defined scope groups windows (w ∷ others) = defined scope groups windows w.0 w.1 >>= λ known. all_defined scope groups (windows ++ known ∷ []) others

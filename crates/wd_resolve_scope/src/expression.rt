@@ -8,8 +8,8 @@ ghost use Rattle.wd_syntax.specs.Tree.{trees_of, arms_of, keys_of};
 ghost use Rattle.wd_resolve_operand.specs.Causes.{Gives};
 ghost use Rattle.wd_resolve_call.specs.Functions.{group_function_named};
 ghost use Rattle.wd_resolve_scope.specs.Grouped.{column_allowed, grouped_of};
-ghost use Rattle.wd_resolve_call.specs.Leaves.{operand_of, operands_of, arm_of, formula_of};
-ghost use Rattle.wd_resolve_call.specs.Rows.{row_formula_of};
+ghost use Rattle.wd_resolve_call.specs.References.{operand_of, operands_of, arm_of, bound_expression_of};
+ghost use Rattle.wd_resolve_call.specs.Rows.{row_expression_of};
 ghost use Rattle.wd_resolve_scope.specs.Parts as parts;
 ghost use Rattle.wd_resolve_scope.specs.Resolving.{context_of};
 ghost use Rattle.wd_resolve_scope.specs.Resolving as spec;
@@ -22,13 +22,13 @@ use std::alloc::Global;
 use std::rc::Rc;
 use wd_plan::{Expr, ValueKind, has_column};
 use wd_resolve_call::{
-    GroupFunction, KnownWindow, OrderKey, RowLeaf, SelectLeaf, Window, WindowCall, applied,
-    base_named, group_function_named, grouped_over, over_columns, over_rows, settled_over,
-    sort_key, window_meant, window_named,
+    GroupFunction, KnownWindow, OrderKey, RowReference, SelectReference, Window, WindowCall,
+    apply_function, find_base, find_window, group_function_named, grouped_over, over_columns,
+    over_rows, resolve_window, settled_over, sort_key,
 };
 use wd_resolve_operand::{
-    CaseArm, Cause, Formula, Meaning, ResolveError, case_of, combined, literal, negated, signed,
-    signed_number, tested,
+    BoundExpression, CaseArm, Cause, ResolveError, TypedOperand, case_of, combine, literal, negate,
+    sign_operand, signed_number, test_null,
 };
 use wd_syntax as written;
 use wd_syntax::{Arm, Link, Literal, Name, NamedWindow, Over, Sign, SortKey};
@@ -113,23 +113,23 @@ impl Context<'_> {
         alloc: Global,
         table: Option<&Text>,
         name: &Text,
-    ) -> Result<Meaning<SelectLeaf>, ResolveError>
+    ) -> Result<TypedOperand<SelectReference>, ResolveError>
         ensures { Gives operand_of result (parts.column_resolved (context_of self.now) (option_map (λ t. t.now) table.entry) name.now) }
     {
         let (number, kind) = self.scope.column(table, name)?;
         self.allow_column(number)?;
-        let leaf = SelectLeaf::Row(RowLeaf::Column(number));
-        Meaning::typed(alloc, Formula::Leaf(leaf), kind)
+        let reference = SelectReference::Row(RowReference::Column(number));
+        TypedOperand::typed(alloc, BoundExpression::Reference(reference), kind)
     }
 }
 
 /// The meaning of an expression.
 #[cycle(resolve)]
-pub fn resolved(
+pub fn resolve_expression(
     alloc: Global,
     context: &Context<'_>,
     tree: &written::Expr,
-) -> Result<Meaning<SelectLeaf>, ResolveError>
+) -> Result<TypedOperand<SelectReference>, ResolveError>
     ensures { Gives operand_of result (spec.resolved (context_of context.now) (view tree.now)) }
 {
     match tree {
@@ -140,38 +140,38 @@ pub fn resolved(
         }
         written::Expr::CallAll(name, over) => call_over(alloc, context, name, None, over),
         written::Expr::Call(name, arguments, over) => {
-            let arguments = all_resolved(alloc, &context.arguments_in(name, over), arguments)?;
+            let arguments = resolve_all(alloc, &context.arguments_in(name, over), arguments)?;
             call_over(alloc, context, name, Some(arguments), over)
         }
         written::Expr::Case(arms, other) => {
-            let arms = arms_resolved(alloc, context, arms)?;
-            case_ended(alloc, context, arms, other)
+            let arms = resolve_arms(alloc, context, arms)?;
+            end_case(alloc, context, arms, other)
         }
-        written::Expr::Bracket(inner) => resolved(alloc, context, inner),
+        written::Expr::Bracket(inner) => resolve_expression(alloc, context, inner),
         written::Expr::Signed(sign, inner) => match written_number(inner) {
             Some(number) => signed_number(alloc, *sign, number),
             None => {
-                let operand = resolved(alloc, context, inner)?;
-                signed(alloc, *sign, operand)
+                let operand = resolve_expression(alloc, context, inner)?;
+                sign_operand(alloc, *sign, operand)
             }
         },
         written::Expr::Compare(operator, left, right) => {
-            let left = resolved(alloc, context, left)?;
-            let right = resolved(alloc, context, right)?;
-            combined(alloc, *operator, left, right)
+            let left = resolve_expression(alloc, context, left)?;
+            let right = resolve_expression(alloc, context, right)?;
+            combine(alloc, *operator, left, right)
         }
         written::Expr::Chain(first, before, last) => {
-            let first = resolved(alloc, context, first)?;
-            let left = chain_resolved(alloc, context, first, before)?;
-            last_resolved(alloc, context, left, last)
+            let first = resolve_expression(alloc, context, first)?;
+            let left = resolve_chain(alloc, context, first, before)?;
+            resolve_last(alloc, context, left, last)
         }
         written::Expr::Tests(inner, before, last) => {
-            let operand = tests_resolved(alloc, context, inner, before)?;
-            tested(alloc, *last, operand)
+            let operand = resolve_tests(alloc, context, inner, before)?;
+            test_null(alloc, *last, operand)
         }
         written::Expr::Not(inner) => {
-            let inner = resolved(alloc, context, inner)?;
-            negated(alloc, inner)
+            let inner = resolve_expression(alloc, context, inner)?;
+            negate(alloc, inner)
         }
     }
 }
@@ -193,30 +193,30 @@ fn call_over(
     alloc: Global,
     context: &Context<'_>,
     name: &Name,
-    arguments: Option<Vec<Meaning<SelectLeaf>>>,
+    arguments: Option<Vec<TypedOperand<SelectReference>>>,
     over: &Option<Box<Over>>,
-) -> Result<Meaning<SelectLeaf>, ResolveError>
+) -> Result<TypedOperand<SelectReference>, ResolveError>
     ensures { Gives operand_of result (spec.call_over (context_of context.now) name.now (option_map operands_of arguments) (view_over_option over.now)) }
 {
     let Some(over) = over else {
-        return group_called(alloc, context, name, arguments);
+        return call_group(alloc, context, name, arguments);
     };
     if !context.place.allows_window_calls() {
         return Err(ResolveError::Refused(Cause::CallNotAllowed));
     }
-    let window = over_meant(alloc, context, over)?;
-    called(alloc, name, arguments, window)
+    let window = resolve_over(alloc, context, over)?;
+    call_function(alloc, name, arguments, window)
 }
 
 /// A call without OVER, after its arguments: 405 where it is neither an aggregate nor GROUPING, and 416 where these may not appear, as in
 /// a select that is not grouped.
 /// select that is not grouped.
-fn group_called(
+fn call_group(
     alloc: Global,
     context: &Context<'_>,
     name: &Name,
-    arguments: Option<Vec<Meaning<SelectLeaf>>>,
-) -> Result<Meaning<SelectLeaf>, ResolveError>
+    arguments: Option<Vec<TypedOperand<SelectReference>>>,
+) -> Result<TypedOperand<SelectReference>, ResolveError>
     ensures { Gives operand_of result (spec.group_called (context_of context.now) (group_function_named name.now.text) (option_map operands_of arguments)) }
 {
     let Some(function) = group_function_named(name.text.as_str()) else {
@@ -227,52 +227,52 @@ fn group_called(
     }
     let call = grouped_over(alloc, function, arguments)?;
     let kind = call.kind();
-    let leaf = SelectLeaf::Row(RowLeaf::Group(Rc::new(alloc, call)?));
-    Meaning::typed(alloc, Formula::Leaf(leaf), kind)
+    let reference = SelectReference::Row(RowReference::Group(Rc::new(alloc, call)?));
+    TypedOperand::typed(alloc, BoundExpression::Reference(reference), kind)
 }
 
 /// A CASE after its arms: first its end, then the CASE itself.
 #[cycle(resolve)]
-fn case_ended(
+fn end_case(
     alloc: Global,
     context: &Context<'_>,
-    arms: Vec<CaseArm<SelectLeaf>>,
+    arms: Vec<CaseArm<SelectReference>>,
     other: &Option<Box<written::Expr>>,
-) -> Result<Meaning<SelectLeaf>, ResolveError>
+) -> Result<TypedOperand<SelectReference>, ResolveError>
     ensures { Gives operand_of result (parts.case_ended (context_of context.now) (map arm_of arms.items) (view_else_option other.now)) }
 {
-    let other = else_resolved(alloc, context, other)?;
+    let other = resolve_else(alloc, context, other)?;
     case_of(alloc, arms, other)
 }
 
 /// The last operator of a chain and its right operand, over what is to its left.
 #[cycle(resolve)]
-fn last_resolved(
+fn resolve_last(
     alloc: Global,
     context: &Context<'_>,
-    left: Meaning<SelectLeaf>,
+    left: TypedOperand<SelectReference>,
     last: &Link,
-) -> Result<Meaning<SelectLeaf>, ResolveError>
+) -> Result<TypedOperand<SelectReference>, ResolveError>
     ensures { Gives operand_of result (parts.link_meant (context_of context.now) (view_link last.now) (operand_of left)) }
 {
-    let right = resolved(alloc, context, &last.operand)?;
-    combined(alloc, last.operator, left, right)
+    let right = resolve_expression(alloc, context, &last.operand)?;
+    combine(alloc, last.operator, left, right)
 }
 
 /// Operators and their right operands, over what is to their left.
 #[cycle(resolve)]
-fn chain_resolved(
+fn resolve_chain(
     alloc: Global,
     context: &Context<'_>,
-    first: Meaning<SelectLeaf>,
+    first: TypedOperand<SelectReference>,
     links: &[Link],
-) -> Result<Meaning<SelectLeaf>, ResolveError>
+) -> Result<TypedOperand<SelectReference>, ResolveError>
     ensures { Gives operand_of result (parts.chain_meant (context_of context.now) (map view_link links.now) (operand_of first)) }
 {
     let mut left = first;
     for link in links {
-        let right = resolved(alloc, context, &link.operand)?;
-        left = combined(alloc, link.operator, left, right)?;
+        let right = resolve_expression(alloc, context, &link.operand)?;
+        left = combine(alloc, link.operator, left, right)?;
     }
     Ok(left)
 }
@@ -280,65 +280,69 @@ fn chain_resolved(
 /// Tests for NULL, one after another.
 #[tactic(auto, using(crate::proofs::Chains::tests_mean))]
 #[cycle(resolve)]
-fn tests_resolved(
+fn resolve_tests(
     alloc: Global,
     context: &Context<'_>,
     inner: &written::Expr,
     tests: &[bool],
-) -> Result<Meaning<SelectLeaf>, ResolveError>
+) -> Result<TypedOperand<SelectReference>, ResolveError>
     ensures { Gives operand_of result (spec.resolved (context_of context.now) (shown.tested (view inner.now) tests.now)) }
 {
-    let mut operand = resolved(alloc, context, inner)?;
+    let mut operand = resolve_expression(alloc, context, inner)?;
     for not in tests {
-        operand = tested(alloc, *not, operand)?;
+        operand = test_null(alloc, *not, operand)?;
     }
     Ok(operand)
 }
 
 /// A call, after its arguments and its window.
-fn called(
+fn call_function(
     alloc: Global,
     name: &Name,
-    arguments: Option<Vec<Meaning<SelectLeaf>>>,
+    arguments: Option<Vec<TypedOperand<SelectReference>>>,
     window: Window,
-) -> Result<Meaning<SelectLeaf>, ResolveError>
+) -> Result<TypedOperand<SelectReference>, ResolveError>
     ensures { Gives operand_of result (spec.called name.now (option_map operands_of arguments) (window_of window)) }
 {
-    let function = applied(alloc, name.text.as_str(), arguments)?;
+    let function = apply_function(alloc, name.text.as_str(), arguments)?;
     let kind = function.kind();
     let call = Box::new(alloc, WindowCall { function, window })?;
-    Meaning::typed(alloc, Formula::Leaf(SelectLeaf::Call(call)), kind)
+    TypedOperand::typed(
+        alloc,
+        BoundExpression::Reference(SelectReference::Call(call)),
+        kind,
+    )
 }
 
 /// The arguments of a call, and the expressions of a partition.
 #[cycle(resolve)]
-fn all_resolved(
+fn resolve_all(
     alloc: Global,
     context: &Context<'_>,
     trees: &[written::Expr],
-) -> Result<Vec<Meaning<SelectLeaf>>, ResolveError>
+) -> Result<Vec<TypedOperand<SelectReference>>, ResolveError>
     ensures { Gives operands_of result (spec.all_resolved (context_of context.now) (trees_of (map view trees.now))) }
 {
     let mut operands = Vec::new(alloc);
     for tree in trees {
-        operands.push(resolved(alloc, context, tree)?)?;
+        operands.push(resolve_expression(alloc, context, tree)?)?;
     }
     Ok(operands)
 }
 
 /// The conditions and results of a CASE.
 #[cycle(resolve)]
-fn arms_resolved(
+fn resolve_arms(
     alloc: Global,
     context: &Context<'_>,
     arms: &[Arm],
-) -> Result<Vec<CaseArm<SelectLeaf>>, ResolveError>
+) -> Result<Vec<CaseArm<SelectReference>>, ResolveError>
     ensures { Gives (λ v. map arm_of v.items) result (spec.arms_resolved (context_of context.now) (arms_of (map view_arm arms.now))) }
 {
     let mut parts = Vec::new(alloc);
     for arm in arms {
-        let when = resolved(alloc, context, &arm.when)?;
-        let gives = resolved(alloc, context, &arm.gives)?;
+        let when = resolve_expression(alloc, context, &arm.when)?;
+        let gives = resolve_expression(alloc, context, &arm.gives)?;
         parts.push(CaseArm { when, gives })?;
     }
     Ok(parts)
@@ -346,22 +350,22 @@ fn arms_resolved(
 
 /// The operand of ELSE; NULL without ELSE.
 #[cycle(resolve)]
-fn else_resolved(
+fn resolve_else(
     alloc: Global,
     context: &Context<'_>,
     other: &Option<Box<written::Expr>>,
-) -> Result<Meaning<SelectLeaf>, ResolveError>
+) -> Result<TypedOperand<SelectReference>, ResolveError>
     ensures { Gives operand_of result (spec.else_resolved (context_of context.now) (view_else_option other.now)) }
 {
     match other {
-        None => Ok(Meaning::Null),
-        Some(tree) => resolved(alloc, context, tree),
+        None => Ok(TypedOperand::Null),
+        Some(tree) => resolve_expression(alloc, context, tree),
     }
 }
 
 /// The sort keys of a window.
 #[cycle(resolve)]
-fn keys_resolved(
+fn resolve_keys(
     alloc: Global,
     context: &Context<'_>,
     keys: &[SortKey],
@@ -370,7 +374,7 @@ fn keys_resolved(
 {
     let mut order = Vec::new(alloc);
     for key in keys {
-        let operand = resolved(alloc, context, &key.expr)?;
+        let operand = resolve_expression(alloc, context, &key.expr)?;
         order.push(order_key(alloc, &operand, key)?)?;
     }
     Ok(order)
@@ -379,7 +383,7 @@ fn keys_resolved(
 /// An expression to sort by.
 fn order_key(
     alloc: Global,
-    operand: &Meaning<SelectLeaf>,
+    operand: &TypedOperand<SelectReference>,
     written: &SortKey,
 ) -> Result<OrderKey, ResolveError>
     ensures { Gives key_of result (spec.key_meant (operand_of operand.now) written.now.direction written.now.nulls) }
@@ -393,18 +397,18 @@ fn order_key(
 
 /// The window of a call, where one is allowed.
 #[cycle(resolve)]
-fn over_meant(alloc: Global, context: &Context<'_>, over: &Over) -> Result<Window, ResolveError>
+fn resolve_over(alloc: Global, context: &Context<'_>, over: &Over) -> Result<Window, ResolveError>
     ensures { Gives window_of result (parts.over_meant (context_of context.now) (view_over over.now)) }
 {
     match over {
-        Over::Name(name) => Ok(window_named(context.windows, &name.text)?.share()?),
-        Over::Window(window) => window_resolved(alloc, context, window),
+        Over::Name(name) => Ok(find_window(context.windows, &name.text)?.share()?),
+        Over::Window(window) => resolve_written_window(alloc, context, window),
     }
 }
 
 /// A window: the one that it copies, its partition, its order, and then its frame.
 #[cycle(resolve)]
-fn window_resolved(
+fn resolve_written_window(
     alloc: Global,
     context: &Context<'_>,
     window: &written::Window,
@@ -417,20 +421,20 @@ fn window_resolved(
         order,
         frame,
     } = window;
-    let base = base_named(context.windows, base)?;
+    let base = find_base(context.windows, base)?;
     let inside = context.moved_to(Place::Window);
-    let operands = all_resolved(alloc, &inside, partition)?;
-    let partition = all_settled(alloc, &operands)?;
-    let order = keys_resolved(alloc, &inside, order)?;
-    window_meant(alloc, base, partition, order, *frame)
+    let operands = resolve_all(alloc, &inside, partition)?;
+    let partition = settle_all(alloc, &operands)?;
+    let order = resolve_keys(alloc, &inside, order)?;
+    resolve_window(alloc, base, partition, order, *frame)
 }
 
 /// The expressions in places that require no kind; 406 where a window call is in one.
-fn all_settled(
+fn settle_all(
     alloc: Global,
-    operands: &[Meaning<SelectLeaf>],
-) -> Result<Vec<Formula<RowLeaf>>, ResolveError>
-    ensures { Gives (λ v. map row_formula_of v.items) result (spec.all_settled (map operand_of operands.now)) }
+    operands: &[TypedOperand<SelectReference>],
+) -> Result<Vec<BoundExpression<RowReference>>, ResolveError>
+    ensures { Gives (λ v. map row_expression_of v.items) result (spec.all_settled (map operand_of operands.now)) }
 {
     let mut expressions = Vec::with_capacity(alloc, operands.len())?;
     for operand in operands {
@@ -446,7 +450,7 @@ pub fn plain(
     groups: Option<Grouped<'_>>,
     place: Place,
     tree: &written::Expr,
-) -> Result<Meaning<SelectLeaf>, ResolveError>
+) -> Result<TypedOperand<SelectReference>, ResolveError>
     ensures { Gives operand_of result (spec.plain place (option_map grouped_of groups.entry) (scope_of scope.now) (view tree.now)) }
 {
     let context = Context {
@@ -455,7 +459,7 @@ pub fn plain(
         windows: &[],
         place,
     };
-    resolved(alloc, &context, tree)
+    resolve_expression(alloc, &context, tree)
 }
 
 /// The condition of HAVING, over groups.
@@ -464,8 +468,8 @@ pub fn group_condition(
     scope: &Scope,
     groups: Option<Grouped<'_>>,
     tree: &written::Expr,
-) -> Result<Formula<RowLeaf>, ResolveError>
-    ensures { Gives row_formula_of result (spec.group_condition (option_map grouped_of groups.entry) (scope_of scope.now) (view tree.now)) }
+) -> Result<BoundExpression<RowReference>, ResolveError>
+    ensures { Gives row_expression_of result (spec.group_condition (option_map grouped_of groups.entry) (scope_of scope.now) (view tree.now)) }
 {
     let operand = plain(alloc, scope, groups, Place::Having, tree)?;
     let truth = operand.of_kind(alloc, ValueKind::Truth)?;
@@ -498,7 +502,7 @@ fn is_known(windows: &[KnownWindow], name: &Name) -> bool
 }
 
 /// A window of the WINDOW clause, which may copy the ones before it.
-fn defined(
+fn define_window(
     alloc: Global,
     scope: &Scope,
     groups: Option<Grouped<'_>>,
@@ -516,7 +520,7 @@ fn defined(
         windows,
         place: Place::Window,
     };
-    let meaning = window_resolved(alloc, &context, &window.window)?;
+    let meaning = resolve_written_window(alloc, &context, &window.window)?;
     Ok(KnownWindow {
         name: window.name.text.copy()?,
         window: meaning,
@@ -524,7 +528,7 @@ fn defined(
 }
 
 /// The windows of the WINDOW clause; each is checked, even where no call uses it.
-pub fn all_defined(
+pub fn define_windows(
     alloc: Global,
     scope: &Scope,
     groups: Option<Grouped<'_>>,
@@ -534,7 +538,7 @@ pub fn all_defined(
 {
     let mut windows = Vec::new(alloc);
     for window in written {
-        let known = defined(alloc, scope, groups, &windows, window)?;
+        let known = define_window(alloc, scope, groups, &windows, window)?;
         windows.push(known)?;
     }
     Ok(windows)

@@ -14,10 +14,13 @@ mod names;
 mod scope;
 
 pub use context::{Context, Grouped, Place};
-pub use expression::{all_defined, condition, group_condition, plain, resolved, written_number};
+pub use expression::{
+    condition, define_windows, group_condition, plain, resolve_expression, written_number,
+};
 pub use grouped::is_grouped;
 pub use scope::{MOST_COLUMNS, Scope, ScopeColumn};
 pub use wd_resolve_call::{
-    AppliedAggregate, AppliedFunction, GroupCall, KnownWindow, OrderKey, RowLeaf, SelectLeaf,
-    ValueArgument, Window, WindowCall, copy_of, same_call, same_group_call, sort_key,
+    AppliedAggregate, AppliedFunction, GroupCall, KnownWindow, OrderKey, RowReference,
+    SelectReference, ValueArgument, Window, WindowCall, copy_of, same_call, same_group_call,
+    sort_key,
 };

@@ -2,8 +2,8 @@
 use Rattle.std.proofs.Common.{◌≡◌, ◌+◌, ◌≤◌, arith, length}
 use Rattle.std.proofs.lemmas.Bool.{ltb-false, or_parts}
 use Rattle.std.proofs.lemmas.List.{length-map}
-use Rattle.wd_resolve_call.specs.Leaves.{formula_of}
-use Rattle.wd_resolve_list.specs.Listing.{are_wide, is_wide, needs_shown}
+use Rattle.wd_resolve_call.specs.References.{bound_expression_of}
+use Rattle.wd_resolve_list.specs.SelectLists.{are_wide, is_wide, projected_shown}
 use Rattle.wd_resolve_list.specs.Outputs.{expressions_of, output_of}
 use Rattle.wd_resolve_list.proofs.Counted.{many_listed}
 use Rattle.wd_resolve_select.specs.declared.shown.Shown.{Shown as CodeShown}
@@ -15,7 +15,7 @@ pub many_shown : (s : CodeShown) (so_far : CodeSorted) → length s.outputs.now 
 many_shown s so_far =
     let shown = many_listed (shown_of s).outputs in
     let outputs = length-map s.outputs.now output_of in
-    let hidden = length-map so_far.hidden.items formula_of in
+    let hidden = length-map so_far.hidden.items bound_expression_of in
     omega (arith, shown, outputs, hidden)
 
 -- where no node is too wide, there are few columns
@@ -27,5 +27,5 @@ few_shown s so_far h =
 
 -- whether some node is too wide goes by what is counted
 pub wide_shown : (s : CodeShown) (so_far : CodeSorted) → IsCounted (shown_of s) so_far
-    → is_wide (length s.outputs.now + length so_far.hidden.items) (shown_of s).below.grouped (needs_shown so_far.needs) ≡ are_wide (shown_of s).below (expressions_of (shown_of s).outputs) (sorted_of so_far).hidden
+    → is_wide (length s.outputs.now + length so_far.hidden.items) (shown_of s).below.grouped (projected_shown so_far.projected) ≡ are_wide (shown_of s).below (expressions_of (shown_of s).outputs) (sorted_of so_far).hidden
 wide_shown s so_far h = λ i. is_wide (many_shown s so_far i) (shown_of s).below.grouped (h i)

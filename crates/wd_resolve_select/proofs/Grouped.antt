@@ -12,14 +12,14 @@ use Rattle.wd_plan.specs.Expressions.{Expression, Column}
 use Rattle.wd_plan.specs.Fits.{Kinds, are_sets, fits, is_group_call, is_typed, kind_of, kinds_of}
 use Rattle.wd_plan.specs.Fits as fits_spec
 use Rattle.wd_plan.specs.Plans.{PlanTree, Map, has}
-use Rattle.wd_resolve_call.specs.Rows.{AggregateMeaning, count_rows, count_of, sum_of, least_of, greatest_of, GroupCall, of_rows, grouping, RowLeaf, column, of_group, aggregated, kind_of_group_call, same_group_call}
+use Rattle.wd_resolve_call.specs.Rows.{BoundAggregate, count_rows, count_of, sum_of, least_of, greatest_of, GroupCall, of_rows, grouping, RowReference, column, of_group, aggregated, kind_of_group_call, same_group_call}
 use Rattle.wd_resolve_scope.specs.Scopes.{ScopeRule}
-use Rattle.wd_resolve_scope.specs.Typed.{IsAggregate, IsGroupCall, IsOfKind, IsRowLeaf, Readable, kinds_in, readable, row_kind_at}
+use Rattle.wd_resolve_scope.specs.Typed.{IsAggregate, IsGroupCall, IsOfKind, IsRowReference, Readable, kinds_in, readable, row_kind_at}
 use Rattle.wd_resolve_scope.proofs.Equal.{group_call_kind, same_expression-is}
 use Rattle.wd_resolve_scope.proofs.Lists.{all_get}
 use Rattle.wd_resolve_scope.proofs.Typing.{Extends, and_both, kept, some_is, typed_kept}
-use Rattle.wd_resolve_list.specs.Grouping.{grouped_rule, numbers_from, set_seated}
-use Rattle.wd_resolve_list.specs.Listing.{GroupedBy, group_argument_of, group_inputs, group_place, is_group_wide, number_in, with_new}
+use Rattle.wd_resolve_list.specs.Grouping.{grouped_rule, numbers_from, set_rebased}
+use Rattle.wd_resolve_list.specs.SelectLists.{GroupedBy, group_argument_of, group_inputs, group_place, is_group_wide, number_in, with_new}
 use Rattle.wd_resolve_select.specs.Steps.{group_call_over, group_on}
 use Rattle.wd_resolve_select.proofs.Aggregates.{gives_aggregate, takes_aggregate}
 use Rattle.wd_resolve_list.proofs.Among.{all_append, all_split, all_there, all_with_new, first_is, first_there}
@@ -73,17 +73,17 @@ number_there n (suc i) c (d ∷ columns) set h there = by (has set d) (subst (λ
     by true later = or_right _ _ later
     by false later = later
 
-all_sets_within : (columns : List ℕ) (sets : List (List ℕ)) → list_all (list_all (λ c. nat_lt c (length columns))) (map (set_seated columns) sets) ≡ true
+all_sets_within : (columns : List ℕ) (sets : List (List ℕ)) → list_all (list_all (λ c. nat_lt c (length columns))) (map (set_rebased columns) sets) ≡ true
 all_sets_within columns [] = refl
 all_sets_within columns (set ∷ sets) = and_both _ _ (numbers_within 0 (length columns) columns set (omega arith)) (all_sets_within columns sets)
 
-some_seated : (columns : List ℕ) (i c : ℕ) (sets : List (List ℕ)) → slice_get columns i ≡ Some c → list_any (λ set. has set c) sets ≡ true → list_any (λ set. has set i) (map (set_seated columns) sets) ≡ true
-some_seated columns i c [] e h = absurd (false≢true h)
-some_seated columns i c (set ∷ sets) e h = by (has set c) refl h (some_seated columns i c sets e)
+some_rebased : (columns : List ℕ) (i c : ℕ) (sets : List (List ℕ)) → slice_get columns i ≡ Some c → list_any (λ set. has set c) sets ≡ true → list_any (λ set. has set i) (map (set_rebased columns) sets) ≡ true
+some_rebased columns i c [] e h = absurd (false≢true h)
+some_rebased columns i c (set ∷ sets) e h = by (has set c) refl h (some_rebased columns i c sets e)
   where
-    by : (b : Bool) → has set c ≡ b → (b || list_any (λ s. has s c) sets) ≡ true → (list_any (λ s. has s c) sets ≡ true → list_any (λ s. has s i) (map (set_seated columns) sets) ≡ true)
-        → (has (set_seated columns set) i || list_any (λ s. has s i) (map (set_seated columns) sets)) ≡ true
-    by true there h later = or_left _ _ (subst (λ k. has (set_seated columns set) k ≡ true) (let same : 0 + i ≡ i = omega arith in same) (number_there 0 i c columns set e there))
+    by : (b : Bool) → has set c ≡ b → (b || list_any (λ s. has s c) sets) ≡ true → (list_any (λ s. has s c) sets ≡ true → list_any (λ s. has s i) (map (set_rebased columns) sets) ≡ true)
+        → (has (set_rebased columns set) i || list_any (λ s. has s i) (map (set_rebased columns) sets)) ≡ true
+    by true there h later = or_left _ _ (subst (λ k. has (set_rebased columns set) k ≡ true) (let same : 0 + i ≡ i = omega arith in same) (number_there 0 i c columns set e there))
     by false there h later = or_right _ _ (later h)
 
 -- a test that each number from one on passes
@@ -96,10 +96,10 @@ get_there [] n h = absurd (omega arith)
 get_there (x ∷ xs) zero h = (x, refl)
 get_there (x ∷ xs) (suc n) h = get_there xs n (omega arith)
 
-sets_fit : (columns : List ℕ) (sets : List (List ℕ)) → AllByRecursion (λ n. list_any (λ set. has set n) sets ≡ true) columns → are_sets (length columns) (map (set_seated columns) sets) ≡ true
-sets_fit columns sets h = and_both _ _ (all_sets_within columns sets) (all_numbers (λ c. list_any (λ set. has set c) (map (set_seated columns) sets)) 0 (length columns) (λ n low high.
+sets_fit : (columns : List ℕ) (sets : List (List ℕ)) → AllByRecursion (λ n. list_any (λ set. has set n) sets ≡ true) columns → are_sets (length columns) (map (set_rebased columns) sets) ≡ true
+sets_fit columns sets h = and_both _ _ (all_sets_within columns sets) (all_numbers (λ c. list_any (λ set. has set c) (map (set_rebased columns) sets)) 0 (length columns) (λ n low high.
     let there = get_there columns n (omega arith) in
-    some_seated columns n there.0 sets there.1 (all_get (λ c. list_any (λ set. has set c) sets ≡ true) columns n there.0 h there.1)))
+    some_rebased columns n there.0 sets there.1 (all_get (λ c. list_any (λ set. has set c) sets ≡ true) columns n there.0 h there.1)))
 
 -- ---- the Group over a plan of FROM
 
@@ -135,7 +135,7 @@ module _ (tables : List TableRule) (plan : PlanTree) (scope : ScopeRule) (plan_i
   columns_typed [] h = tt
   columns_typed (n ∷ columns) h = (h.0, columns_typed columns h.1)
 
-  aggregated_typed : (a : AggregateMeaning Expression) → IsAggregate (IsOfKind Read) a → AllByRecursion IsTyped (aggregated a)
+  aggregated_typed : (a : BoundAggregate Expression) → IsAggregate (IsOfKind Read) a → AllByRecursion IsTyped (aggregated a)
   aggregated_typed count_rows h = tt
   aggregated_typed (count_of a) h = (h.is, tt)
   aggregated_typed (sum_of a) h = (h.0.is, tt)
@@ -232,14 +232,14 @@ module _ (tables : List TableRule) (plan : PlanTree) (scope : ScopeRule) (plan_i
       let shown : slice_get (map (group_call_over g.columns inputs) calls) n ≡ Some (group_call_over g.columns inputs c) = slice_get-map (group_call_over g.columns inputs) calls n ∙ ap (option_map (group_call_over g.columns inputs)) e in
       rw behind (rw number (rw shown (call_gives c is there)))
 
-  -- the calls of a leaf are among those of the Group
-  abbrev pub IsShown : RowLeaf → Type 0
+  -- the calls of a reference are among those of the Group
+  abbrev pub IsShown : RowReference → Type 0
   IsShown (column n) = Unit {0}
   IsShown (of_group c) = list_any (same_group_call c) calls ≡ true
 
-  pub leaf_over : (l : RowLeaf) → IsRowLeaf r l → IsShown l → Over (group_place g.columns calls l) ≡ row_kind_at Read l
-  leaf_over (column n) h there = rw (lt-ltb (number_in nat_eq g.columns n) (length g.columns) (column_within n h.1)) (column_kind n h.1)
-  leaf_over (of_group c) h there =
+  pub reference_over : (l : RowReference) → IsRowReference r l → IsShown l → Over (group_place g.columns calls l) ≡ row_kind_at Read l
+  reference_over (column n) h there = rw (lt-ltb (number_in nat_eq g.columns n) (length g.columns) (column_within n h.1)) (column_kind n h.1)
+  reference_over (of_group c) h there =
       let found = first_there (same_group_call c) calls there in
       let other = all_get (IsGroupCall r) calls (number_in same_group_call calls c) found.0 calls_are found.1 in
       call_over (number_in same_group_call calls c) found.0 found.1 ∙ ap Some (sym (group_call_kind r c found.0 found.2 h.1 other))

@@ -1,6 +1,6 @@
 pub mod Counted
 pub mod PlanKinds
-pub mod SeatedFormulas
+pub mod RebasedExpressions
 pub mod Aggregates
 pub mod Grouped
 pub mod Windowed

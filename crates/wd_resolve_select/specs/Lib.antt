@@ -1,3 +1,3 @@
 pub mod Sorting
-pub mod Cuts
+pub mod RowLimits
 pub mod Steps

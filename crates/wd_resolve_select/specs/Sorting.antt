@@ -16,21 +16,21 @@ use Rattle.wd_syntax.specs.Tree.{Tree, Keys, no_keys, more_keys}
 use Rattle.wd_value.specs.declared.order.SortColumn.{SortColumn}
 use Rattle.wd_resolve_operand.specs.declared.cause.Cause.TheVariants.{Ambiguous, WrongSortKey, TiesWithoutOrder, ForeignSortKey, TooMany}
 use Rattle.wd_resolve_operand.specs.Causes.{Meant, ◌>>=◌}
-use Rattle.wd_resolve_operand.specs.Formulas.{Formula, same_formula}
+use Rattle.wd_resolve_operand.specs.BoundExpressions.{BoundExpression, same_bound_expression}
 use Rattle.wd_resolve_operand.specs.Operands.{number, settled}
 use Rattle.wd_resolve_scope.specs.declared.context.Place.TheVariants as place
 use Rattle.wd_resolve_scope.specs.Grouped.{GroupedRule, grouped_of}
 use Rattle.wd_resolve_scope.specs.Scopes.{ScopeRule, scope_of}
 use Rattle.wd_resolve_call.specs.Windows.{sort_key}
-use Rattle.wd_resolve_call.specs.Leaves.{SelectLeaf, formula_of, same_leaf}
+use Rattle.wd_resolve_call.specs.References.{SelectReference, bound_expression_of, same_reference}
 use Rattle.wd_resolve_scope.specs.Resolving.{plain, written_number}
 use Rattle.wd_resolve_select.specs.declared.shown.Shown.{Shown as CodeShown}
 use Rattle.wd_resolve_select.specs.declared.shown.KeyPlace.{KeyPlace as CodePlace}
 use Rattle.wd_resolve_select.specs.declared.shown.KeyPlace.TheVariants as code
 use Rattle.wd_resolve_select.specs.declared.shown.Sorted.{Sorted as CodeSorted}
 use Rattle.wd_resolve_list.specs.Grouping.{below_of}
-use Rattle.wd_resolve_list.specs.Listing.{Below, all_needs, are_wide, needs_shown}
-use Rattle.wd_resolve_list.specs.Outputs.{OutputMeaning, expressions_of, output_of}
+use Rattle.wd_resolve_list.specs.SelectLists.{Below, all_projected, are_wide, projected_shown}
+use Rattle.wd_resolve_list.specs.Outputs.{BoundOutput, expressions_of, output_of}
 
 -- what a select has before its ORDER BY: the columns of FROM, those of them that may appear, what is below its windows, whether it is
 -- DISTINCT, and its outputs
@@ -39,7 +39,7 @@ pub record Shown : Type 0 where
   pub groups : Option GroupedRule
   pub below : Below
   pub distinct : Bool
-  pub outputs : List OutputMeaning
+  pub outputs : List BoundOutput
 
 abbrev pub shown_of : CodeShown → Shown
 shown_of s = record { scope = scope_of s.scope.now; groups = option_map grouped_of s.groups; below = below_of s.below.now; distinct = s.distinct; outputs = map output_of s.outputs.now }
@@ -49,39 +49,39 @@ shown_of s = record { scope = scope_of s.scope.now; groups = option_map grouped_
 -- what a key sorts by: the output of that number, or an expression that is not an output
 pub data KeyPlace : Type 0 where
   output : ℕ → KeyPlace
-  hidden : Formula SelectLeaf → KeyPlace
+  hidden : BoundExpression SelectReference → KeyPlace
 
 abbrev pub place_shown : CodePlace → KeyPlace
 place_shown (code.Output number) = output number
-place_shown (code.Hidden f) = hidden (formula_of f)
+place_shown (code.Hidden f) = hidden (bound_expression_of f)
 
 -- an output shows an expression
-abbrev pub shows : Formula SelectLeaf → OutputMeaning → Bool
-shows f o = same_formula same_leaf f o.expression
+abbrev pub shows : BoundExpression SelectReference → BoundOutput → Bool
+shows f o = same_bound_expression same_reference f o.expression
 
 -- the output of that number, or else the expression itself
-abbrev pub output_or : Formula SelectLeaf → Option ℕ → KeyPlace
+abbrev pub output_or : BoundExpression SelectReference → Option ℕ → KeyPlace
 output_or f None = hidden f
 output_or f (Some number) = output number
 
 -- the first output that shows the expression, or else the expression
-abbrev pub sorted_place : Formula SelectLeaf → List OutputMeaning → KeyPlace
+abbrev pub sorted_place : BoundExpression SelectReference → List BoundOutput → KeyPlace
 sorted_place f outputs = output_or f (position (shows f) outputs)
 
 -- the expression of a key, over the columns that may appear
 abbrev pub expression_place : Shown → Tree → Meant KeyPlace
 expression_place s a = plain place.SortKey s.groups s.scope a >>= λ x. Ok (sorted_place (settled x) s.outputs)
 
-abbrev pub is_named : List ℕ → OutputMeaning → Bool
+abbrev pub is_named : List ℕ → BoundOutput → Bool
 is_named name o = bytes_eq o.name name
 
 -- all outputs of one name show one expression
-abbrev pub are_one : List OutputMeaning → Bool
+abbrev pub are_one : List BoundOutput → Bool
 are_one [] = true
 are_one (o ∷ others) = list_all (shows o.expression) others
 
 -- the first output of a name; all outputs of that name have to show its expression
-abbrev pub first_named : List ℕ → List OutputMeaning → Meant (Option ℕ)
+abbrev pub first_named : List ℕ → List BoundOutput → Meant (Option ℕ)
 first_named name outputs = if are_one (filter (is_named name) outputs) then Ok (position (is_named name) outputs) else Err Ambiguous
 
 abbrev pub or_expression : Option ℕ → Meant KeyPlace → Meant KeyPlace
@@ -93,11 +93,11 @@ abbrev pub named_place : Shown → Name → Tree → Meant KeyPlace
 named_place s name a = first_named name.text s.outputs >>= λ number. or_expression number (expression_place s a)
 
 -- an ordinal counts outputs from 1
-abbrev pub ordinal : List OutputMeaning → ℕ → Meant KeyPlace
+abbrev pub ordinal : List BoundOutput → ℕ → Meant KeyPlace
 ordinal outputs n = if nat_le 1 n && nat_le n (length outputs) then Ok (output (n - 1)) else Err WrongSortKey
 
 -- a bare number is an ordinal, and no other bare literal may appear here (this project's choice)
-abbrev pub literal_place : List OutputMeaning → Literal → Meant KeyPlace
+abbrev pub literal_place : List BoundOutput → Literal → Meant KeyPlace
 literal_place outputs (l.Number n) = number n >>= λ m. ordinal outputs m
 literal_place outputs literal = Err WrongSortKey
 
@@ -121,10 +121,10 @@ key_place s a = expression_place s a
 -- the sort keys over the outputs and the hidden columns after them, and the expressions of the hidden columns
 pub record Sorted : Type 0 where
   pub items : List SortColumn
-  pub hidden : List (Formula SelectLeaf)
+  pub hidden : List (BoundExpression SelectReference)
 
 abbrev pub sorted_of : CodeSorted → Sorted
-sorted_of s = record { items = s.items.items; hidden = map formula_of s.hidden.items }
+sorted_of s = record { items = s.items.items; hidden = map bound_expression_of s.hidden.items }
 
 -- no sort keys yet
 abbrev pub unsorted : Sorted
@@ -135,7 +135,7 @@ abbrev pub with_item : ℕ → SortKey → Sorted → Sorted
 with_item number key so_far = record { items = so_far.items ++ record { column = number; key = key } ∷ []; hidden = so_far.hidden }
 
 -- a further key by a new hidden column, after the outputs and the hidden columns before it
-abbrev pub with_column : Shown → Formula SelectLeaf → SortKey → Sorted → Sorted
+abbrev pub with_column : Shown → BoundExpression SelectReference → SortKey → Sorted → Sorted
 with_column s f key so_far = record {
   items = so_far.items ++ record { column = length s.outputs + length so_far.hidden; key = key } ∷ [];
   hidden = so_far.hidden ++ f ∷ [];
@@ -162,14 +162,14 @@ keys_sorted s (more_keys a direction nulls keys) so_far = key_sorted s a (sort_k
 abbrev pub IsNarrow : Shown → Sorted → Type 0
 IsNarrow s so_far = are_wide s.below (expressions_of s.outputs) so_far.hidden ≡ false
 
--- the needs are those of the outputs and the sort keys so far
+-- the projected inputs are those of the outputs and the sort keys so far
 abbrev pub IsCounted : Shown → CodeSorted → Type 0
-IsCounted s so_far = needs_shown so_far.needs ≡ all_needs s.below (expressions_of s.outputs) (sorted_of so_far).hidden
+IsCounted s so_far = projected_shown so_far.projected ≡ all_projected s.below (expressions_of s.outputs) (sorted_of so_far).hidden
 
 -- ---- limits of rows
 
 -- how many rows are left out, how many are then returned at most, and whether with ties
-pub record Cut : Type 0 where
+pub record RowLimit : Type 0 where
   pub offset : ℕ
   pub count : Option ℕ
   pub ties : Bool
@@ -194,13 +194,13 @@ offset_meant None = Ok 0
 offset_meant (Some o) = number o.number
 
 -- the limits, from left to right
-abbrev pub cut_meant : Bool → Option Limits → Meant (Option Cut)
-cut_meant sorted None = Ok None
-cut_meant sorted (Some (OffsetFirst o c)) = do
+abbrev pub row_limit_meant : Bool → Option Limits → Meant (Option RowLimit)
+row_limit_meant sorted None = Ok None
+row_limit_meant sorted (Some (OffsetFirst o c)) = do
   offset ← number o.number
   x ← count_meant sorted c
   Ok (Some (record { offset = offset; count = x.0; ties = x.1 }))
-cut_meant sorted (Some (CountFirst c o)) = do
+row_limit_meant sorted (Some (CountFirst c o)) = do
   x ← count_meant sorted (Some c)
   offset ← offset_meant o
   Ok (Some (record { offset = offset; count = x.0; ties = x.1 }))

@@ -16,24 +16,24 @@ use Rattle.wd_plan.specs.Expressions.{Expression, Column}
 use Rattle.wd_plan.specs.Equality.{same_expression}
 use Rattle.wd_plan.specs.Plans.{ClassRule, GroupCall as GroupCallRule, OfRows, Grouping, GroupRule, WindowRule, PlanTree, Filter, Map, Group, Window, Distinct, Limit}
 use Rattle.wd_resolve_operand.specs.Causes.{Meant, ◌>>=◌}
-use Rattle.wd_resolve_operand.specs.Formulas.{Formula, seated}
-use Rattle.wd_resolve_call.specs.Rows.{AggregateMeaning, count_rows, count_of, sum_of, least_of, greatest_of, GroupCall, of_rows, grouping, RowLeaf, RowFormula}
-use Rattle.wd_resolve_call.specs.Calls.{FunctionMeaning, ranking, away, value_at, aggregate, CallMeaning}
-use Rattle.wd_resolve_call.specs.Leaves.{SelectLeaf}
+use Rattle.wd_resolve_operand.specs.BoundExpressions.{BoundExpression, rebased}
+use Rattle.wd_resolve_call.specs.Rows.{BoundAggregate, count_rows, count_of, sum_of, least_of, greatest_of, GroupCall, of_rows, grouping, RowReference, RowExpression}
+use Rattle.wd_resolve_call.specs.Calls.{BoundFunction, ranking, away, value_at, aggregate, BoundCall}
+use Rattle.wd_resolve_call.specs.References.{SelectReference}
 use Rattle.wd_resolve_scope.specs.Resolving.{condition}
 use Rattle.wd_resolve_scope.specs.declared.context.Place.TheVariants as place
 use Rattle.wd_resolve_scope.specs.Scopes.{ScopeRule}
-use Rattle.wd_resolve_call.specs.Windows.{KeyMeaning}
+use Rattle.wd_resolve_call.specs.Windows.{BoundKey}
 use Rattle.wd_resolve_list.specs.declared.output.OutputColumn.{OutputColumn}
-use Rattle.wd_resolve_list.specs.Grouping.{set_seated}
-use Rattle.wd_resolve_list.specs.Listing.{Below, GroupedBy, Needs, all_needs, group_inputs, group_place, input_number, number_in, over, row_place, with_new}
-use Rattle.wd_resolve_list.specs.Outputs.{OutputMeaning, expressions_of}
-use Rattle.wd_resolve_select.specs.Sorting.{Shown, Sorted, Cut}
+use Rattle.wd_resolve_list.specs.Grouping.{set_rebased}
+use Rattle.wd_resolve_list.specs.SelectLists.{Below, GroupedBy, ProjectedInputs, all_projected, group_inputs, group_place, input_number, number_in, over, row_place, with_new}
+use Rattle.wd_resolve_list.specs.Outputs.{BoundOutput, expressions_of}
+use Rattle.wd_resolve_select.specs.Sorting.{Shown, Sorted, RowLimit}
 
 -- ---- the windows of a select list
 
 -- the aggregate of a plan, over the column of its argument
-abbrev pub aggregate_over : {E : Type 0} → (E → ℕ) → AggregateMeaning E → Aggregate
+abbrev pub aggregate_over : {E : Type 0} → (E → ℕ) → BoundAggregate E → Aggregate
 aggregate_over at count_rows = rows.CountRows
 aggregate_over at (count_of a) = rows.Count (at a.expression)
 aggregate_over at (sum_of a) = rows.Sum (at a.expression)
@@ -41,18 +41,18 @@ aggregate_over at (least_of a) = rows.Min (at a.expression)
 aggregate_over at (greatest_of a) = rows.Max (at a.expression)
 
 -- the function of a plan, over the column of its argument
-abbrev pub function_over : List RowFormula → FunctionMeaning → Function
+abbrev pub function_over : List RowExpression → BoundFunction → Function
 function_over inputs (ranking r) = Ranked r
 function_over inputs (away direction a n default) = Shifted (record { direction = direction; argument = input_number inputs a.expression; offset = n; default = default })
 function_over inputs (value_at row a) = OfFrame (of_frame.ValueAt row (input_number inputs a.expression))
 function_over inputs (aggregate a) = OfFrame (of_frame.Aggregate (aggregate_over (input_number inputs) a))
 
 -- the column of a sort key among the inputs
-abbrev pub order_item : List RowFormula → KeyMeaning → SortColumn
+abbrev pub order_item : List RowExpression → BoundKey → SortColumn
 order_item inputs key = record { column = input_number inputs key.expression; key = key.key }
 
 -- the class of a call: its partition and its sort keys, over the inputs
-abbrev pub class_over : List RowFormula → CallMeaning → ClassRule
+abbrev pub class_over : List RowExpression → BoundCall → ClassRule
 class_over inputs call = record { partition = map (input_number inputs) call.window.partition; order = map (order_item inputs) call.window.order }
 
 abbrev pub same_item : SortColumn → SortColumn → Bool
@@ -63,10 +63,10 @@ abbrev pub same_class : ClassRule → ClassRule → Bool
 same_class a b = pointwise same_item a.order b.order && pointwise nat_eq a.partition b.partition
 
 -- the classes of calls, in the order of their first calls
-abbrev pub classes_over : List RowFormula → List CallMeaning → List ClassRule
+abbrev pub classes_over : List RowExpression → List BoundCall → List ClassRule
 classes_over inputs calls = with_new same_class [] (map (class_over inputs) calls)
 
-abbrev pub call_over : List RowFormula → List ClassRule → CallMeaning → Call
+abbrev pub call_over : List RowExpression → List ClassRule → BoundCall → Call
 call_over inputs classes call = record {
   class = position_or_len (same_class (class_over inputs call)) classes;
   function = function_over inputs call.function;
@@ -74,7 +74,7 @@ call_over inputs classes call = record {
 }
 
 -- what a Window computes over the inputs
-abbrev pub window_over : List RowFormula → List CallMeaning → WindowRule
+abbrev pub window_over : List RowExpression → List BoundCall → WindowRule
 window_over inputs calls = record { classes = classes_over inputs calls; calls = map (call_over inputs (classes_over inputs calls)) calls }
 
 -- ---- the steps
@@ -91,16 +91,16 @@ group_call_over columns inputs (grouping cs) = Grouping (map (number_in nat_eq c
 
 -- what a Group shows over a Map of the columns that are grouped by and the arguments
 abbrev pub group_over : GroupedBy → List GroupCall → GroupRule
-group_over g calls = record { columns = length g.columns; sets = map (set_seated g.columns) g.sets; calls = map (group_call_over g.columns (group_inputs g.columns calls)) calls }
+group_over g calls = record { columns = length g.columns; sets = map (set_rebased g.columns) g.sets; calls = map (group_call_over g.columns (group_inputs g.columns calls)) calls }
 
 -- a Group over its Map
 abbrev pub group_on : GroupedBy → List GroupCall → PlanTree → PlanTree
 group_on g calls plan = Group (group_over g calls) (Map (group_inputs g.columns calls) plan)
 
 -- a Filter over the Group for HAVING
-abbrev pub having_on : (RowLeaf → ℕ) → Option RowFormula → PlanTree → PlanTree
+abbrev pub having_on : (RowReference → ℕ) → Option RowExpression → PlanTree → PlanTree
 having_on place None plan = plan
-having_on place (Some condition) plan = Filter (seated place condition) plan
+having_on place (Some condition) plan = Filter (rebased place condition) plan
 
 -- the rows that windows are over: those of FROM and WHERE, or their groups
 abbrev pub grouped_on : Below → List GroupCall → PlanTree → PlanTree
@@ -111,23 +111,23 @@ grouped_on below calls plan = by below.grouped
     by (Some g) = having_on (group_place g.columns calls) below.having (group_on g calls plan)
 
 -- a Window over a Map of the distinct expressions that are read
-abbrev pub window_on : (RowLeaf → ℕ) → List RowFormula → List CallMeaning → PlanTree → PlanTree
-window_on place inputs calls plan = Window (window_over inputs calls) (Map (map (seated place) inputs) plan)
+abbrev pub window_on : (RowReference → ℕ) → List RowExpression → List BoundCall → PlanTree → PlanTree
+window_on place inputs calls plan = Window (window_over inputs calls) (Map (map (rebased place) inputs) plan)
 
 -- a Window, if there are window calls
-abbrev pub windowed : (RowLeaf → ℕ) → List RowFormula → List CallMeaning → PlanTree → PlanTree
+abbrev pub windowed : (RowReference → ℕ) → List RowExpression → List BoundCall → PlanTree → PlanTree
 windowed place inputs [] plan = plan
 windowed place inputs (call ∷ calls) plan = window_on place inputs (call ∷ calls) plan
 
 -- a Map of the expressions, over the Window if there is one
-abbrev pub mapped_over : (RowLeaf → ℕ) → Needs → List (Formula SelectLeaf) → PlanTree → PlanTree
-mapped_over place needs formulas plan = Map (map (over place needs) formulas) (windowed place needs.inputs needs.calls plan)
+abbrev pub mapped_over : (RowReference → ℕ) → ProjectedInputs → List (BoundExpression SelectReference) → PlanTree → PlanTree
+mapped_over place projected expressions plan = Map (map (over place projected) expressions) (windowed place projected.inputs projected.calls plan)
 
 -- a Map of outputs and hidden sort keys, over what is below it
-abbrev pub mapped : Below → (outputs hidden : List (Formula SelectLeaf)) → PlanTree → PlanTree
+abbrev pub mapped : Below → (outputs hidden : List (BoundExpression SelectReference)) → PlanTree → PlanTree
 mapped below outputs hidden plan =
-    let needs = all_needs below outputs hidden in
-    mapped_over (row_place below.grouped needs.groups) needs (outputs ++ hidden) (grouped_on below needs.groups plan)
+    let projected = all_projected below outputs hidden in
+    mapped_over (row_place below.grouped projected.groups) projected (outputs ++ hidden) (grouped_on below projected.groups plan)
 
 -- a Distinct for DISTINCT
 abbrev pub deduplicated : Bool → PlanTree → PlanTree
@@ -135,10 +135,10 @@ deduplicated false plan = plan
 deduplicated true plan = Distinct plan
 
 -- a Limit for ORDER BY, OFFSET or a count
-abbrev pub limited : List SortColumn → Option Cut → PlanTree → PlanTree
+abbrev pub limited : List SortColumn → Option RowLimit → PlanTree → PlanTree
 limited [] None plan = plan
 limited (item ∷ items) None plan = Limit (record { keys = item ∷ items; offset = 0; count = None; ties = false }) plan
-limited items (Some cut) plan = Limit (record { keys = items; offset = cut.offset; count = cut.count; ties = cut.ties }) plan
+limited items (Some row_limit) plan = Limit (record { keys = items; offset = row_limit.offset; count = row_limit.count; ties = row_limit.ties }) plan
 
 -- the given number of columns from a number on
 abbrev pub columns_from : ℕ → ℕ → List Expression
@@ -148,7 +148,7 @@ columns_from first count = map Column (range_with_len first count)
 abbrev pub without_hidden : ℕ → ℕ → PlanTree → PlanTree
 without_hidden outputs hidden plan = if nat_eq hidden 0 then plan else Map (columns_from 0 outputs) plan
 
-abbrev pub column_shown : OutputMeaning → OutputColumn
+abbrev pub column_shown : BoundOutput → OutputColumn
 column_shown output = record { name = output.name; kind = output.kind }
 
 -- a plan, and the names and kinds of its columns
@@ -157,11 +157,11 @@ pub record Lowered : Type 0 where
   pub columns : List OutputColumn
 
 -- the plan of what a select shows, sorts by and cuts off, and its columns
-abbrev pub lowered_shown : Shown → Sorted → Option Cut → PlanTree → Lowered
-lowered_shown s sorted cut plan = record {
+abbrev pub lowered_shown : Shown → Sorted → Option RowLimit → PlanTree → Lowered
+lowered_shown s sorted row_limit plan = record {
   plan =
       without_hidden (length s.outputs) (length sorted.hidden)
-      (limited sorted.items cut
+      (limited sorted.items row_limit
       (deduplicated s.distinct
       (mapped s.below (expressions_of s.outputs) sorted.hidden plan)));
   columns = map column_shown s.outputs;

@@ -2,7 +2,7 @@
 
 ghost use Rattle.wd_resolve_operand.specs.Causes.{Gives};
 ghost use Rattle.std.specs.Prelude.{option_map};
-ghost use Rattle.wd_resolve_select.specs.Cuts.{cut_of};
+ghost use Rattle.wd_resolve_select.specs.RowLimits.{row_limit_of};
 ghost use Rattle.wd_resolve_select.specs.Sorting as spec;
 
 use wd_resolve_operand::{Cause, ResolveError, number};
@@ -10,7 +10,7 @@ use wd_syntax::{Count, Limits, Offset};
 
 /// How many rows are left out, how many are then returned at most, and whether with ties.
 #[derive(Clone, Copy, PartialEq, Eq, Debug)]
-pub struct Cut {
+pub struct RowLimit {
     pub offset: u64,
     pub count: Option<u64>,
     pub ties: bool,
@@ -20,7 +20,11 @@ pub struct Cut {
 const ONE_ROW: u64 = 1;
 
 /// WITH TIES needs ORDER BY.
-fn tied(sorted: bool, with_ties: bool, count: u64) -> Result<(Option<u64>, bool), ResolveError>
+fn resolve_ties(
+    sorted: bool,
+    with_ties: bool,
+    count: u64,
+) -> Result<(Option<u64>, bool), ResolveError>
     ensures { Gives (λ x. x) result (spec.tied sorted with_ties count) }
 {
     if with_ties && !sorted {
@@ -31,7 +35,7 @@ fn tied(sorted: bool, with_ties: bool, count: u64) -> Result<(Option<u64>, bool)
 }
 
 /// The count, and whether with ties.
-fn count_meant(sorted: bool, count: Option<Count>) -> Result<(Option<u64>, bool), ResolveError>
+fn resolve_count(sorted: bool, count: Option<Count>) -> Result<(Option<u64>, bool), ResolveError>
     ensures { Gives (λ x. x) result (spec.count_meant sorted count) }
 {
     match count {
@@ -48,12 +52,12 @@ fn count_meant(sorted: bool, count: Option<Count>) -> Result<(Option<u64>, bool)
                 Some(n) => n,
                 None => ONE_ROW,
             };
-            tied(sorted, with_ties, number(n)?)
+            resolve_ties(sorted, with_ties, number(n)?)
         }
     }
 }
 
-fn offset_meant(offset: Option<Offset>) -> Result<u64, ResolveError>
+fn resolve_offset(offset: Option<Offset>) -> Result<u64, ResolveError>
     ensures { Gives (λ n. n) result (spec.offset_meant offset) }
 {
     match offset {
@@ -63,24 +67,27 @@ fn offset_meant(offset: Option<Offset>) -> Result<u64, ResolveError>
 }
 
 /// The limits, from left to right.
-pub fn cut_meant(sorted: bool, limits: Option<Limits>) -> Result<Option<Cut>, ResolveError>
-    ensures { Gives (λ cut. option_map cut_of cut) result (spec.cut_meant sorted limits) }
+pub fn resolve_limits(
+    sorted: bool,
+    limits: Option<Limits>,
+) -> Result<Option<RowLimit>, ResolveError>
+    ensures { Gives (λ row_limit. option_map row_limit_of row_limit) result (spec.row_limit_meant sorted limits) }
 {
     match limits {
         None => Ok(None),
         Some(Limits::OffsetFirst(offset, count)) => {
             let offset = number(offset.number)?;
-            let (count, ties) = count_meant(sorted, count)?;
-            Ok(Some(Cut {
+            let (count, ties) = resolve_count(sorted, count)?;
+            Ok(Some(RowLimit {
                 offset,
                 count,
                 ties,
             }))
         }
         Some(Limits::CountFirst(count, offset)) => {
-            let (count, ties) = count_meant(sorted, Some(count))?;
-            let offset = offset_meant(offset)?;
-            Ok(Some(Cut {
+            let (count, ties) = resolve_count(sorted, Some(count))?;
+            let offset = resolve_offset(offset)?;
+            Ok(Some(RowLimit {
                 offset,
                 count,
                 ties,

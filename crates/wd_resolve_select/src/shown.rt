@@ -2,9 +2,9 @@
 
 ghost use Rattle.std.specs.Prelude.{◌≤◌, length};
 
-use wd_resolve_list::{Below, Needs, Output};
-use wd_resolve_operand::Formula;
-use wd_resolve_scope::{Grouped, Scope, SelectLeaf};
+use wd_resolve_list::{Below, Output, ProjectedInputs};
+use wd_resolve_operand::BoundExpression;
+use wd_resolve_scope::{Grouped, Scope, SelectReference};
 use wd_value::SortColumn;
 
 /// What a select has before its ORDER BY: the columns of FROM, those of them that may appear, what is below its windows, whether it is
@@ -23,7 +23,7 @@ pub struct Shown<'a> {
 #[derive(Drop)]
 pub enum KeyPlace {
     Output(u16),
-    Hidden(Formula<SelectLeaf>),
+    Hidden(BoundExpression<SelectReference>),
 }
 
 /// The sort keys over the outputs and the hidden columns after them, the expressions of the hidden columns, and what the outputs, HAVING
@@ -31,6 +31,6 @@ pub enum KeyPlace {
 #[derive(Drop)]
 pub struct Sorted {
     pub items: Vec<SortColumn>,
-    pub hidden: Vec<Formula<SelectLeaf>>,
-    pub needs: Needs,
+    pub hidden: Vec<BoundExpression<SelectReference>>,
+    pub projected: ProjectedInputs,
 }

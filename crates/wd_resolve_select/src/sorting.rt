@@ -5,37 +5,37 @@ ghost use Rattle.std.specs.List.{list_all, position_or_len};
 ghost use Rattle.wd_syntax.specs.Tree.{keys_of};
 ghost use Rattle.wd_syntax.specs.View.{view, view_key};
 ghost use Rattle.wd_resolve_operand.specs.Causes.{Gives};
-ghost use Rattle.wd_resolve_call.specs.Leaves.{formula_of};
+ghost use Rattle.wd_resolve_call.specs.References.{bound_expression_of};
 ghost use Rattle.wd_resolve_call.specs.Windows as windows;
-ghost use Rattle.wd_resolve_list.specs.Listing.{needs_shown};
-ghost use Rattle.wd_resolve_list.specs.Listing as listing;
+ghost use Rattle.wd_resolve_list.specs.SelectLists.{projected_shown};
+ghost use Rattle.wd_resolve_list.specs.SelectLists as listing;
 ghost use Rattle.wd_resolve_list.specs.Outputs.{expressions_of, output_of};
 ghost use Rattle.wd_resolve_select.specs.Sorting.{shown_of, place_shown, sorted_of, IsCounted, IsNarrow};
 ghost use Rattle.wd_resolve_select.specs.Sorting as spec;
 
 use crate::shown::{KeyPlace, Shown, Sorted};
 use std::alloc::Global;
-use wd_resolve_list::{Needs, Output};
-use wd_resolve_operand::{Cause, Formula, ResolveError, number};
-use wd_resolve_scope::{Place, SelectLeaf, plain, sort_key, written_number};
+use wd_resolve_list::{Output, ProjectedInputs};
+use wd_resolve_operand::{BoundExpression, Cause, ResolveError, number};
+use wd_resolve_scope::{Place, SelectReference, plain, sort_key, written_number};
 use wd_syntax as written;
 use wd_syntax::{Literal, Name, SortKey};
 use wd_value::{OutOfMemory, SortColumn};
 
 /// Whether an output shows an expression.
-fn shows(formula: &Formula<SelectLeaf>, output: &Output) -> bool
-    ensures { result ≡ spec.shows (formula_of formula.now) (output_of output.now) }
+fn shows(expression: &BoundExpression<SelectReference>, output: &Output) -> bool
+    ensures { result ≡ spec.shows (bound_expression_of expression.now) (output_of output.now) }
 {
-    formula.same(&output.expression)
+    expression.same(&output.expression)
 }
 
 /// The number of the first output that shows an expression, and the number of outputs where none does.
-fn output_number(formula: &Formula<SelectLeaf>, outputs: &[Output]) -> usize
-    ensures number { result ≡ position_or_len (spec.shows (formula_of formula.now)) (map output_of outputs.now) }
+fn output_number(expression: &BoundExpression<SelectReference>, outputs: &[Output]) -> usize
+    ensures number { result ≡ position_or_len (spec.shows (bound_expression_of expression.now)) (map output_of outputs.now) }
     ensures within { result ≤ length outputs.now }
 {
     for (number, output) in outputs.iter().enumerate() {
-        if shows(formula, output) {
+        if shows(expression, output) {
             return number;
         }
     }
@@ -43,15 +43,15 @@ fn output_number(formula: &Formula<SelectLeaf>, outputs: &[Output]) -> usize
 }
 
 /// The output that shows the expression, the first if there are several, or else the expression.
-fn sorted_place(formula: Formula<SelectLeaf>, outputs: &[Output]) -> KeyPlace
+fn sorted_place(expression: BoundExpression<SelectReference>, outputs: &[Output]) -> KeyPlace
     requires { length outputs.now ≤ 1024 }
-    ensures { place_shown result ≡ spec.sorted_place (formula_of formula) (map output_of outputs.now) }
+    ensures { place_shown result ≡ spec.sorted_place (bound_expression_of expression) (map output_of outputs.now) }
 {
-    let number = output_number(&formula, outputs);
+    let number = output_number(&expression, outputs);
     if number < outputs.len() {
         KeyPlace::Output(number as u16)
     } else {
-        KeyPlace::Hidden(formula)
+        KeyPlace::Hidden(expression)
     }
 }
 
@@ -74,11 +74,15 @@ fn is_named(name: &Name, output: &Output) -> bool
 }
 
 /// Whether all outputs of that name show the expression.
-fn names_only(name: &Name, formula: &Formula<SelectLeaf>, outputs: &[Output]) -> bool
-    ensures { result ≡ list_all (spec.shows (formula_of formula.now)) (filter (spec.is_named name.now.text) (map output_of outputs.now)) }
+fn names_only(
+    name: &Name,
+    expression: &BoundExpression<SelectReference>,
+    outputs: &[Output],
+) -> bool
+    ensures { result ≡ list_all (spec.shows (bound_expression_of expression.now)) (filter (spec.is_named name.now.text) (map output_of outputs.now)) }
 {
     for output in outputs {
-        if is_named(name, output) && !shows(formula, output) {
+        if is_named(name, output) && !shows(expression, output) {
             return false;
         }
     }
@@ -201,43 +205,43 @@ fn with_output(
     let Sorted {
         mut items,
         hidden,
-        needs,
+        projected,
     } = sorted;
     items.push(SortColumn { column, key })?;
     Ok(Sorted {
         items,
         hidden,
-        needs,
+        projected,
     })
 }
 
 /// The keys with a new hidden column and one by it.
-#[tactic(auto, using(wd_resolve_list::proofs::Counted::needs_pushed))]
+#[tactic(auto, using(wd_resolve_list::proofs::Counted::projected_pushed))]
 fn with_column(
     alloc: Global,
     sorted: Sorted,
     shown: &Shown<'_>,
-    formula: Formula<SelectLeaf>,
+    expression: BoundExpression<SelectReference>,
     key: wd_value::SortKey,
 ) -> Result<Sorted, OutOfMemory>
     requires few { length shown.now.outputs.now + vec_len sorted.hidden ≤ 1024 }
     requires counted { IsCounted (shown_of shown.now) sorted }
-    ensures meant { IfOk result (λ s. sorted_of s ≡ spec.with_column (shown_of shown.now) (formula_of formula) key (sorted_of sorted)) }
+    ensures meant { IfOk result (λ s. sorted_of s ≡ spec.with_column (shown_of shown.now) (bound_expression_of expression) key (sorted_of sorted)) }
     ensures counted { IfOk result (λ s. IsCounted (shown_of shown.now) s) }
 {
     let Sorted {
         mut items,
         mut hidden,
-        needs,
+        projected,
     } = sorted;
     let column = (shown.outputs.len() + hidden.len()) as u16;
-    let needs = needs.add(alloc, &formula)?;
-    hidden.push(formula)?;
+    let projected = projected.add(alloc, &expression)?;
+    hidden.push(expression)?;
     items.push(SortColumn { column, key })?;
     Ok(Sorted {
         items,
         hidden,
-        needs,
+        projected,
     })
 }
 
@@ -247,29 +251,29 @@ fn are_wide(shown: &Shown<'_>, sorted: &Sorted) -> bool
     ensures { result ≡ listing.are_wide (shown_of shown.now).below (expressions_of (shown_of shown.now).outputs) (sorted_of sorted.now).hidden }
 {
     sorted
-        .needs
+        .projected
         .is_wide(shown.outputs.len() + sorted.hidden.len(), shown.below)
 }
 
 /// The keys with one by a new hidden column; 414 with DISTINCT, and 415 where a node becomes too wide.
 #[tactic(auto, using(crate::proofs::Counted::few_shown))]
-fn with_hidden(
+fn add_hidden_key(
     alloc: Global,
     sorted: Sorted,
     shown: &Shown<'_>,
-    formula: Formula<SelectLeaf>,
+    expression: BoundExpression<SelectReference>,
     key: wd_value::SortKey,
 ) -> Result<Sorted, ResolveError>
     requires counted { IsCounted (shown_of shown.now) sorted }
     requires narrow { IsNarrow (shown_of shown.now) (sorted_of sorted) }
-    ensures meant { Gives sorted_of result (spec.with_key (shown_of shown.now) (spec.hidden (formula_of formula)) key (sorted_of sorted)) }
+    ensures meant { Gives sorted_of result (spec.with_key (shown_of shown.now) (spec.hidden (bound_expression_of expression)) key (sorted_of sorted)) }
     ensures counted { IfOk result (λ s. IsCounted (shown_of shown.now) s) }
     ensures narrow { IfOk result (λ s. IsNarrow (shown_of shown.now) (sorted_of s)) }
 {
     if shown.distinct {
         return Err(ResolveError::Refused(Cause::ForeignSortKey));
     }
-    let next = with_column(alloc, sorted, shown, formula, key)?;
+    let next = with_column(alloc, sorted, shown, expression, key)?;
     if are_wide(shown, &next) {
         Err(ResolveError::Refused(Cause::TooMany))
     } else {
@@ -278,7 +282,7 @@ fn with_hidden(
 }
 
 /// A further key.
-fn key_sorted(
+fn add_sort_key(
     alloc: Global,
     sorted: Sorted,
     shown: &Shown<'_>,
@@ -294,18 +298,18 @@ fn key_sorted(
     let direction = sort_key(key.direction, key.nulls);
     match place {
         KeyPlace::Output(column) => with_output(sorted, shown, column, direction),
-        KeyPlace::Hidden(formula) => with_hidden(alloc, sorted, shown, formula, direction),
+        KeyPlace::Hidden(expression) => add_hidden_key(alloc, sorted, shown, expression, direction),
     }
 }
 
 /// The sort keys of a select whose outputs and HAVING need this.
-pub fn keys_sorted(
+pub fn resolve_sort_keys(
     alloc: Global,
     shown: &Shown<'_>,
     keys: &[SortKey],
-    needs: Needs,
+    projected: ProjectedInputs,
 ) -> Result<Sorted, ResolveError>
-    requires counted { needs_shown needs ≡ listing.all_needs (shown_of shown.now).below (expressions_of (shown_of shown.now).outputs) [] }
+    requires counted { projected_shown projected ≡ listing.all_projected (shown_of shown.now).below (expressions_of (shown_of shown.now).outputs) [] }
     requires narrow { listing.are_wide (shown_of shown.now).below (expressions_of (shown_of shown.now).outputs) [] ≡ false }
     ensures meant { Gives sorted_of result (spec.keys_sorted (shown_of shown.now) (keys_of (map view_key keys.now)) spec.unsorted) }
     ensures counted { IfOk result (λ s. IsCounted (shown_of shown.now) s) }
@@ -314,10 +318,10 @@ pub fn keys_sorted(
     let mut sorted = Sorted {
         items: Vec::new(alloc),
         hidden: Vec::new(alloc),
-        needs,
+        projected,
     };
     for key in keys {
-        sorted = key_sorted(alloc, sorted, shown, key)?;
+        sorted = add_sort_key(alloc, sorted, shown, key)?;
     }
     Ok(sorted)
 }

@@ -10,18 +10,18 @@ ghost use Rattle.wd_plan.specs.Plans as tree;
 ghost use Rattle.wd_syntax.specs.View.{view_option};
 ghost use Rattle.wd_resolve_operand.specs.Causes.{Gives};
 ghost use Rattle.wd_resolve_call.specs.Calls.{call_of, function_of};
-ghost use Rattle.wd_resolve_call.specs.Rows.{aggregate_of, group_call_of, row_formula_of};
+ghost use Rattle.wd_resolve_call.specs.Rows.{aggregate_of, group_call_of, row_expression_of};
 ghost use Rattle.wd_resolve_list.specs.Grouping.{below_of};
 ghost use Rattle.wd_resolve_list.specs.Grouping as grouping_spec;
-ghost use Rattle.wd_resolve_call.specs.Leaves.{formula_of};
+ghost use Rattle.wd_resolve_call.specs.References.{bound_expression_of};
 ghost use Rattle.wd_resolve_scope.specs.Scopes.{scope_of};
 ghost use Rattle.wd_resolve_call.specs.Windows.{key_of};
-ghost use Rattle.wd_resolve_select.specs.Cuts.{cut_of};
-ghost use Rattle.wd_resolve_list.specs.Listing.{grouped_by_of, input_number as input_meant, is_group_wide, is_window_wide, needs_shown, number_in, row_place, shared_call, with_new};
+ghost use Rattle.wd_resolve_select.specs.RowLimits.{row_limit_of};
+ghost use Rattle.wd_resolve_list.specs.SelectLists.{grouped_by_of, input_number as input_meant, is_group_wide, is_window_wide, projected_shown, number_in, row_place, shared_call, with_new};
 ghost use Rattle.wd_resolve_select.specs.Steps as spec;
 
-use crate::limits::Cut;
-use crate::seated::{all_seated, inputs_seated, row_seated};
+use crate::limits::RowLimit;
+use crate::rebased::{rebase_all, rebase_inputs, rebase_row};
 use std::alloc::Global;
 use std::rc::Rc;
 use wd_plan as plan;
@@ -30,25 +30,25 @@ use wd_plan::{
     has_column,
 };
 use wd_resolve_list::{
-    Below, GroupedBy, Needs, column_number, expression_number, group_inputs, input_number,
+    Below, GroupedBy, ProjectedInputs, column_number, expression_number, group_inputs, input_number,
 };
-use wd_resolve_operand::{Formula, ResolveError};
+use wd_resolve_operand::{BoundExpression, ResolveError};
 use wd_resolve_scope::{
-    AppliedAggregate, AppliedFunction, GroupCall, OrderKey, Place, RowLeaf, Scope, SelectLeaf,
-    WindowCall, condition,
+    AppliedAggregate, AppliedFunction, GroupCall, OrderKey, Place, RowReference, Scope,
+    SelectReference, WindowCall, condition,
 };
 use wd_syntax as written;
 use wd_value::{OutOfMemory, SortColumn};
 
 /// The limits that keep all rows.
-const NO_CUT: Cut = Cut {
+const NO_CUT: RowLimit = RowLimit {
     offset: 0,
     count: None,
     ties: false,
 };
 
 /// A Filter for WHERE.
-pub fn filtered(
+pub fn add_filter(
     alloc: Global,
     scope: &Scope,
     filter: &Option<written::Expr>,
@@ -70,11 +70,11 @@ pub fn filtered(
 
 /// The aggregate of a plan, over the column of its argument.
 fn aggregate_over(
-    aggregate: &AppliedAggregate<Formula<RowLeaf>>,
-    inputs: &[Formula<RowLeaf>],
+    aggregate: &AppliedAggregate<BoundExpression<RowReference>>,
+    inputs: &[BoundExpression<RowReference>],
 ) -> Aggregate
     requires { length inputs.now ≤ 1024 }
-    ensures { result ≡ spec.aggregate_over (input_meant (map row_formula_of inputs.now)) (aggregate_of row_formula_of aggregate.now) }
+    ensures { result ≡ spec.aggregate_over (input_meant (map row_expression_of inputs.now)) (aggregate_of row_expression_of aggregate.now) }
 {
     match aggregate {
         AppliedAggregate::CountRows => Aggregate::CountRows,
@@ -86,9 +86,9 @@ fn aggregate_over(
 }
 
 /// The function of a plan, over the column of its argument.
-fn function_over(function: AppliedFunction, inputs: &[Formula<RowLeaf>]) -> Function
+fn function_over(function: AppliedFunction, inputs: &[BoundExpression<RowReference>]) -> Function
     requires { length inputs.now ≤ 1024 }
-    ensures { result ≡ spec.function_over (map row_formula_of inputs.now) (function_of function) }
+    ensures { result ≡ spec.function_over (map row_expression_of inputs.now) (function_of function) }
 {
     match function {
         AppliedFunction::Ranking(ranking) => Function::Ranking(ranking),
@@ -116,11 +116,11 @@ fn function_over(function: AppliedFunction, inputs: &[Formula<RowLeaf>]) -> Func
 /// The columns of a partition, as numbers of inputs.
 fn columns_over(
     alloc: Global,
-    inputs: &[Formula<RowLeaf>],
-    expressions: &[Formula<RowLeaf>],
+    inputs: &[BoundExpression<RowReference>],
+    expressions: &[BoundExpression<RowReference>],
 ) -> Result<Vec<u16>, OutOfMemory>
     requires { length inputs.now ≤ 1024 }
-    ensures { IfOk result (λ v. v.items ≡ map (input_meant (map row_formula_of inputs.now)) (map row_formula_of expressions.now)) }
+    ensures { IfOk result (λ v. v.items ≡ map (input_meant (map row_expression_of inputs.now)) (map row_expression_of expressions.now)) }
 {
     let mut columns = Vec::with_capacity(alloc, expressions.len())?;
     for expression in expressions {
@@ -132,11 +132,11 @@ fn columns_over(
 /// The sort keys of a window, over the inputs.
 fn items_over(
     alloc: Global,
-    inputs: &[Formula<RowLeaf>],
+    inputs: &[BoundExpression<RowReference>],
     keys: &[OrderKey],
 ) -> Result<Vec<SortColumn>, OutOfMemory>
     requires { length inputs.now ≤ 1024 }
-    ensures { IfOk result (λ v. v.items ≡ map (spec.order_item (map row_formula_of inputs.now)) (map key_of keys.now)) }
+    ensures { IfOk result (λ v. v.items ≡ map (spec.order_item (map row_expression_of inputs.now)) (map key_of keys.now)) }
 {
     let mut items = Vec::with_capacity(alloc, keys.len())?;
     for key in keys {
@@ -151,11 +151,11 @@ fn items_over(
 /// The class of a call: its partition and its sort keys, over the inputs.
 fn class_over(
     alloc: Global,
-    inputs: &[Formula<RowLeaf>],
+    inputs: &[BoundExpression<RowReference>],
     call: &WindowCall,
 ) -> Result<Class, OutOfMemory>
     requires { length inputs.now ≤ 1024 }
-    ensures { IfOk result (λ c. class_of c ≡ spec.class_over (map row_formula_of inputs.now) (call_of call.now)) }
+    ensures { IfOk result (λ c. class_of c ≡ spec.class_over (map row_expression_of inputs.now) (call_of call.now)) }
 {
     let partition = columns_over(alloc, inputs, &call.window.partition)?;
     let order = items_over(alloc, inputs, &call.window.order)?;
@@ -238,11 +238,11 @@ fn add_class(classes: &mut Vec<Class>, class: Class) -> Result<(), OutOfMemory>
 /// The classes of calls, in the order of their first calls.
 fn classes_over(
     alloc: Global,
-    inputs: &[Formula<RowLeaf>],
+    inputs: &[BoundExpression<RowReference>],
     calls: &[WindowCall],
 ) -> Result<Vec<Class>, OutOfMemory>
     requires { length inputs.now ≤ 1024 }
-    ensures meant { IfOk result (λ v. map class_of v.items ≡ spec.classes_over (map row_formula_of inputs.now) (map call_of calls.now)) }
+    ensures meant { IfOk result (λ v. map class_of v.items ≡ spec.classes_over (map row_expression_of inputs.now) (map call_of calls.now)) }
     ensures within { IfOk result (λ v. vec_len v ≤ length calls.now) }
 {
     let mut classes = Vec::new(alloc);
@@ -256,13 +256,13 @@ fn classes_over(
 /// A call of a plan: its class, its function and its frame.
 fn call_over(
     alloc: Global,
-    inputs: &[Formula<RowLeaf>],
+    inputs: &[BoundExpression<RowReference>],
     classes: &[Class],
     call: WindowCall,
 ) -> Result<Call, OutOfMemory>
     requires few_inputs { length inputs.now ≤ 1024 }
     requires few_classes { length classes.now ≤ 1024 }
-    ensures { IfOk result (λ c. c ≡ spec.call_over (map row_formula_of inputs.now) (map class_of classes.now) (call_of call)) }
+    ensures { IfOk result (λ c. c ≡ spec.call_over (map row_expression_of inputs.now) (map class_of classes.now) (call_of call)) }
 {
     let class = class_over(alloc, inputs, &call)?;
     let number = class_number(classes, &class) as u16;
@@ -277,13 +277,13 @@ fn call_over(
 /// The calls of a plan.
 fn calls_over(
     alloc: Global,
-    inputs: &[Formula<RowLeaf>],
+    inputs: &[BoundExpression<RowReference>],
     classes: &[Class],
     calls: Vec<WindowCall>,
 ) -> Result<Vec<Call>, OutOfMemory>
     requires few_inputs { length inputs.now ≤ 1024 }
     requires few_classes { length classes.now ≤ 1024 }
-    ensures { IfOk result (λ v. v.items ≡ map (spec.call_over (map row_formula_of inputs.now) (map class_of classes.now)) (map call_of calls.items)) }
+    ensures { IfOk result (λ v. v.items ≡ map (spec.call_over (map row_expression_of inputs.now) (map class_of classes.now)) (map call_of calls.items)) }
 {
     let mut planned = Vec::with_capacity(alloc, calls.len())?;
     for call in calls {
@@ -296,13 +296,13 @@ fn calls_over(
 fn window_on(
     alloc: Global,
     shown: Vec<Expr>,
-    inputs: Vec<Formula<RowLeaf>>,
+    inputs: Vec<BoundExpression<RowReference>>,
     calls: Vec<WindowCall>,
     plan: Plan,
 ) -> Result<Plan, OutOfMemory>
     requires few_inputs { vec_len inputs ≤ 1024 }
     requires few_calls { vec_len calls ≤ 1024 }
-    ensures { IfOk result (λ p. plan_of p ≡ tree.Window (spec.window_over (map row_formula_of inputs.items) (map call_of calls.items)) (tree.Map (map expression_of shown.items) (plan_of plan))) }
+    ensures { IfOk result (λ p. plan_of p ≡ tree.Window (spec.window_over (map row_expression_of inputs.items) (map call_of calls.items)) (tree.Map (map expression_of shown.items) (plan_of plan))) }
 {
     let classes = classes_over(alloc, &inputs, &calls)?;
     let calls = calls_over(alloc, &inputs, &classes, calls)?;
@@ -317,27 +317,32 @@ fn window_on(
 }
 
 /// A Window over a Map of the inputs, if there are window calls.
-fn windowed(alloc: Global, needs: Needs, below: &Below, plan: Plan) -> Result<Plan, OutOfMemory>
-    requires few_inputs { is_window_wide (needs_shown needs) ≡ false }
-    requires few_groups { is_group_wide (below_of below.now).grouped (needs_shown needs).groups ≡ false }
-    ensures { IfOk result (λ p. plan_of p ≡ spec.windowed (row_place (below_of below.now).grouped (needs_shown needs).groups) (needs_shown needs).inputs (needs_shown needs).calls (plan_of plan)) }
+fn add_window(
+    alloc: Global,
+    projected: ProjectedInputs,
+    below: &Below,
+    plan: Plan,
+) -> Result<Plan, OutOfMemory>
+    requires few_inputs { is_window_wide (projected_shown projected) ≡ false }
+    requires few_groups { is_group_wide (below_of below.now).grouped (projected_shown projected).groups ≡ false }
+    ensures { IfOk result (λ p. plan_of p ≡ spec.windowed (row_place (below_of below.now).grouped (projected_shown projected).groups) (projected_shown projected).inputs (projected_shown projected).calls (plan_of plan)) }
 {
-    if needs.calls.is_empty() {
+    if projected.calls.is_empty() {
         return Ok(plan);
     }
-    let shown = inputs_seated(alloc, &needs, below)?;
-    let Needs {
+    let shown = rebase_inputs(alloc, &projected, below)?;
+    let ProjectedInputs {
         calls,
         inputs,
         groups: _,
-    } = needs;
+    } = projected;
     window_on(alloc, shown, inputs, calls, plan)
 }
 
 /// A set, by the numbers of its columns among those that are grouped by.
-fn set_seated(alloc: Global, columns: &[u16], set: &[u16]) -> Result<Vec<u16>, OutOfMemory>
+fn rebase_set(alloc: Global, columns: &[u16], set: &[u16]) -> Result<Vec<u16>, OutOfMemory>
     requires { length columns.now ≤ 1024 }
-    ensures { IfOk result (λ v. v.items ≡ grouping_spec.set_seated columns.now set.now) }
+    ensures { IfOk result (λ v. v.items ≡ grouping_spec.set_rebased columns.now set.now) }
 {
     let mut numbers = Vec::new(alloc);
     for (number, column) in columns.iter().enumerate() {
@@ -349,19 +354,19 @@ fn set_seated(alloc: Global, columns: &[u16], set: &[u16]) -> Result<Vec<u16>, O
 }
 
 /// The sets of a Group.
-fn sets_seated(
+fn rebase_sets(
     alloc: Global,
     columns: &[u16],
     sets: &[Vec<u16>],
 ) -> Result<Vec<Vec<u16>>, OutOfMemory>
     requires { length columns.now ≤ 1024 }
-    ensures { IfOk result (λ v. sets_of v.items ≡ map (grouping_spec.set_seated columns.now) (sets_of sets.now)) }
+    ensures { IfOk result (λ v. sets_of v.items ≡ map (grouping_spec.set_rebased columns.now) (sets_of sets.now)) }
 {
-    let mut seated = Vec::with_capacity(alloc, sets.len())?;
+    let mut rebased = Vec::with_capacity(alloc, sets.len())?;
     for set in sets {
-        seated.push(set_seated(alloc, columns, set)?)?;
+        rebased.push(rebase_set(alloc, columns, set)?)?;
     }
-    Ok(seated)
+    Ok(rebased)
 }
 
 /// The aggregate of a Group, over the column of its argument.
@@ -450,7 +455,7 @@ fn group_on(
     let inputs = group_inputs(alloc, &grouped.columns, calls)?;
     let group = Group {
         columns: grouped.columns.len() as u16,
-        sets: sets_seated(alloc, &grouped.columns, &grouped.sets)?,
+        sets: rebase_sets(alloc, &grouped.columns, &grouped.sets)?,
         calls: group_calls_over(alloc, &grouped.columns, &inputs, calls)?,
     };
     let inner = Plan::Map {
@@ -464,14 +469,19 @@ fn group_on(
 }
 
 /// A Filter over the Group for HAVING.
-fn having_on(alloc: Global, needs: &Needs, below: &Below, plan: Plan) -> Result<Plan, OutOfMemory>
-    requires { is_group_wide (below_of below.now).grouped (needs_shown needs.now).groups ≡ false }
-    ensures { IfOk result (λ p. plan_of p ≡ spec.having_on (row_place (below_of below.now).grouped (needs_shown needs.now).groups) (below_of below.now).having (plan_of plan)) }
+fn having_on(
+    alloc: Global,
+    projected: &ProjectedInputs,
+    below: &Below,
+    plan: Plan,
+) -> Result<Plan, OutOfMemory>
+    requires { is_group_wide (below_of below.now).grouped (projected_shown projected.now).groups ≡ false }
+    ensures { IfOk result (λ p. plan_of p ≡ spec.having_on (row_place (below_of below.now).grouped (projected_shown projected.now).groups) (below_of below.now).having (plan_of plan)) }
 {
     let Some(condition) = &below.having else {
         return Ok(plan);
     };
-    let condition = row_seated(alloc, needs, below, condition)?;
+    let condition = rebase_row(alloc, projected, below, condition)?;
     Ok(Plan::Filter {
         input: Box::new(alloc, plan)?,
         condition,
@@ -479,32 +489,37 @@ fn having_on(alloc: Global, needs: &Needs, below: &Below, plan: Plan) -> Result<
 }
 
 /// In a grouped select the Group over its Map, and a Filter for HAVING.
-fn grouped_on(alloc: Global, needs: &Needs, below: &Below, plan: Plan) -> Result<Plan, OutOfMemory>
-    requires { is_group_wide (below_of below.now).grouped (needs_shown needs.now).groups ≡ false }
-    ensures { IfOk result (λ p. plan_of p ≡ spec.grouped_on (below_of below.now) (needs_shown needs.now).groups (plan_of plan)) }
+fn add_group(
+    alloc: Global,
+    projected: &ProjectedInputs,
+    below: &Below,
+    plan: Plan,
+) -> Result<Plan, OutOfMemory>
+    requires { is_group_wide (below_of below.now).grouped (projected_shown projected.now).groups ≡ false }
+    ensures { IfOk result (λ p. plan_of p ≡ spec.grouped_on (below_of below.now) (projected_shown projected.now).groups (plan_of plan)) }
 {
     let Some(grouped) = &below.grouped else {
         return Ok(plan);
     };
-    let plan = group_on(alloc, grouped, &needs.groups, plan)?;
-    having_on(alloc, needs, below, plan)
+    let plan = group_on(alloc, grouped, &projected.groups, plan)?;
+    having_on(alloc, projected, below, plan)
 }
 
 /// A Map of the expressions, over what is below them.
-pub fn mapped(
+pub fn add_map(
     alloc: Global,
-    needs: Needs,
+    projected: ProjectedInputs,
     below: &Below,
-    formulas: Vec<Formula<SelectLeaf>>,
+    expressions: Vec<BoundExpression<SelectReference>>,
     plan: Plan,
 ) -> Result<Plan, OutOfMemory>
-    requires few_inputs { is_window_wide (needs_shown needs) ≡ false }
-    requires few_groups { is_group_wide (below_of below.now).grouped (needs_shown needs).groups ≡ false }
-    ensures { IfOk result (λ p. plan_of p ≡ spec.mapped_over (row_place (below_of below.now).grouped (needs_shown needs).groups) (needs_shown needs) (map formula_of formulas.items) (spec.grouped_on (below_of below.now) (needs_shown needs).groups (plan_of plan))) }
+    requires few_inputs { is_window_wide (projected_shown projected) ≡ false }
+    requires few_groups { is_group_wide (below_of below.now).grouped (projected_shown projected).groups ≡ false }
+    ensures { IfOk result (λ p. plan_of p ≡ spec.mapped_over (row_place (below_of below.now).grouped (projected_shown projected).groups) (projected_shown projected) (map bound_expression_of expressions.items) (spec.grouped_on (below_of below.now) (projected_shown projected).groups (plan_of plan))) }
 {
-    let outputs = all_seated(alloc, &needs, below, &formulas)?;
-    let plan = grouped_on(alloc, &needs, below, plan)?;
-    let below = windowed(alloc, needs, below, plan)?;
+    let outputs = rebase_all(alloc, &projected, below, &expressions)?;
+    let plan = add_group(alloc, &projected, below, plan)?;
+    let below = add_window(alloc, projected, below, plan)?;
     Ok(Plan::Map {
         input: Box::new(alloc, below)?,
         outputs,
@@ -512,7 +527,7 @@ pub fn mapped(
 }
 
 /// A Distinct for DISTINCT.
-pub fn deduplicated(alloc: Global, distinct: bool, plan: Plan) -> Result<Plan, OutOfMemory>
+pub fn add_distinct(alloc: Global, distinct: bool, plan: Plan) -> Result<Plan, OutOfMemory>
     ensures { IfOk result (λ p. plan_of p ≡ spec.deduplicated distinct (plan_of plan)) }
 {
     if distinct {
@@ -525,24 +540,24 @@ pub fn deduplicated(alloc: Global, distinct: bool, plan: Plan) -> Result<Plan, O
 }
 
 /// A Limit for ORDER BY, OFFSET or a count.
-pub fn limited(
+pub fn add_limit(
     alloc: Global,
     keys: Vec<SortColumn>,
-    cut: Option<Cut>,
+    row_limit: Option<RowLimit>,
     plan: Plan,
 ) -> Result<Plan, OutOfMemory>
-    ensures { IfOk result (λ p. plan_of p ≡ spec.limited keys.items (option_map cut_of cut) (plan_of plan)) }
+    ensures { IfOk result (λ p. plan_of p ≡ spec.limited keys.items (option_map row_limit_of row_limit) (plan_of plan)) }
 {
-    let cut = match cut {
-        Some(cut) => cut,
+    let row_limit = match row_limit {
+        Some(row_limit) => row_limit,
         None if keys.is_empty() => return Ok(plan),
         None => NO_CUT,
     };
     let limit = Limit {
         keys,
-        offset: cut.offset,
-        count: cut.count,
-        ties: cut.ties,
+        offset: row_limit.offset,
+        count: row_limit.count,
+        ties: row_limit.ties,
     };
     Ok(Plan::Limit {
         input: Box::new(alloc, plan)?,
@@ -563,7 +578,7 @@ fn first_columns(alloc: Global, count: usize) -> Result<Vec<Expr>, OutOfMemory>
 }
 
 /// A Map that drops the hidden sort keys after the outputs, if there are any.
-pub fn without_hidden(
+pub fn drop_hidden(
     alloc: Global,
     outputs: usize,
     hidden: usize,

@@ -37,7 +37,7 @@ pub(crate) fn write_mended<S: Sources>(
             None => input.extend_from_slice(file.text)?,
         }
     } else if let Some(text) = text {
-        if let Some(remark) = replaced(alloc, file, &text, run.sources)? {
+        if let Some(remark) = replace_text(alloc, file, &text, run.sources)? {
             return run.tell_not_done(NOT_FIXED, file.path, remark, report);
         }
     }
@@ -49,7 +49,7 @@ pub(crate) fn write_mended<S: Sources>(
 }
 
 /// Replaces the text of a file, if it still is the text that was checked. The result is why it is not replaced.
-fn replaced<S: Sources>(
+fn replace_text<S: Sources>(
     alloc: Global,
     file: File<'_>,
     text: &[u8],

@@ -110,7 +110,7 @@ impl Used {
         what: &'static str,
         sources: &mut S,
     ) -> Result<(), OutOfMemory> {
-        if let Some(path) = resolved(self.alloc, path, sources)? {
+        if let Some(path) = resolve_path(self.alloc, path, sources)? {
             self.files.insert(path, what)?;
         }
         Ok(())
@@ -188,7 +188,7 @@ impl Used {
         path: &str,
         sources: &mut S,
     ) -> Result<Option<&'static str>, OutOfMemory> {
-        match resolved(self.alloc, path, sources)? {
+        match resolve_path(self.alloc, path, sources)? {
             Some(path) => Ok(self.files.get(path.as_str()).copied()),
             None => Ok(None),
         }
@@ -196,7 +196,7 @@ impl Used {
 }
 
 /// The resolved path of a file, which does not depend on the spelling; `None` where its folder cannot be looked at.
-fn resolved<S: Sources>(
+fn resolve_path<S: Sources>(
     alloc: Global,
     path: &str,
     sources: &mut S,

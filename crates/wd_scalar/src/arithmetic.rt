@@ -59,7 +59,7 @@ fn remainder(m: i64, n: i64) -> Result<Value, Fault>
 }
 
 /// The number with its sign changed.
-pub(crate) fn negated(value: &Value) -> Result<Value, Fault>
+pub(crate) fn negate(value: &Value) -> Result<Value, Fault>
     ensures { result ≡ spec.negated value.now }
 {
     match value {

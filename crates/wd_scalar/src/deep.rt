@@ -9,7 +9,7 @@ ghost use Rattle.wd_scalar.specs.Operands as operands;
 ghost use Rattle.wd_scalar.specs.Waiting.{resumed, step_of, steps_left, waiting_steps};
 ghost use Rattle.wd_value.specs.Rows.{column_of};
 
-use crate::arithmetic::{arithmetic_result, negated};
+use crate::arithmetic::{arithmetic_result, negate};
 use crate::truth::{and_result, comparison_result, is_null, is_true, not_value, or_result};
 use crate::view::RowView;
 use std::alloc::Global;
@@ -43,25 +43,25 @@ pub(crate) fn deep_value(
     ensures { IfOk result (λ r. r ≡ spec.value_of (expression_of expression.now) row.now) }
 {
     let mut waiting = Vec::new(alloc);
-    let mut step = opened(alloc, expression, row)?;
+    let mut step = open(alloc, expression, row)?;
     loop {
         match step {
             Step::Into(outer, part) => {
                 waiting.push(outer)?;
-                step = opened(alloc, part, row)?;
+                step = open(alloc, part, row)?;
             }
             Step::Made(value) => {
                 let Some(outer) = waiting.pop() else {
                     return Ok(value);
                 };
-                step = closed(alloc, outer, value, row)?;
+                step = close(alloc, outer, value, row)?;
             }
         }
     }
 }
 
 /// The first step into an expression: to its first operand, or the condition of a CASE.
-fn opened<'e>(alloc: Global, expression: &'e Expr, row: &RowView) -> Result<Step<'e>, OutOfMemory>
+fn open<'e>(alloc: Global, expression: &'e Expr, row: &RowView) -> Result<Step<'e>, OutOfMemory>
     ensures value { IfOk result (λ s. step_of row.now s ≡ spec.value_of (expression_of expression.now) row.now) }
     ensures fewer { IfOk result (λ s. steps_left s < steps (expression_of expression.now)) }
 {
@@ -81,7 +81,7 @@ fn opened<'e>(alloc: Global, expression: &'e Expr, row: &RowView) -> Result<Step
 }
 
 /// The step after an operand has its value.
-fn closed<'e>(
+fn close<'e>(
     alloc: Global,
     outer: Waiting<'e>,
     value: Result<Value, Fault>,
@@ -93,7 +93,7 @@ fn closed<'e>(
     match (outer, value) {
         (_, Err(fault)) => Ok(Step::Made(Err(fault))),
         (Waiting::First(expression), Ok(first)) => after_first(alloc, expression, first, row),
-        (Waiting::Right(expression, left), right) => Ok(Step::Made(combined(
+        (Waiting::Right(expression, left), right) => Ok(Step::Made(combine(
             expression, &left, right,
         ))),
     }
@@ -111,7 +111,7 @@ fn after_first<'e>(
     ensures fewer { IfOk result (λ s. steps_left s < rest_steps (expression_of expression.now)) }
 {
     match expression {
-        Expr::Negate(_) => Ok(Step::Made(negated(&first))),
+        Expr::Negate(_) => Ok(Step::Made(negate(&first))),
         Expr::Not(_) => Ok(Step::Made(Ok(not_value(&first)))),
         Expr::IsNull(_) => Ok(Step::Made(Ok(Value::Bool(is_null(&first))))),
         Expr::IsNotNull(_) => Ok(Step::Made(Ok(Value::Bool(!is_null(&first))))),
@@ -121,16 +121,16 @@ fn after_first<'e>(
             Ok(Step::Into(Waiting::Right(expression, first), b))
         }
         Expr::Case(_, _, then, otherwise) => if is_true(&first) {
-            opened(alloc, then, row)
+            open(alloc, then, row)
         } else {
-            opened(alloc, otherwise, row)
+            open(alloc, otherwise, row)
         },
         Expr::Column(_) | Expr::Literal(..) => Ok(Step::Made(Ok(Value::Null))),
     }
 }
 
 /// The value of an operator, where the left operand has this value and doesn't decide.
-fn combined(expression: &Expr, left: &Value, right: Result<Value, Fault>) -> Result<Value, Fault>
+fn combine(expression: &Expr, left: &Value, right: Result<Value, Fault>) -> Result<Value, Fault>
     ensures { result ≡ operands.combined (expression_of expression.now) left.now right }
 {
     match expression {

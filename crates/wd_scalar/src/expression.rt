@@ -8,7 +8,7 @@ ghost use Rattle.wd_scalar.specs.Operands as operands;
 ghost use Rattle.wd_scalar.specs.Arithmetic as faults;
 ghost use Rattle.wd_value.specs.Rows.{row_at};
 
-use crate::arithmetic::{arithmetic_result, negated};
+use crate::arithmetic::{arithmetic_result, negate};
 use crate::deep::{column_value, deep_value, literal_value};
 use crate::truth::{and_result, comparison_result, is_null, is_true, not_value, or_result};
 use crate::view::RowView;
@@ -93,7 +93,7 @@ fn near_value(
         | Expr::Or(a, _)
         | Expr::Case(_, a, _, _) => {
             let first = near_value(alloc, a, row, depth)?;
-            applied(alloc, expression, first, row, depth)
+            apply(alloc, expression, first, row, depth)
         }
     }
 }
@@ -101,7 +101,7 @@ fn near_value(
 /// The value of an expression, from the result of its first operand. It is a function of its own, so that a column is evaluated fast.
 #[cycle(near_value)]
 #[inline(never)]
-fn applied(
+fn apply(
     alloc: Global,
     expression: &Expr,
     first: Result<Value, Fault>,
@@ -111,7 +111,7 @@ fn applied(
     ensures { IfOk result (λ r. r ≡ and_then first (operands.applied_to (expression_of expression.now) row.now)) }
 {
     match first {
-        Ok(first) => applied_to(alloc, expression, &first, row, depth),
+        Ok(first) => apply_to(alloc, expression, &first, row, depth),
         Err(fault) => Ok(Err(fault)),
     }
 }
@@ -119,7 +119,7 @@ fn applied(
 /// The value of an expression whose first operand has this value. The right side of AND and OR is evaluated only where the
 /// left one doesn't decide, and of a CASE only the branch that is taken.
 #[cycle(near_value)]
-fn applied_to(
+fn apply_to(
     alloc: Global,
     expression: &Expr,
     first: &Value,
@@ -129,7 +129,7 @@ fn applied_to(
     ensures { IfOk result (λ r. r ≡ operands.applied_to (expression_of expression.now) row.now first.now) }
 {
     match expression {
-        Expr::Negate(_) => Ok(negated(first)),
+        Expr::Negate(_) => Ok(negate(first)),
         Expr::Not(_) => Ok(Ok(not_value(first))),
         Expr::IsNull(_) => Ok(Ok(Value::Bool(is_null(first)))),
         Expr::IsNotNull(_) => Ok(Ok(Value::Bool(!is_null(first)))),

@@ -65,11 +65,11 @@ impl<'a> RowView<'a> {
         requires { null.now ≡ value.Null }
         ensures { result.now ≡ column_of self.now column }
     {
-        value_held(&self.held, column, null)
+        held_value(&self.held, column, null)
     }
 }
 
-fn value_held<'a>(held: &'a Held, column: usize, null: &'a Value) -> &'a Value
+fn held_value<'a>(held: &'a Held, column: usize, null: &'a Value) -> &'a Value
     requires { null.now ≡ value.Null }
     ensures { result.now ≡ column_of (row_held held.now) column }
 {

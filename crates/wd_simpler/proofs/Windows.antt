@@ -36,14 +36,14 @@ use Rattle.wd_simpler.specs.Simpler.{Read, after, and_also, count_of, never_faul
 -- ---- lawful orderings
 
 module _ (read : Read) (class : ClassRule) (partition : AreRead read class.partition) (keys : AreRead read (order_columns class)) where
-  abbrev IsBehind : Row → Row → Type 0
-  IsBehind r q = same_partition class r q ≡ true → is_gt (compare_keys class.order r q) ≡ false
+  abbrev IsAfter : Row → Row → Type 0
+  IsAfter r q = same_partition class r q ≡ true → is_gt (compare_keys class.order r q) ≡ false
 
-  behind_to : (r q : Row) → IsBehind r q → IsBehind (mask read r) (mask read q)
-  behind_to r q h e = ap is_gt (keys_read read class.order keys r q) ∙ h (sym (partition_read read class partition r q) ∙ e)
+  after_to : (r q : Row) → IsAfter r q → IsAfter (mask read r) (mask read q)
+  after_to r q h e = ap is_gt (keys_read read class.order keys r q) ∙ h (sym (partition_read read class partition r q) ∙ e)
 
-  behind_from : (r q : Row) → IsBehind (mask read r) (mask read q) → IsBehind r q
-  behind_from r q h e = sym (ap is_gt (keys_read read class.order keys r q)) ∙ h (partition_read read class partition r q ∙ e)
+  after_from : (r q : Row) → IsAfter (mask read r) (mask read q) → IsAfter r q
+  after_from r q h e = sym (ap is_gt (keys_read read class.order keys r q)) ∙ h (partition_read read class partition r q ∙ e)
 
   all_from : (P Q : Row → Type 0) → ((q : Row) → Q (mask read q) → P q) → (rows : List Row) → AllByRecursion Q (map (mask read) rows) → AllByRecursion P rows
   all_from P Q h [] a = tt
@@ -51,11 +51,11 @@ module _ (read : Read) (class : ClassRule) (partition : AreRead read class.parti
 
   order_to : (rows : List Row) → IsInOrder class rows → IsInOrder class (map (mask read) rows)
   order_to [] a = tt
-  order_to (r ∷ rows) a = (all_map (IsBehind r) (IsBehind (mask read r)) (mask read) (behind_to r) rows a.0, order_to rows a.1)
+  order_to (r ∷ rows) a = (all_map (IsAfter r) (IsAfter (mask read r)) (mask read) (after_to r) rows a.0, order_to rows a.1)
 
   order_from : (rows : List Row) → IsInOrder class (map (mask read) rows) → IsInOrder class rows
   order_from [] a = tt
-  order_from (r ∷ rows) a = (all_from (IsBehind r) (IsBehind (mask read r)) (behind_from r) rows a.0, order_from rows a.1)
+  order_from (r ∷ rows) a = (all_from (IsAfter r) (IsAfter (mask read r)) (after_from r) rows a.0, order_from rows a.1)
 
   ordering_to : (rows : List Row) (ordering : List ℕ) → IsOrdering class rows ordering → IsOrdering class (map (mask read) rows) ordering
   ordering_to rows ordering o = record {

@@ -68,7 +68,7 @@ fn keyed_classes(
     let mut kept = Vec::with_capacity(alloc, classes.len())?;
     for class in classes {
         let Class { partition, order } = class;
-        let order = keyed(alloc, schema, input, order)?;
+        let order = complete_keys(alloc, schema, input, order)?;
         kept.push(Class { partition, order })?;
     }
     Ok(kept)
@@ -90,7 +90,7 @@ pub(crate) fn keyed_limit(
         count,
         ties,
     } = limit;
-    let keys = keyed(alloc, schema, input, keys)?;
+    let keys = complete_keys(alloc, schema, input, keys)?;
     Ok(Limit {
         keys,
         offset,
@@ -100,7 +100,7 @@ pub(crate) fn keyed_limit(
 }
 
 /// Sort keys, followed by the columns that they determine.
-fn keyed(
+fn complete_keys(
     alloc: Global,
     schema: &Schema,
     input: &Plan,
@@ -163,7 +163,7 @@ fn given_back(schema: &Schema, plan: &Plan, column: u16) -> Option<u16>
             let output = outputs.get(usize::from(column))?;
             let below = match column_shown(output) {
                 Some(shown) => given_back(schema, input, shown)?,
-                None => shifted(output)?,
+                None => shifted_column(output)?,
             };
             place_of(below, outputs)
         }
@@ -179,18 +179,18 @@ fn given_back(schema: &Schema, plan: &Plan, column: u16) -> Option<u16>
 }
 
 /// The column from which an expression differs only by a sign and by added or subtracted whole numbers.
-fn shifted(expression: &Expr) -> Option<u16>
+fn shifted_column(expression: &Expr) -> Option<u16>
     ensures { result ≡ spec.shifted (expression_of expression.now) }
 {
     match expression {
         Expr::Column(column) => Some(*column),
-        Expr::Negate(a) => shifted(a),
+        Expr::Negate(a) => shifted_column(a),
         Expr::Arithmetic(op, a, b) => if !is_shift(*op) {
             None
         } else if is_number(b) {
-            shifted(a)
+            shifted_column(a)
         } else if is_number(a) {
-            shifted(b)
+            shifted_column(b)
         } else {
             None
         },

@@ -34,7 +34,7 @@ pub(crate) fn numbers_of(schema: &Schema, plan: &Plan, column: u16) -> Option<Nu
             }
         }
         Plan::Filter { input, .. } => numbers_of(schema, input, column),
-        Plan::Map { input, outputs } => match copied(outputs, column) {
+        Plan::Map { input, outputs } => match copied_column(outputs, column) {
             Some(below) => numbers_of(schema, input, below),
             None => None,
         },
@@ -117,7 +117,7 @@ fn between(least: i64, greatest: i64, not_null: bool) -> Option<Numbers>
 // ---- columns of Maps
 
 /// The column that an output shows, if it shows one.
-fn copied(outputs: &[Expr], column: u16) -> Option<u16>
+fn copied_column(outputs: &[Expr], column: u16) -> Option<u16>
     ensures { result ≡ option_and_then column_shown_in (slice_get (map expression_of outputs.now) column) }
 {
     let output = outputs.get(usize::from(column))?;

@@ -36,11 +36,11 @@ pub fn simpler(alloc: Global, schema: &Schema, plan: Plan) -> Result<Plan, OutOf
     requires { fits (schema_of schema.now) (plan_of plan) ≡ true }
     ensures { IfOk result (λ p. plan_of p ≡ spec.simpler (schema_of schema.now) (plan_of plan)) }
 {
-    narrowed(alloc, schema, plan, None)
+    narrow_plan(alloc, schema, plan, None)
 }
 
 /// The simpler plan of which only these columns are read.
-fn narrowed(
+fn narrow_plan(
     alloc: Global,
     schema: &Schema,
     plan: Plan,
@@ -58,8 +58,8 @@ fn narrowed(
         } => {
             let more = with_condition(read, &condition)?;
             let beside = right_of(alloc, &more, left.width(), right.width())?;
-            let left = narrowed(alloc, schema, Box::into_inner(left), more)?;
-            let right = narrowed(alloc, schema, Box::into_inner(right), beside)?;
+            let left = narrow_plan(alloc, schema, Box::into_inner(left), more)?;
+            let right = narrow_plan(alloc, schema, Box::into_inner(right), beside)?;
             Ok(Plan::Join {
                 left: Box::new(alloc, left)?,
                 right: Box::new(alloc, right)?,
@@ -70,7 +70,7 @@ fn narrowed(
             let unmet = is_unmet(schema, &input, &condition);
             let condition = read_condition(unmet, condition);
             let more = with_used(kept_reads(alloc, unmet, read), &condition)?;
-            let input = narrowed(alloc, schema, Box::into_inner(input), more)?;
+            let input = narrow_plan(alloc, schema, Box::into_inner(input), more)?;
             Ok(Plan::Filter {
                 input: Box::new(alloc, input)?,
                 condition,
@@ -79,7 +79,7 @@ fn narrowed(
         Plan::Map { input, outputs } => {
             let outputs = read_outputs(alloc, &read, outputs)?;
             let below = used_by(alloc, &outputs)?;
-            let input = narrowed(alloc, schema, Box::into_inner(input), below)?;
+            let input = narrow_plan(alloc, schema, Box::into_inner(input), below)?;
             Ok(Plan::Map {
                 input: Box::new(alloc, input)?,
                 outputs,
@@ -88,7 +88,7 @@ fn narrowed(
         Plan::Group { input, group } => {
             let group = read_group(alloc, &read, group)?;
             let below = read_by_group(alloc, &group)?;
-            let input = narrowed(alloc, schema, Box::into_inner(input), below)?;
+            let input = narrow_plan(alloc, schema, Box::into_inner(input), below)?;
             Ok(Plan::Group {
                 input: Box::new(alloc, input)?,
                 group,
@@ -99,14 +99,14 @@ fn narrowed(
             let window = keyed_window(alloc, schema, &input, window)?;
             let window = read_window(alloc, none, &read, input.width(), window)?;
             let more = with_window(read, &window)?;
-            let input = narrowed(alloc, schema, Box::into_inner(input), more)?;
+            let input = narrow_plan(alloc, schema, Box::into_inner(input), more)?;
             Ok(Plan::Window {
                 input: Box::new(alloc, input)?,
                 window,
             })
         }
         Plan::Distinct { input } => {
-            let input = narrowed(alloc, schema, Box::into_inner(input), None)?;
+            let input = narrow_plan(alloc, schema, Box::into_inner(input), None)?;
             Ok(Plan::Distinct {
                 input: Box::new(alloc, input)?,
             })
@@ -115,7 +115,7 @@ fn narrowed(
             let none = is_empty(schema, &input);
             let limit = keyed_limit(alloc, schema, &input, limit)?;
             let more = with_keys(kept_reads(alloc, takes_none(&limit), read), &limit)?;
-            let input = narrowed(alloc, schema, Box::into_inner(input), more)?;
+            let input = narrow_plan(alloc, schema, Box::into_inner(input), more)?;
             Ok(Plan::Limit {
                 input: Box::new(alloc, input)?,
                 limit: read_limit(none, limit),

@@ -114,15 +114,15 @@ fn never_compares(
     match a {
         Expr::Column(column) => match b {
             Expr::Literal(value, _) => {
-                never_at(op, allowed(schema, input, null_allowed, *column), value)
+                never_at(op, numbers_at(schema, input, null_allowed, *column), value)
             }
             _ => false,
         },
         Expr::Literal(value, _) => match b {
             Expr::Column(column) => {
                 never_at(
-                    turned(op),
-                    allowed(schema, input, null_allowed, *column),
+                    exchange_sides(op),
+                    numbers_at(schema, input, null_allowed, *column),
                     value,
                 )
             }
@@ -134,7 +134,7 @@ fn never_compares(
 }
 
 /// The numbers of a plan's column, if NULL is allowed or is not among them.
-fn allowed(schema: &Schema, input: &Plan, null_allowed: bool, column: u16) -> Option<Numbers>
+fn numbers_at(schema: &Schema, input: &Plan, null_allowed: bool, column: u16) -> Option<Numbers>
     ensures { result ≡ spec.allowing null_allowed (numbers_in (schema_of schema.now) (plan_of input.now) column) }
 {
     let numbers = numbers_of(schema, input, column)?;
@@ -219,7 +219,7 @@ fn fails(op: ComparisonOp, m: i64, n: i64) -> bool
 }
 
 /// The comparison with its sides exchanged.
-fn turned(op: ComparisonOp) -> ComparisonOp
+fn exchange_sides(op: ComparisonOp) -> ComparisonOp
     ensures { result ≡ spec.turned op }
 {
     match op {

@@ -12,4 +12,4 @@ mod spell;
 
 pub use function::call_text;
 pub use names::{group_names, output_names, scan_names, table_names, window_names};
-pub use spell::spelled;
+pub use spell::spell_expression;

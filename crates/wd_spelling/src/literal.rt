@@ -16,14 +16,14 @@ pub(crate) fn literal(alloc: Global, value: &Value) -> Result<String, OutOfMemor
         Value::Bool(true) => Ok(String::from_str(alloc, "TRUE")?),
         Value::Bool(false) => Ok(String::from_str(alloc, "FALSE")?),
         Value::Text(text) => {
-            let inner = doubled(alloc, text.as_str())?;
+            let inner = double_quotes(alloc, text.as_str())?;
             Ok(format!(in alloc; "'{inner}'")?)
         }
     }
 }
 
 /// A text with each quote in it doubled.
-fn doubled(alloc: Global, text: &str) -> Result<String, OutOfMemory>
+fn double_quotes(alloc: Global, text: &str) -> Result<String, OutOfMemory>
     ensures { IfOk result (λ s. string_bytes s ≡ flat_map spec.quoted_char (chars text.now)) }
 {
     let mut inner = String::new(alloc);

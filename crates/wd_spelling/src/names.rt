@@ -5,7 +5,7 @@
 //! short, or else the column's number.
 
 use crate::function::call_text;
-use crate::spell::spelled;
+use crate::spell::spell_expression;
 use std::alloc::Global;
 use std::fmt::Write;
 use wd_plan::{Expr, FrameFunction, Function, Group, GroupCall, Plan, Window};
@@ -21,12 +21,12 @@ pub fn table_names(alloc: Global, schema: &Schema, plan: &Plan) -> Result<Vec<Te
     add_scans(&mut scans, plan)?;
     let mut totals = zeros(alloc, schema.tables.len())?;
     for table in &scans {
-        let _ = counted(&mut totals, *table);
+        let _ = count_table(&mut totals, *table);
     }
     let mut so_far = zeros(alloc, schema.tables.len())?;
     let mut names = Vec::new(alloc);
     for table in &scans {
-        let number = counted(&mut so_far, *table);
+        let number = count_table(&mut so_far, *table);
         let is_alone = matches!(totals.get(usize::from(*table)), Some(1));
         names.push(table_name(alloc, schema, *table, is_alone, number)?)?;
     }
@@ -60,7 +60,7 @@ fn zeros(alloc: Global, count: usize) -> Result<Vec<u64>, OutOfMemory> {
 }
 
 /// Counts a table once more; the result is its count.
-fn counted(counts: &mut Vec<u64>, table: u16) -> u64 {
+fn count_table(counts: &mut Vec<u64>, table: u16) -> u64 {
     match counts.get_mut(usize::from(table)) {
         Some(count) => {
             *count = count.saturating_add(1);
@@ -126,14 +126,14 @@ pub fn scan_names(
     if let Some((_, table)) = schema.tables.get_index(usize::from(table)) {
         for column in &table.columns {
             let own = identifier(alloc, column.name.as_str())?;
-            names.push(qualified(alloc, called, own)?)?;
+            names.push(qualify(alloc, called, own)?)?;
         }
     }
     Ok(names)
 }
 
 /// A column's name, after its table's if that is given.
-fn qualified(alloc: Global, called: Option<&str>, own: String) -> Result<Text, OutOfMemory> {
+fn qualify(alloc: Global, called: Option<&str>, own: String) -> Result<Text, OutOfMemory> {
     match called {
         None => Ok(Text::new(alloc, own)?),
         Some(table) => {
@@ -168,7 +168,7 @@ fn output_name(
             return Ok(name.copy()?);
         }
     }
-    let words = spelled(alloc, names, output)?;
+    let words = spell_expression(alloc, names, output)?;
     let name = if words.len() <= SHORT {
         format!(in alloc; "({words})")?
     } else {

@@ -32,7 +32,11 @@ enum Item<'e> {
 /// An expression as SQL, over columns of these names: its words as long as they fit into 200 bytes, and `..` in place of the first that
 /// doesn't fit.
 #[tactic(auto, using(crate::proofs::Waiting::waiting_push))]
-pub fn spelled(alloc: Global, names: &[Text], expression: &Expr) -> Result<String, OutOfMemory>
+pub fn spell_expression(
+    alloc: Global,
+    names: &[Text],
+    expression: &Expr,
+) -> Result<String, OutOfMemory>
     ensures { IfOk result (λ s. string_bytes s ≡ fitting ROOM (spec.spelled names.now (expression_of expression.now))) }
 {
     let mut text = String::new(alloc);

@@ -81,7 +81,7 @@ pub fn add_column_fact(
 }
 
 /// A copy of a fact.
-fn copied(alloc: Global, fact: &Given) -> Result<Given, OutOfMemory>
+fn copy_fact(alloc: Global, fact: &Given) -> Result<Given, OutOfMemory>
     ensures { IfOk result (λ g. fact_of g ≡ fact_of fact.now) }
 {
     let from = Vec::from_slice(alloc, &fact.from)?;
@@ -95,7 +95,7 @@ pub fn copied_facts(alloc: Global, facts: &[Given]) -> Result<Vec<Given>, OutOfM
 {
     let mut list = Vec::with_capacity(alloc, facts.len())?;
     for fact in facts {
-        list.push(copied(alloc, fact)?)?;
+        list.push(copy_fact(alloc, fact)?)?;
     }
     Ok(list)
 }

@@ -5,7 +5,7 @@ use Rattle.std.proofs.lemmas.List.{take-map, take_min, drop_min, length-map, len
 use Rattle.wd_value.specs.Rows.{Row, row_at, rows_at}
 use Rattle.wd_value.specs.declared.order.SortColumn.{SortColumn}
 use Rattle.wd_plan.specs.Outcomes.{first_rows, peers}
-use Rattle.wd_steps.specs.Cuts.{IsStretchOf}
+use Rattle.wd_steps.specs.Cuts.{IsSliceOf}
 
 drop-map : {X Y : Type 0} (f : X → Y) (n : ℕ) (xs : List X) → drop n (map f xs) ≡ map f (drop n xs)
 drop-map f zero xs = refl
@@ -80,8 +80,8 @@ rows_after rows ordering offset start is =
 
 -- ---- a part of the ordering
 
-pub front_stretch : (n : ℕ) (xs : List ℕ) → IsStretchOf xs (take n xs)
-front_stretch n xs =
+pub front_range : (n : ℕ) (xs : List ℕ) → IsSliceOf xs (take n xs)
+front_range n xs =
     let long = length-take n xs in
     record {
       start = 0;
@@ -89,15 +89,15 @@ front_stretch n xs =
       each = λ k h. (let here : k ≡ 0 + k = omega arith in get_or-take n xs k 0 (omega arith) ∙ ap (λ j. get_or xs j 0) here);
     }
 
-pub whole_stretch : (xs : List ℕ) → IsStretchOf xs xs
-whole_stretch xs = record {
+pub whole_range : (xs : List ℕ) → IsSliceOf xs xs
+whole_range xs = record {
   start = 0;
   within = omega arith;
   each = λ k h. (let here : k ≡ 0 + k = omega arith in ap (λ j. get_or xs j 0) here);
 }
 
-pub rest_stretch : (start : ℕ) (xs part : List ℕ) → start ≤ length xs → IsStretchOf (drop start xs) part → IsStretchOf xs part
-rest_stretch start xs part low p =
+pub rest_range : (start : ℕ) (xs part : List ℕ) → start ≤ length xs → IsSliceOf (drop start xs) part → IsSliceOf xs part
+rest_range start xs part low p =
     let long = length-drop start xs in
     let within = p.within in
     record {

@@ -20,7 +20,7 @@ mod work;
 
 pub use conditions::{Compared, Equated};
 pub use pools::Suggested;
-pub use size::{paired, sizes};
+pub use size::{pair_count, sizes};
 pub use suggested::suggested_by;
-pub use tables::varied;
+pub use tables::vary;
 pub use work::row_work;

@@ -68,7 +68,7 @@ fn tells(key: &Key, column: usize, number: u32) -> bool
 }
 
 /// A pseudo-random number for a column of a table of `rows` rows, in the try with a number.
-pub(crate) fn drawn(rows: u32, number: u32, table: usize, column: usize) -> u64
+pub(crate) fn draw(rows: u32, number: u32, table: usize, column: usize) -> u64
     ensures { result ≡ spec.drawn rows number table column }
 {
     let place = column as u128 + 64 * (table as u128);
@@ -108,7 +108,7 @@ pub(crate) fn pattern_of(drawn: u64, column: &Column, telling: bool) -> Pattern
 }
 
 /// The value of a filling in the row with a number, of the given number of rows.
-pub(crate) fn filled(
+pub(crate) fn fill(
     alloc: Global,
     suggested: &Suggested,
     filling: &Filling,

@@ -77,7 +77,7 @@ fn pairs_are_few(plan: &Plan, rows: u32) -> bool
     requires small { rows ≤ 64 }
     ensures { result ≡ nat_le (spec.paired rows (plan_of plan.now)) 16384 }
 {
-    paired(plan, rows) <= MOST_PAIRED
+    pair_count(plan, rows) <= MOST_PAIRED
 }
 
 /// Whether the number of rows is one or two more than some literal.
@@ -143,7 +143,7 @@ fn reach(limit: &Limit) -> u128
 /// How many rows the pairs of a plan's tables have, with the given number of rows each; a table that is read twice counts twice. 2^28
 /// where there are more.
 #[tactic(auto, using(crate::proofs::Products::capped))]
-pub fn paired(plan: &Plan, rows: u32) -> u64
+pub fn pair_count(plan: &Plan, rows: u32) -> u64
     requires some { 1 ≤ rows }
     requires small { rows ≤ 64 }
     ensures { result ≡ min (spec.paired rows (plan_of plan.now)) (2 ^ 28) }
@@ -151,13 +151,13 @@ pub fn paired(plan: &Plan, rows: u32) -> u64
     match plan {
         Plan::Scan { .. } => u64::from(rows),
         Plan::Join { left, right, .. } => {
-            (paired(left, rows) * paired(right, rows)).min(MOST_COUNTED)
+            (pair_count(left, rows) * pair_count(right, rows)).min(MOST_COUNTED)
         }
-        Plan::Filter { input, .. } => paired(input, rows),
-        Plan::Map { input, .. } => paired(input, rows),
-        Plan::Group { input, .. } => paired(input, rows),
-        Plan::Window { input, .. } => paired(input, rows),
-        Plan::Distinct { input } => paired(input, rows),
-        Plan::Limit { input, .. } => paired(input, rows),
+        Plan::Filter { input, .. } => pair_count(input, rows),
+        Plan::Map { input, .. } => pair_count(input, rows),
+        Plan::Group { input, .. } => pair_count(input, rows),
+        Plan::Window { input, .. } => pair_count(input, rows),
+        Plan::Distinct { input } => pair_count(input, rows),
+        Plan::Limit { input, .. } => pair_count(input, rows),
     }
 }

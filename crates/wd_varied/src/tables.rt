@@ -13,7 +13,7 @@ ghost use Rattle.wd_varied.specs.Suggested.{hints_of};
 ghost use Rattle.wd_varied.specs.Varied.{IsVaried};
 ghost use Rattle.wd_varied.specs.Varied as spec;
 
-use crate::patterns::{Filling, drawn, filled, pattern_of};
+use crate::patterns::{Filling, draw, fill, pattern_of};
 use crate::place::{Place, differs, source, suggestions};
 use crate::pools::Suggested;
 use crate::suggested::values_for;
@@ -24,7 +24,7 @@ use wd_value::{Instance, OutOfMemory, Row, Value};
 
 /// The instance in which each table that the plan scans has the given number of rows, its columns filled by the number of the try, and
 /// the other tables are empty. It need not meet the schema.
-pub fn varied(
+pub fn vary(
     alloc: Global,
     schema: &Schema,
     outline: &Outline,
@@ -108,7 +108,7 @@ fn filling(
 {
     let differs = differs(suggested, keys, number, place);
     let source = source(suggested, number, place);
-    let drawn = drawn(rows, number, source.table, source.column);
+    let drawn = draw(rows, number, source.table, source.column);
     let suggestions = suggestions(suggested, number);
     let own = values_for(alloc, suggestions, source.table, source.column, column.kind)?;
     Ok(Filling {
@@ -174,6 +174,6 @@ fn cell(
 {
     match fixed {
         Some(value) => value.copy(alloc),
-        None => filled(alloc, suggested, filling, rows, row),
+        None => fill(alloc, suggested, filling, rows, row),
     }
 }

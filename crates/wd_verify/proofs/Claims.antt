@@ -36,17 +36,17 @@ pub after_none : (r : Result (List Traced) CertError) → after [] r ≡ r
 after_none (Ok shown) = refl
 after_none (Err refusal) = refl
 
-one_behind : (before : List Traced) (t : Traced) (r : Result (List Traced) CertError) → after before (and_then r (λ shown. Ok (t ∷ shown))) ≡ after (before ++ t ∷ []) r
-one_behind before t (Ok shown) = ap (λ x. Ok x) (joined before)
+one_after : (before : List Traced) (t : Traced) (r : Result (List Traced) CertError) → after before (and_then r (λ shown. Ok (t ∷ shown))) ≡ after (before ++ t ∷ []) r
+one_after before t (Ok shown) = ap (λ x. Ok x) (joined before)
   where
     joined : (xs : List Traced) → xs ++ t ∷ shown ≡ (xs ++ t ∷ []) ++ shown
     joined xs = sym (append_assoc xs (t ∷ []) shown)
-one_behind before t (Err refusal) = refl
+one_after before t (Err refusal) = refl
 
 pub after_one : (node : ℕ) (facts : FactList) (trace : TraceRecord) (traces : List TraceRecord) (before : List Traced) (has : Member → Bool) → traced node facts trace ≡ Ok has → after before (each_traced node facts (trace ∷ traces)) ≡ after (before ++ record { from = trace.from; has = has } ∷ []) (each_traced node facts traces)
 after_one node facts trace traces before has e =
     ap (λ r. after before (and_then r (λ has. and_then (each_traced node facts traces) (λ shown. Ok (record { from = trace.from; has = has } ∷ shown))))) e
-    ∙ one_behind before (record { from = trace.from; has = has }) (each_traced node facts traces)
+    ∙ one_after before (record { from = trace.from; has = has }) (each_traced node facts traces)
 
 pub after_stop : (node : ℕ) (facts : FactList) (trace : TraceRecord) (traces : List TraceRecord) (before : List Traced) (refusal : CertError) → traced node facts trace ≡ Err refusal → after before (each_traced node facts (trace ∷ traces)) ≡ Err refusal
 after_stop node facts trace traces before refusal e = ap (λ r. after before (and_then r (λ has. and_then (each_traced node facts traces) (λ shown. Ok (record { from = trace.from; has = has } ∷ shown))))) e

@@ -38,9 +38,9 @@ pub not_started : (node : ℕ) (facts : FactList) (trace : TraceRecord) → list
 not_started node facts trace e = ap (λ b. cond b (with_uses node facts (stands_in (columns_named trace.from)) trace.uses) (Err (OutOfRange node))) e
 
 -- the uses of a trace, behind its start
-pub behind_start : (node : ℕ) (facts : FactList) (has : Member → Bool) (trace : TraceRecord) (uses : List ℕ) → list_all (λ c. nat_lt c facts.columns) trace.from ≡ true → ((m : Member) → has m ≡ stands_in (columns_named trace.from) m) → uses ≡ trace.uses
+pub after_start : (node : ℕ) (facts : FactList) (has : Member → Bool) (trace : TraceRecord) (uses : List ℕ) → list_all (λ c. nat_lt c facts.columns) trace.from ≡ true → ((m : Member) → has m ≡ stands_in (columns_named trace.from) m) → uses ≡ trace.uses
     → traced node facts trace ≡ with_uses node facts has uses
-behind_start node facts has trace uses e h u = sym (started node facts has trace e h) ∙ ap (with_uses node facts has) (sym u)
+after_start node facts has trace uses e h u = sym (started node facts has trace e h) ∙ ap (with_uses node facts has) (sym u)
 
 -- ---- a fact by its number
 
@@ -69,14 +69,14 @@ module _ (side : Side) where
   pub in_side : (others : List Fact) (n : ℕ) → n < length side.keeps.list.items → slice_get (side_facts side ++ others) n ≡ slice_get (side_facts side) n
   in_side others n h = let e = many in get_left (side_facts side) others n (omega arith)
 
-  pub behind_side : (others : List Fact) (n : ℕ) → length side.keeps.list.items ≤ n → slice_get (side_facts side ++ others) n ≡ slice_get others (n - length side.keeps.list.items)
-  behind_side others n h = let e = many in get_right (side_facts side) others n (omega arith) ∙ ap (λ k. slice_get others (n - k)) many
+  pub after_side : (others : List Fact) (n : ℕ) → length side.keeps.list.items ≤ n → slice_get (side_facts side ++ others) n ≡ slice_get others (n - length side.keeps.list.items)
+  after_side others n h = let e = many in get_right (side_facts side) others n (omega arith) ∙ ap (λ k. slice_get others (n - k)) many
 
 pub in_first : (list : List Given) (others : List Fact) (n : ℕ) → n < length list → slice_get (map fact_of list ++ others) n ≡ slice_get (map fact_of list) n
 in_first list others n h = let e = length-map list fact_of in get_left (map fact_of list) others n (omega arith)
 
-pub behind_first : (list : List Given) (others : List Fact) (n : ℕ) → length list ≤ n → slice_get (map fact_of list ++ others) n ≡ slice_get others (n - length list)
-behind_first list others n h = let e = length-map list fact_of in get_right (map fact_of list) others n (omega arith) ∙ ap (λ k. slice_get others (n - k)) (length-map list fact_of)
+pub after_first : (list : List Given) (others : List Fact) (n : ℕ) → length list ≤ n → slice_get (map fact_of list ++ others) n ≡ slice_get others (n - length list)
+after_first list others n h = let e = length-map list fact_of in get_right (map fact_of list) others n (omega arith) ∙ ap (λ k. slice_get others (n - k)) (length-map list fact_of)
 
 -- ---- a fact that was read from a list
 

@@ -72,7 +72,7 @@ fn check_claims(
 
 /// Follows the traces of an entry over the given facts of its node, and checks the entry's claims by them; the result is the traces.
 #[tactic(auto, using(crate::proofs::Claims::traced_claims))]
-fn judged(
+fn judge_entry(
     alloc: Global,
     plan: &Plan,
     schema: &Schema,
@@ -116,7 +116,7 @@ pub(crate) fn check_entry(
     ensures refused { IfErr result (λ e. e ≢ CertError.OutOfMemory → rules.entry_refusal node (given_facts (schema_of schema.now) (plan_of plan.now) (facts_kept left) (facts_kept right)) (plan_of plan.now) (lean_of entry.now) ≡ Some e) }
 {
     let facts = facts_at(alloc, plan, schema, left, right)?;
-    let traces = judged(alloc, plan, schema, node, entry, facts)?;
+    let traces = judge_entry(alloc, plan, schema, node, entry, facts)?;
     let keeps = keeps_of(alloc, width(plan), entry, traces)?;
     Ok(keeps)
 }

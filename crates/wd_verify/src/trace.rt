@@ -189,7 +189,7 @@ fn use_side(
 }
 
 /// Uses the fact with this number among those of the right child and the last ones.
-#[tactic(auto, using(crate::proofs::Members::in_side, crate::proofs::Members::behind_side))]
+#[tactic(auto, using(crate::proofs::Members::in_side, crate::proofs::Members::after_side))]
 fn use_right(node: u64, facts: &NodeFacts, set: &mut Set, number: usize) -> Result<bool, CertError>
     requires { AreNarrow facts.now }
     ensures used { IfOk result (λ _. spec.with_use node (seen_of facts.now) (has set.old) (slice_get (side_facts facts.now.right ++ map fact_of facts.now.last.items) number) ≡ Ok (has set.new)) }
@@ -204,7 +204,7 @@ fn use_right(node: u64, facts: &NodeFacts, set: &mut Set, number: usize) -> Resu
 }
 
 /// Uses the fact with this number among those of the children and the last ones.
-#[tactic(auto, using(crate::proofs::Members::in_side, crate::proofs::Members::behind_side))]
+#[tactic(auto, using(crate::proofs::Members::in_side, crate::proofs::Members::after_side))]
 fn use_left(node: u64, facts: &NodeFacts, set: &mut Set, number: usize) -> Result<bool, CertError>
     requires { AreNarrow facts.now }
     ensures used { IfOk result (λ _. spec.with_use node (seen_of facts.now) (has set.old) (slice_get (side_facts facts.now.left ++ (side_facts facts.now.right ++ map fact_of facts.now.last.items)) number) ≡ Ok (has set.new)) }
@@ -219,7 +219,7 @@ fn use_left(node: u64, facts: &NodeFacts, set: &mut Set, number: usize) -> Resul
 }
 
 /// Uses the fact with this number; the result is whether it is a long one.
-#[tactic(auto, using(crate::proofs::Members::in_first, crate::proofs::Members::behind_first))]
+#[tactic(auto, using(crate::proofs::Members::in_first, crate::proofs::Members::after_first))]
 fn use_number(node: u64, facts: &NodeFacts, set: &mut Set, number: u64) -> Result<bool, CertError>
     requires { AreNarrow facts.now }
     ensures used { IfOk result (λ _. spec.with_use node (seen_of facts.now) (has set.old) (slice_get (seen_of facts.now).list number) ≡ Ok (has set.new)) }

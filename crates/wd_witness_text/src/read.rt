@@ -168,7 +168,7 @@ fn value_of(alloc: Global, bytes: &[u8]) -> Result<Json, WitnessTextError>
     }
 }
 
-fn spelled(alloc: Global, bytes: &[u8]) -> Result<Witness, WitnessTextError>
+fn parse_witness(alloc: Global, bytes: &[u8]) -> Result<Witness, WitnessTextError>
     ensures ok { IfOk result (λ w. Spells (witness_of w) bytes.now) }
     ensures fits { IfOk result (λ w. AllFit64 (witness_of w)) }
     ensures refused { IfErr result (λ e. (schema : List TableRule) → HasCause schema e bytes.now) }
@@ -195,7 +195,7 @@ pub fn read_witness(
     ensures fits { IfOk result (λ w. AllFit64 (witness_of w)) }
     ensures refused { IfErr result (λ e. HasCause (schema_of schema.now) e bytes.now) }
 {
-    let witness = spelled(alloc, bytes)?;
+    let witness = parse_witness(alloc, bytes)?;
     fit_tables(schema, &witness.tables)?;
     Ok(witness)
 }

@@ -16,15 +16,15 @@ use Rattle.wd_laws.specs.examples.Literals.{n, minus, ascending, descending, cou
 use Rattle.wd_plan.specs.declared.window.Exclusion.TheVariants as exclude
 
 -- SELECT id, COUNT(*) OVER (ORDER BY v DESC RANGE BETWEEN 10 PRECEDING AND CURRENT ROW) FROM t
-abbrev pub counted_behind : PlanTree
-counted_behind =
+abbrev pub counted_after : PlanTree
+counted_after =
     select (0 ∷ 2 ∷ [])
     (window (over [] (descending 1 ∷ []) ∷ []) (call_in (between Range (Preceding 10) CurrentRow) 0 count_rows ∷ [])
     (select (0 ∷ 2 ∷ []) scan_t))
 
 -- SELECT id, COUNT(*) OVER (ORDER BY v DESC RANGE BETWEEN 5 PRECEDING AND CURRENT ROW) FROM t
-abbrev pub counted_near_behind : PlanTree
-counted_near_behind =
+abbrev pub counted_near_after : PlanTree
+counted_near_after =
     select (0 ∷ 2 ∷ [])
     (window (over [] (descending 1 ∷ []) ∷ []) (call_in (between Range (Preceding 5) CurrentRow) 0 count_rows ∷ [])
     (select (0 ∷ 2 ∷ []) scan_t))
@@ -95,13 +95,13 @@ pub record FramesComeOut : Type 0 where
   pub rows_before_the_row : frames (between Rows (Preceding 2) (Preceding 1))
       ≡ are ([] ∷ (1 ∷ []) ∷ (1 ∷ 2 ∷ []) ∷ (2 ∷ 3 ∷ []) ∷ (3 ∷ 4 ∷ []) ∷ (4 ∷ 5 ∷ []) ∷ [])
   -- ROWS BETWEEN 1 FOLLOWING AND 2 FOLLOWING
-  pub rows_behind_the_row : frames (between Rows (Following 1) (Following 2))
+  pub rows_following_the_row : frames (between Rows (Following 1) (Following 2))
       ≡ are ((2 ∷ 3 ∷ []) ∷ (3 ∷ 4 ∷ []) ∷ (4 ∷ 5 ∷ []) ∷ (5 ∷ 6 ∷ []) ∷ (6 ∷ []) ∷ [] ∷ [])
   -- ROWS BETWEEN UNBOUNDED PRECEDING AND 1 PRECEDING
   pub rows_up_to_some_before : frames (between Rows UnboundedPreceding (Preceding 1))
       ≡ are ([] ∷ (1 ∷ []) ∷ (1 ∷ 2 ∷ []) ∷ (1 ∷ 2 ∷ 3 ∷ []) ∷ (1 ∷ 2 ∷ 3 ∷ 4 ∷ []) ∷ (1 ∷ 2 ∷ 3 ∷ 4 ∷ 5 ∷ []) ∷ [])
   -- ROWS BETWEEN 1 FOLLOWING AND UNBOUNDED FOLLOWING
-  pub rows_from_some_behind_on : frames (between Rows (Following 1) UnboundedFollowing)
+  pub rows_from_some_following_on : frames (between Rows (Following 1) UnboundedFollowing)
       ≡ are ((2 ∷ 3 ∷ 4 ∷ 5 ∷ 6 ∷ []) ∷ (3 ∷ 4 ∷ 5 ∷ 6 ∷ []) ∷ (4 ∷ 5 ∷ 6 ∷ []) ∷ (5 ∷ 6 ∷ []) ∷ (6 ∷ []) ∷ [] ∷ [])
   -- ROWS BETWEEN 1 PRECEDING AND 2 PRECEDING
   pub rows_turned_round : frames (between Rows (Preceding 1) (Preceding 2))
@@ -127,13 +127,13 @@ pub record FramesComeOut : Type 0 where
   pub groups_before_the_row : frames (between Groups (Preceding 2) (Preceding 1))
       ≡ are ([] ∷ [] ∷ (1 ∷ 2 ∷ []) ∷ (1 ∷ 2 ∷ 3 ∷ []) ∷ (3 ∷ 4 ∷ []) ∷ (3 ∷ 4 ∷ []) ∷ [])
   -- GROUPS BETWEEN 1 FOLLOWING AND 2 FOLLOWING
-  pub groups_behind_the_row : frames (between Groups (Following 1) (Following 2))
+  pub groups_following_the_row : frames (between Groups (Following 1) (Following 2))
       ≡ are ((3 ∷ 4 ∷ []) ∷ (3 ∷ 4 ∷ []) ∷ (4 ∷ 5 ∷ 6 ∷ []) ∷ (5 ∷ 6 ∷ []) ∷ [] ∷ [] ∷ [])
   -- GROUPS BETWEEN UNBOUNDED PRECEDING AND 1 PRECEDING
   pub groups_up_to_some_before : frames (between Groups UnboundedPreceding (Preceding 1))
       ≡ are ([] ∷ [] ∷ (1 ∷ 2 ∷ []) ∷ (1 ∷ 2 ∷ 3 ∷ []) ∷ (1 ∷ 2 ∷ 3 ∷ 4 ∷ []) ∷ (1 ∷ 2 ∷ 3 ∷ 4 ∷ []) ∷ [])
   -- GROUPS BETWEEN 1 FOLLOWING AND UNBOUNDED FOLLOWING
-  pub groups_from_some_behind_on : frames (between Groups (Following 1) UnboundedFollowing)
+  pub groups_from_some_following_on : frames (between Groups (Following 1) UnboundedFollowing)
       ≡ are ((3 ∷ 4 ∷ 5 ∷ 6 ∷ []) ∷ (3 ∷ 4 ∷ 5 ∷ 6 ∷ []) ∷ (4 ∷ 5 ∷ 6 ∷ []) ∷ (5 ∷ 6 ∷ []) ∷ [] ∷ [] ∷ [])
   -- GROUPS BETWEEN 1 PRECEDING AND 2 PRECEDING
   pub groups_turned_round : frames (between Groups (Preceding 1) (Preceding 2))
@@ -158,13 +158,13 @@ pub record FramesComeOut : Type 0 where
   pub range_before_the_row : frames (between Range (Preceding 10) (Preceding 5))
       ≡ are ([] ∷ [] ∷ (1 ∷ 2 ∷ []) ∷ (3 ∷ []) ∷ (5 ∷ 6 ∷ []) ∷ (5 ∷ 6 ∷ []) ∷ [])
   -- RANGE BETWEEN 5 FOLLOWING AND 10 FOLLOWING
-  pub range_behind_the_row : frames (between Range (Following 5) (Following 10))
+  pub range_following_the_row : frames (between Range (Following 5) (Following 10))
       ≡ are ((3 ∷ []) ∷ (3 ∷ []) ∷ (4 ∷ []) ∷ [] ∷ (5 ∷ 6 ∷ []) ∷ (5 ∷ 6 ∷ []) ∷ [])
   -- RANGE BETWEEN UNBOUNDED PRECEDING AND 5 PRECEDING
   pub range_up_to_some_before : frames (between Range UnboundedPreceding (Preceding 5))
       ≡ are ([] ∷ [] ∷ (1 ∷ 2 ∷ []) ∷ (1 ∷ 2 ∷ 3 ∷ []) ∷ (1 ∷ 2 ∷ 3 ∷ 4 ∷ 5 ∷ 6 ∷ []) ∷ (1 ∷ 2 ∷ 3 ∷ 4 ∷ 5 ∷ 6 ∷ []) ∷ [])
   -- RANGE BETWEEN 5 FOLLOWING AND UNBOUNDED FOLLOWING
-  pub range_from_some_behind_on : frames (between Range (Following 5) UnboundedFollowing)
+  pub range_from_some_following_on : frames (between Range (Following 5) UnboundedFollowing)
       ≡ are ((3 ∷ 4 ∷ 5 ∷ 6 ∷ []) ∷ (3 ∷ 4 ∷ 5 ∷ 6 ∷ []) ∷ (4 ∷ 5 ∷ 6 ∷ []) ∷ (5 ∷ 6 ∷ []) ∷ (5 ∷ 6 ∷ []) ∷ (5 ∷ 6 ∷ []) ∷ [])
   -- RANGE BETWEEN 5 PRECEDING AND 10 PRECEDING
   pub range_turned_round : frames (between Range (Preceding 5) (Preceding 10))
@@ -177,7 +177,7 @@ pub record FramesComeOut : Type 0 where
   pub range_descending_before_the_row : frames_descending (between Range (Preceding 10) (Preceding 5))
       ≡ are ((6 ∷ 5 ∷ []) ∷ (6 ∷ 5 ∷ []) ∷ [] ∷ (4 ∷ []) ∷ (3 ∷ []) ∷ (3 ∷ []) ∷ [])
   -- ORDER BY v DESC RANGE BETWEEN 5 FOLLOWING AND 10 FOLLOWING
-  pub range_descending_behind_the_row : frames_descending (between Range (Following 5) (Following 10))
+  pub range_descending_following_the_row : frames_descending (between Range (Following 5) (Following 10))
       ≡ are ((6 ∷ 5 ∷ []) ∷ (6 ∷ 5 ∷ []) ∷ (3 ∷ []) ∷ (2 ∷ 1 ∷ []) ∷ [] ∷ [] ∷ [])
   -- ORDER BY v DESC RANGE BETWEEN UNBOUNDED PRECEDING AND CURRENT ROW: NULL comes first.
   pub range_descending_up_to_the_row : frames_descending (between Range UnboundedPreceding CurrentRow)
@@ -219,10 +219,10 @@ pub record FramesComeOut : Type 0 where
   pub no_exclusion_adds_the_row : frames (excluding (between Rows (Following 1) (Following 2)) exclude.Ties)
       ≡ are ((3 ∷ []) ∷ (3 ∷ 4 ∷ []) ∷ (4 ∷ 5 ∷ []) ∷ (5 ∷ 6 ∷ []) ∷ [] ∷ [] ∷ [])
   -- Under DESC the comparisons of RANGE are mirrored; a NULL key meets only NULL keys.
-  pub count_in_a_descending_range : outcome counted_behind four_rows ((3 ∷ 2 ∷ 0 ∷ 1 ∷ []) ∷ [])
+  pub count_in_a_descending_range : outcome counted_after four_rows ((3 ∷ 2 ∷ 0 ∷ 1 ∷ []) ∷ [])
       ≡ Ok ((n 1 ∷ n 3 ∷ []) ∷ (n 2 ∷ n 3 ∷ []) ∷ (n 3 ∷ n 1 ∷ []) ∷ (n 4 ∷ n 1 ∷ []) ∷ [])
   -- Under DESC an offset PRECEDING reaches larger keys, here none.
-  pub count_in_a_narrow_descending_range : outcome counted_near_behind four_rows ((3 ∷ 2 ∷ 0 ∷ 1 ∷ []) ∷ [])
+  pub count_in_a_narrow_descending_range : outcome counted_near_after four_rows ((3 ∷ 2 ∷ 0 ∷ 1 ∷ []) ∷ [])
       ≡ Ok ((n 1 ∷ n 2 ∷ []) ∷ (n 2 ∷ n 2 ∷ []) ∷ (n 3 ∷ n 1 ∷ []) ∷ (n 4 ∷ n 1 ∷ []) ∷ [])
   -- Under DESC an offset FOLLOWING reaches smaller keys.
   pub count_in_a_descending_range_that_looks_ahead : outcome counted_ahead four_rows ((3 ∷ 2 ∷ 0 ∷ 1 ∷ []) ∷ [])

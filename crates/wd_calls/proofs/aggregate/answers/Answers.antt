@@ -1,6 +1,6 @@
 use Rattle.std.proofs.Common.{◌∙◌, length, ap, rules}
 use Rattle.wd_frame.specs.Slides.{ascending, count_over, descending, first_over, seen}
-use Rattle.wd_frame.specs.Stretches.{AreLists, lists_of}
+use Rattle.wd_frame.specs.IndexRanges.{AreLists, lists_of}
 use Rattle.wd_calls.specs.Parts.{partition_of}
 use Rattle.wd_calls.proofs.AnswerCalls.{addend_answers, addend_lists, column_answers, column_lists, count_answers, greatest_answers, least_answers, sum_answers}
 use Rattle.wd_calls.proofs.FrameCalls.{IfOk-on}

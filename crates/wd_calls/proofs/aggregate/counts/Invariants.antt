@@ -1,4 +1,4 @@
-use Rattle.wd_frame.specs.Stretches.{lists_of}
+use Rattle.wd_frame.specs.IndexRanges.{lists_of}
 use Rattle.wd_calls.proofs.AnswerCalls.{AreCountsUpTo}
 use Rattle.wd_calls.proofs.aggregate.counts.Given as goal
 

@@ -1,7 +1,7 @@
 use Rattle.std.proofs.Common.{◌≡◌, ◌<◌, ◌^◌, length, subst, arith, rules}
 use Rattle.std.proofs.lemmas.List.{length-map}
 use Rattle.wd_value.specs.Rows.{row_at}
-use Rattle.wd_frame.specs.Stretches.{lists_of}
+use Rattle.wd_frame.specs.IndexRanges.{lists_of}
 use Rattle.wd_calls.specs.Answers.{AreAnswersOf}
 use Rattle.wd_calls.specs.Parts.{partition_of}
 use Rattle.wd_calls.proofs.SourceCalls.{answers_of_calls}

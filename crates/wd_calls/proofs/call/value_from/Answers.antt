@@ -6,7 +6,7 @@ use Rattle.wd_frame.specs.declared.answer.Answer.TheVariants.{Nothing}
 use Rattle.wd_frame.specs.declared.answer.Answer.{Answer}
 use Rattle.wd_frame.specs.Places.{part_of}
 use Rattle.wd_frame.specs.Slides.{shown}
-use Rattle.wd_frame.specs.Stretches.{lists_of, places_along}
+use Rattle.wd_frame.specs.IndexRanges.{lists_of, places_along}
 use Rattle.wd_calls.specs.Answers.{value_of}
 use Rattle.wd_calls.specs.Parts.{partition_of}
 use Rattle.wd_calls.specs.Sources.{IsSourceOf}

@@ -1,5 +1,5 @@
 use Rattle.std.proofs.Common.{◌≡◌, ◌+◌, ◌-◌, ◌^◌, ◌≤◌, min, length, drop}
-use Rattle.wd_frame.specs.Stretches.{lists_of, places_along}
+use Rattle.wd_frame.specs.IndexRanges.{lists_of, places_along}
 use Rattle.wd_calls.proofs.places.count_at.Given as goal
 
 abbrev pub invariant-loop-list : goal.invariant-loop-list

@@ -1,6 +1,6 @@
 use Rattle.std.proofs.Common.{◌≡◌, drop}
 use Rattle.std.specs.List.{slice_get}
-use Rattle.wd_frame.specs.Stretches.{lists_of, places_along}
+use Rattle.wd_frame.specs.IndexRanges.{lists_of, places_along}
 use Rattle.wd_calls.proofs.places.place_at.Given as goal
 
 abbrev pub invariant-loop-list : goal.invariant-loop-list

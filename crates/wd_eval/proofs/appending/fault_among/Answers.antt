@@ -5,7 +5,7 @@ use Rattle.wd_plan.specs.Faults.{least_fault, unless, values_among}
 use Rattle.wd_plan.specs.Outcomes.{call_at}
 use Rattle.wd_steps.specs.Faults.{with_result}
 use Rattle.wd_steps.proofs.Results.{least_fault-push}
-use Rattle.wd_eval.specs.Listings.{calls_at}
+use Rattle.wd_eval.specs.ClassIndexes.{calls_at}
 use Rattle.wd_eval.proofs.appending.fault_among.Goals as goal
 
 pub loop-position-preserved : goal.loop-position-preserved

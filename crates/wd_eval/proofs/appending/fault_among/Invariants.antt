@@ -4,7 +4,7 @@ use Rattle.wd_plan.specs.Plans.{WindowRule}
 use Rattle.wd_value.specs.Bags.{positions}
 use Rattle.wd_value.specs.Rows.{Row}
 use Rattle.wd_eval.specs.Columns.{AreColumns, columns_of}
-use Rattle.wd_eval.specs.Listings.{calls_at}
+use Rattle.wd_eval.specs.ClassIndexes.{calls_at}
 use Rattle.wd_eval.proofs.appending.fault_among.Given as goal
 
 abbrev pub invariant-loop-position : goal.invariant-loop-position

@@ -3,7 +3,7 @@ use Rattle.wd_value.specs.Bags.{positions}
 use Rattle.wd_plan.specs.Faults.{least_fault}
 use Rattle.wd_plan.specs.Plans.{window_of}
 use Rattle.wd_eval.specs.Columns.{AreColumns, columns_of}
-use Rattle.wd_eval.specs.Listings.{calls_at}
+use Rattle.wd_eval.specs.ClassIndexes.{calls_at}
 use Rattle.wd_eval.proofs.Beside.{window_along_columns, window_fault, window_from_columns}
 use Rattle.wd_eval.proofs.calls.values_beside.Goals as goal
 

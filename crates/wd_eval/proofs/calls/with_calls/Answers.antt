@@ -3,7 +3,7 @@ use Rattle.wd_value.specs.Rows.{rows_of}
 use Rattle.wd_plan.specs.Outcomes.{window_outcome}
 use Rattle.wd_plan.specs.Plans.{window_of}
 use Rattle.wd_eval.specs.Beside.{IsBeside}
-use Rattle.wd_eval.specs.Listings.{AreListed}
+use Rattle.wd_eval.specs.ClassIndexes.{AreIndexed}
 use Rattle.wd_eval.proofs.calls.with_calls.Goals as goal
 
 pub returns-in-Err : goal.returns-in-Err
@@ -11,7 +11,7 @@ returns-in-Err c = λ orderings listed. (
     let w = window_of c.args.window.now in
     let rows = rows_of c.args.rows.items in
     let source : c.of_rows.result ≡ rows = c.of_rows.ensures ∙ ap rows_of c.deref.ensures.value in
-    let there = subst (λ rs. AreListed w rs orderings c.args.listings.now) (sym source) listed in
+    let there = subst (λ rs. AreIndexed w rs orderings c.args.indexes.now) (sym source) listed in
     let found = c.in_ok-fault.ensures orderings there in
     let beside : IsBeside w c.of_rows.result orderings (Err c.in-Err.fault) = subst (IsBeside w c.of_rows.result orderings) c.in-Err.is found in
     beside ∙ ap (λ rs. window_outcome w rs orderings) source)
@@ -21,7 +21,7 @@ returns-in_ok-extended-in-Ok c = λ orderings listed. (
     let w = window_of c.args.window.now in
     let rows = rows_of c.args.rows.items in
     let source : c.of_rows.result ≡ rows = c.of_rows.ensures ∙ ap rows_of c.deref.ensures.value in
-    let there = subst (λ rs. AreListed w rs orderings c.args.listings.now) (sym source) listed in
+    let there = subst (λ rs. AreIndexed w rs orderings c.args.indexes.now) (sym source) listed in
     let found = c.in_ok-fault.ensures orderings there in
     let beside : IsBeside w c.of_rows.result orderings (Ok c.in-Ok.columns) = subst (IsBeside w c.of_rows.result orderings) c.in-Ok.is found in
     let own : IsBeside w rows orderings (Ok c.in-Ok.columns) = subst (λ rs. IsBeside w rs orderings (Ok c.in-Ok.columns)) source beside in

@@ -1,7 +1,7 @@
 use Rattle.std.proofs.Common.{◌<◌, sym, subst, length, arith}
 use Rattle.wd_plan.specs.Outcomes.{class_at, ordering_at}
-use Rattle.wd_eval.specs.Listings.{IsListingIn, asks_keys}
-use Rattle.wd_eval.specs.declared.listing.Listing.{Listing}
+use Rattle.wd_eval.specs.ClassIndexes.{IsClassIndexIn, asks_keys}
+use Rattle.wd_eval.specs.declared.class_index.ClassIndex.{ClassIndex}
 use Rattle.wd_eval.proofs.Filled.{first_below}
 use Rattle.wd_eval.proofs.column.call_column.Goals as goal
 
@@ -9,10 +9,10 @@ pub returns : goal.returns
 returns c = λ w needs orderings listed. (
     let k = c.args.call.now.class in
     let rows = c.args.rows.now in
-    let listing = c.index-listings-call.result in
+    let class_index = c.index-indexes-call.result in
     let long = listed.long in
     let there : k < length w.classes = omega arith in
-    let is : IsListingIn w k rows (ordering_at orderings k) listing = subst (λ (l : Listing). IsListingIn w k rows (ordering_at orderings k) l) (sym c.index-listings-call.is) (listed.each k listing there) in
+    let is : IsClassIndexIn w k rows (ordering_at orderings k) class_index = subst (λ (l : ClassIndex). IsClassIndexIn w k rows (ordering_at orderings k) l) (sym c.index-indexes-call.is) (listed.each k class_index there) in
     let filled = c.in_ok-column.ensures (class_at w k) (asks_keys w k) (ordering_at orderings k) needs is in
     record {
       long = filled.long;

@@ -6,7 +6,7 @@ use Rattle.wd_value.specs.declared.value.Fault.{Fault}
 use Rattle.wd_plan.specs.declared.window.Call.{Call}
 use Rattle.wd_plan.specs.Plans.{window_of}
 use Rattle.wd_eval.specs.Columns.{IsColumn, columns_of}
-use Rattle.wd_eval.specs.Listings.{AreAskedBy, asks_keys}
+use Rattle.wd_eval.specs.ClassIndexes.{AreAskedBy, asks_keys}
 use Rattle.wd_eval.proofs.Asking.{asked_by_own}
 use Rattle.wd_eval.proofs.column.call_columns.Goals as goal
 

@@ -21,7 +21,7 @@ returns-in_ok-values-in-Some-2 c = λ class asked ordering needs l filled. (
     let member = member_rule c.in-Some.member in
     let values = c.in_ok-values-in-Some-2.values.items in
     let within : p < length rows = c.requires in
-    let there : Some member ≡ slice_get c.args.listing.now.partitions p = ap (option_map member_rule) (sym c.in-Some.is) ∙ c.member.ensures in
+    let there : Some member ≡ slice_get c.args.class_index.now.partitions p = ap (option_map member_rule) (sym c.in-Some.is) ∙ c.member.ensures in
     let is = own_of class asked rows ordering p within member (ap (λ ms. slice_get ms p) (sym l.members) ∙ sym there) in
     let given : AreValues call.frame call.function (rows_at rows member.positions) (part_by member (is_descending class.order)) values =
     subst (λ (d : Bool). AreValues call.frame call.function (rows_at rows member.positions) (part_by member d) values) l.direction c.in_ok-values-in-Some-2.ensures in
@@ -38,7 +38,7 @@ returns-in-Some c = λ class asked ordering needs l filled. (
     let p = c.args.position in
     let member = member_rule c.in-Some.member in
     let within : p < length rows = c.requires in
-    let there : Some member ≡ slice_get c.args.listing.now.partitions p = ap (option_map member_rule) (sym c.in-Some.is) ∙ c.member.ensures in
+    let there : Some member ≡ slice_get c.args.class_index.now.partitions p = ap (option_map member_rule) (sym c.in-Some.is) ∙ c.member.ensures in
     let is = own_of class asked rows ordering p within member (ap (λ ms. slice_get ms p) (sym l.members) ∙ sym there) in
     filled_before class rows ordering l.lawful c.args.call.now p c.args.column.now.items (λ e. (let same = ap (λ (m : MemberRule). m.place) is in let behind = c.if-member-gt0.true in omega arith)) filled)
 
@@ -47,5 +47,5 @@ returns-in-None c = λ class asked ordering needs l filled. (
     let rows = c.args.rows.now in
     let p = c.args.position in
     let within : p < length rows = c.requires in
-    let none : None ≡ slice_get c.args.listing.now.partitions p = ap (option_map member_rule) (sym c.in-None.is) ∙ c.member.ensures in
+    let none : None ≡ slice_get c.args.class_index.now.partitions p = ap (option_map member_rule) (sym c.in-None.is) ∙ c.member.ensures in
     absurd (some_member class asked rows ordering p within (ap (λ ms. slice_get ms p) (sym l.members) ∙ sym none)))

@@ -6,7 +6,7 @@ use Rattle.wd_value.specs.Rows.{instance_of}
 use Rattle.wd_plan.specs.Plans.{plan_of}
 use Rattle.wd_plan.specs.Outcomes.{outcome_of}
 use Rattle.wd_eval.specs.Windows.{orderings_of}
-use Rattle.wd_nodes.specs.Produced.{produced_of}
+use Rattle.wd_nodes.specs.Relation.{relation_of}
 use Rattle.wd_eval.specs.Ties.{IsTied, IsUntied}
 use Rattle.wd_nodes.proofs.Held.{same_for_some, same_held}
 use Rattle.wd_eval.proofs.SomeTied.{refused_from}
@@ -40,7 +40,7 @@ returns c =
     let walked = (c.in_ok-evaluated.ensures own (same_held plan own)).ok in
     let tied = subst (λ old. IsTied plan own own c.args.turned (orderings_of old) new e.outcome) c.new-orderings.ensures.items walked.1 in
     let here = subst (λ is. IsTied plan (instance_of is) (instance_of is) c.args.turned [] new e.outcome) c.deref.ensures.value tied in
-    let is = subst (λ is. outcome_of o ≡ produced_of (instance_of is) e.outcome) c.deref-2.ensures.value c.in_ok-outcome.ensures in
+    let is = subst (λ is. outcome_of o ≡ relation_of (instance_of is) e.outcome) c.deref-2.ensures.value c.in_ok-outcome.ensures in
     record {
       ok = record { choice = tied_valid plan instance instance c.args.turned new e.outcome here; is = (tied_outcome plan instance instance c.args.turned new e.outcome here (outcome_of o) is).is };
       refused = tt;

@@ -11,9 +11,9 @@ use Rattle.wd_eval.specs.Windows.{orderings_of}
 use Rattle.wd_join.specs.Joins.{has_more_rows}
 use Rattle.wd_nodes.specs.Held.{IsHeld}
 use Rattle.wd_eval.specs.Errors.{error_of}
-use Rattle.wd_nodes.specs.Produced.{IsLarge, IsSmall, group_over, join_over, produced_of}
+use Rattle.wd_nodes.specs.Relation.{IsLarge, IsSmall, group_over, join_over, relation_of}
 use Rattle.wd_eval.specs.Walks.{IsHalted, IsWalked, most_of}
-use Rattle.wd_nodes.specs.declared.produced.Produced.TheVariants.{Made}
+use Rattle.wd_nodes.specs.declared.relation.Relation.TheVariants.{Made}
 use Rattle.wd_eval.proofs.Nodes.{filter_stopped, map_stopped, group_stopped_below, distinct_stopped, window_stopped_below, limit_stopped_below, join_stopped_left}
 use Rattle.wd_eval.proofs.Tying.{filter_untied, map_untied, group_untied_below, distinct_untied, window_untied, limit_untied, join_untied_left}
 use Rattle.wd_eval.proofs.Walks.{halted_below, filter_walked, map_walked, group_walked, group_halted, small_below, distinct_walked, window_walked, window_halted, limit_walked, limit_halted, join_walked, join_halted, join_halted_right}
@@ -22,9 +22,9 @@ use Rattle.wd_eval.proofs.node.+evaluate.Goals as goal
 pub returns-in_ok-outcome-in-Filter : goal.returns-in_ok-outcome-in-Filter
 returns-in_ok-outcome-in-Filter t c = λ instance held. (
     let tables = instance_of c.args.tables.now in
-    let handed = c.args.handed in
-    let here = subst (λ p. IsHeld p tables handed instance) (ap plan_of c.in-Filter.is) held in
-    let below_held = subst (λ p. IsHeld (plan_of p) tables handed instance) (sym c.deref-in-Filter.ensures) here in
+    let moved_in = c.args.moved_in in
+    let here = subst (λ p. IsHeld p tables moved_in instance) (ap plan_of c.in-Filter.is) held in
+    let below_held = subst (λ p. IsHeld (plan_of p) tables moved_in instance) (sym c.deref-in-Filter.ensures) here in
     let orderings = c.args.orderings in
     let first = c.args.first in
     let old = c.args.made.now.items in
@@ -33,7 +33,7 @@ returns-in_ok-outcome-in-Filter t c = λ instance held. (
     let o = c.in_ok-outcome-in-Filter.outcome in
     let condition = expression_of c.in-Filter.condition in
     let b = subst (λ p. IsWalked (plan_of p) tables instance orderings first old new below) c.deref-in-Filter.ensures (c.in_ok-below-in-Filter.ensures instance below_held).ok in
-    let is : produced_of tables o ≡ and_then (produced_of tables below.outcome) (filter_outcome condition) = search rules in
+    let is : relation_of tables o ≡ and_then (relation_of tables below.outcome) (filter_outcome condition) = search rules in
     record {
       ok = subst (λ p. IsWalked p tables instance orderings first old new (record { outcome = o; next = below.next })) (sym (ap plan_of c.in-Filter.is)) (filter_walked tables instance first old (plan_of c.in-Filter.input.value) new below o orderings condition b is);
       refused = tt;
@@ -42,9 +42,9 @@ returns-in_ok-outcome-in-Filter t c = λ instance held. (
 pub returns-in_err-below-in-Filter : goal.returns-in_err-below-in-Filter
 returns-in_err-below-in-Filter t c = λ instance held. (
     let tables = instance_of c.args.tables.now in
-    let handed = c.args.handed in
-    let here = subst (λ p. IsHeld p tables handed instance) (ap plan_of c.in-Filter.is) held in
-    let below_held = subst (λ p. IsHeld (plan_of p) tables handed instance) (sym c.deref-in-Filter.ensures) here in
+    let moved_in = c.args.moved_in in
+    let here = subst (λ p. IsHeld p tables moved_in instance) (ap plan_of c.in-Filter.is) held in
+    let below_held = subst (λ p. IsHeld (plan_of p) tables moved_in instance) (sym c.deref-in-Filter.ensures) here in
     let orderings = c.args.orderings in
     let first = c.args.first in
     let old = c.args.made.now.items in
@@ -62,9 +62,9 @@ returns-in_err-below-in-Filter t c = λ instance held. (
 pub returns-in_ok-outcome-in-Map : goal.returns-in_ok-outcome-in-Map
 returns-in_ok-outcome-in-Map t c = λ instance held. (
     let tables = instance_of c.args.tables.now in
-    let handed = c.args.handed in
-    let here = subst (λ p. IsHeld p tables handed instance) (ap plan_of c.in-Map.is) held in
-    let below_held = subst (λ p. IsHeld (plan_of p) tables handed instance) (sym c.deref-in-Map.ensures) here in
+    let moved_in = c.args.moved_in in
+    let here = subst (λ p. IsHeld p tables moved_in instance) (ap plan_of c.in-Map.is) held in
+    let below_held = subst (λ p. IsHeld (plan_of p) tables moved_in instance) (sym c.deref-in-Map.ensures) here in
     let orderings = c.args.orderings in
     let first = c.args.first in
     let old = c.args.made.now.items in
@@ -73,7 +73,7 @@ returns-in_ok-outcome-in-Map t c = λ instance held. (
     let o = c.in_ok-outcome-in-Map.outcome in
     let outputs = map expression_of c.in-Map.outputs.items in
     let b = subst (λ p. IsWalked (plan_of p) tables instance orderings first old new below) c.deref-in-Map.ensures (c.in_ok-below-in-Map.ensures instance below_held).ok in
-    let is : produced_of tables o ≡ and_then (produced_of tables below.outcome) (map_outcome outputs) = search rules in
+    let is : relation_of tables o ≡ and_then (relation_of tables below.outcome) (map_outcome outputs) = search rules in
     record {
       ok = subst (λ p. IsWalked p tables instance orderings first old new (record { outcome = o; next = below.next })) (sym (ap plan_of c.in-Map.is)) (map_walked tables instance first old (plan_of c.in-Map.input.value) new below o orderings outputs b is);
       refused = tt;
@@ -82,9 +82,9 @@ returns-in_ok-outcome-in-Map t c = λ instance held. (
 pub returns-in_err-below-in-Map : goal.returns-in_err-below-in-Map
 returns-in_err-below-in-Map t c = λ instance held. (
     let tables = instance_of c.args.tables.now in
-    let handed = c.args.handed in
-    let here = subst (λ p. IsHeld p tables handed instance) (ap plan_of c.in-Map.is) held in
-    let below_held = subst (λ p. IsHeld (plan_of p) tables handed instance) (sym c.deref-in-Map.ensures) here in
+    let moved_in = c.args.moved_in in
+    let here = subst (λ p. IsHeld p tables moved_in instance) (ap plan_of c.in-Map.is) held in
+    let below_held = subst (λ p. IsHeld (plan_of p) tables moved_in instance) (sym c.deref-in-Map.ensures) here in
     let orderings = c.args.orderings in
     let first = c.args.first in
     let old = c.args.made.now.items in
@@ -102,9 +102,9 @@ returns-in_err-below-in-Map t c = λ instance held. (
 pub returns-in_ok-outcome-in-Distinct : goal.returns-in_ok-outcome-in-Distinct
 returns-in_ok-outcome-in-Distinct t c = λ instance held. (
     let tables = instance_of c.args.tables.now in
-    let handed = c.args.handed in
-    let here = subst (λ p. IsHeld p tables handed instance) (ap plan_of c.in-Distinct.is) held in
-    let below_held = subst (λ p. IsHeld (plan_of p) tables handed instance) (sym c.deref-in-Distinct.ensures) here in
+    let moved_in = c.args.moved_in in
+    let here = subst (λ p. IsHeld p tables moved_in instance) (ap plan_of c.in-Distinct.is) held in
+    let below_held = subst (λ p. IsHeld (plan_of p) tables moved_in instance) (sym c.deref-in-Distinct.ensures) here in
     let orderings = c.args.orderings in
     let first = c.args.first in
     let old = c.args.made.now.items in
@@ -112,7 +112,7 @@ returns-in_ok-outcome-in-Distinct t c = λ instance held. (
     let below = c.in_ok-below-in-Distinct.below in
     let o = c.in_ok-outcome-in-Distinct.outcome in
     let b = subst (λ p. IsWalked (plan_of p) tables instance orderings first old new below) c.deref-in-Distinct.ensures (c.in_ok-below-in-Distinct.ensures instance below_held).ok in
-    let is : produced_of tables o ≡ and_then (produced_of tables below.outcome) (λ rows. Ok (distinct rows)) = search rules in
+    let is : relation_of tables o ≡ and_then (relation_of tables below.outcome) (λ rows. Ok (distinct rows)) = search rules in
     record {
       ok = subst (λ p. IsWalked p tables instance orderings first old new (record { outcome = o; next = below.next })) (sym (ap plan_of c.in-Distinct.is)) (distinct_walked tables instance first old (plan_of c.in-Distinct.input.value) new below o orderings b is);
       refused = tt;
@@ -121,9 +121,9 @@ returns-in_ok-outcome-in-Distinct t c = λ instance held. (
 pub returns-in_err-below-in-Distinct : goal.returns-in_err-below-in-Distinct
 returns-in_err-below-in-Distinct t c = λ instance held. (
     let tables = instance_of c.args.tables.now in
-    let handed = c.args.handed in
-    let here = subst (λ p. IsHeld p tables handed instance) (ap plan_of c.in-Distinct.is) held in
-    let below_held = subst (λ p. IsHeld (plan_of p) tables handed instance) (sym c.deref-in-Distinct.ensures) here in
+    let moved_in = c.args.moved_in in
+    let here = subst (λ p. IsHeld p tables moved_in instance) (ap plan_of c.in-Distinct.is) held in
+    let below_held = subst (λ p. IsHeld (plan_of p) tables moved_in instance) (sym c.deref-in-Distinct.ensures) here in
     let orderings = c.args.orderings in
     let first = c.args.first in
     let old = c.args.made.now.items in
@@ -140,14 +140,14 @@ returns-in_err-below-in-Distinct t c = λ instance held. (
 pub returns-in_ok-outcome-in-Window : goal.returns-in_ok-outcome-in-Window
 returns-in_ok-outcome-in-Window t c = λ instance held. (
     let tables = instance_of c.args.tables.now in
-    let handed = c.args.handed in
-    let here = subst (λ p. IsHeld p tables handed instance) (ap plan_of c.in-Window.is) held in
-    let below_held = subst (λ p. IsHeld (plan_of p) tables handed instance) (sym c.deref-in-Window.ensures) here in
+    let moved_in = c.args.moved_in in
+    let here = subst (λ p. IsHeld p tables moved_in instance) (ap plan_of c.in-Window.is) held in
+    let below_held = subst (λ p. IsHeld (plan_of p) tables moved_in instance) (sym c.deref-in-Window.ensures) here in
     let orderings = c.args.orderings in
     let first = c.args.first in
     let old = c.args.made.now.items in
     let mid = c.evaluate-in-Window.new.made.items in
-    let new = c.extended.new.made.items in
+    let new = c.extend_rows.new.made.items in
     let below = c.in_ok-below-in-Window.below in
     let o = c.in_ok-outcome-in-Window.outcome in
     let w = window_of c.in-Window.window in
@@ -165,9 +165,9 @@ returns-in_ok-outcome-in-Window t c = λ instance held. (
 pub returns-in_err-below-in-Window : goal.returns-in_err-below-in-Window
 returns-in_err-below-in-Window t c = λ instance held. (
     let tables = instance_of c.args.tables.now in
-    let handed = c.args.handed in
-    let here = subst (λ p. IsHeld p tables handed instance) (ap plan_of c.in-Window.is) held in
-    let below_held = subst (λ p. IsHeld (plan_of p) tables handed instance) (sym c.deref-in-Window.ensures) here in
+    let moved_in = c.args.moved_in in
+    let here = subst (λ p. IsHeld p tables moved_in instance) (ap plan_of c.in-Window.is) held in
+    let below_held = subst (λ p. IsHeld (plan_of p) tables moved_in instance) (sym c.deref-in-Window.ensures) here in
     let orderings = c.args.orderings in
     let first = c.args.first in
     let old = c.args.made.now.items in
@@ -185,14 +185,14 @@ returns-in_err-below-in-Window t c = λ instance held. (
 pub returns-in_err-outcome-in-Window : goal.returns-in_err-outcome-in-Window
 returns-in_err-outcome-in-Window t c = λ instance held. (
     let tables = instance_of c.args.tables.now in
-    let handed = c.args.handed in
-    let here = subst (λ p. IsHeld p tables handed instance) (ap plan_of c.in-Window.is) held in
-    let below_held = subst (λ p. IsHeld (plan_of p) tables handed instance) (sym c.deref-in-Window.ensures) here in
+    let moved_in = c.args.moved_in in
+    let here = subst (λ p. IsHeld p tables moved_in instance) (ap plan_of c.in-Window.is) held in
+    let below_held = subst (λ p. IsHeld (plan_of p) tables moved_in instance) (sym c.deref-in-Window.ensures) here in
     let orderings = c.args.orderings in
     let first = c.args.first in
     let old = c.args.made.now.items in
     let mid = c.evaluate-in-Window.new.made.items in
-    let new = c.extended.new.made.items in
+    let new = c.extend_rows.new.made.items in
     let w = window_of c.in-Window.window in
     let input = plan_of c.in-Window.input.value in
     let below = c.in_ok-below-in-Window.below in
@@ -204,14 +204,14 @@ returns-in_err-outcome-in-Window t c = λ instance held. (
 pub returns-in_ok-outcome-in-Limit : goal.returns-in_ok-outcome-in-Limit
 returns-in_ok-outcome-in-Limit t c = λ instance held. (
     let tables = instance_of c.args.tables.now in
-    let handed = c.args.handed in
-    let here = subst (λ p. IsHeld p tables handed instance) (ap plan_of c.in-Limit.is) held in
-    let below_held = subst (λ p. IsHeld (plan_of p) tables handed instance) (sym c.deref-in-Limit.ensures) here in
+    let moved_in = c.args.moved_in in
+    let here = subst (λ p. IsHeld p tables moved_in instance) (ap plan_of c.in-Limit.is) held in
+    let below_held = subst (λ p. IsHeld (plan_of p) tables moved_in instance) (sym c.deref-in-Limit.ensures) here in
     let orderings = c.args.orderings in
     let first = c.args.first in
     let old = c.args.made.now.items in
     let mid = c.evaluate-in-Limit.new.made.items in
-    let new = c.limited.new.made.items in
+    let new = c.limit_rows.new.made.items in
     let below = c.in_ok-below-in-Limit.below in
     let o = c.in_ok-outcome-in-Limit.outcome in
     let limit = limit_of c.in-Limit.limit in
@@ -228,9 +228,9 @@ returns-in_ok-outcome-in-Limit t c = λ instance held. (
 pub returns-in_err-below-in-Limit : goal.returns-in_err-below-in-Limit
 returns-in_err-below-in-Limit t c = λ instance held. (
     let tables = instance_of c.args.tables.now in
-    let handed = c.args.handed in
-    let here = subst (λ p. IsHeld p tables handed instance) (ap plan_of c.in-Limit.is) held in
-    let below_held = subst (λ p. IsHeld (plan_of p) tables handed instance) (sym c.deref-in-Limit.ensures) here in
+    let moved_in = c.args.moved_in in
+    let here = subst (λ p. IsHeld p tables moved_in instance) (ap plan_of c.in-Limit.is) held in
+    let below_held = subst (λ p. IsHeld (plan_of p) tables moved_in instance) (sym c.deref-in-Limit.ensures) here in
     let orderings = c.args.orderings in
     let first = c.args.first in
     let old = c.args.made.now.items in
@@ -248,14 +248,14 @@ returns-in_err-below-in-Limit t c = λ instance held. (
 pub returns-in_err-outcome-in-Limit : goal.returns-in_err-outcome-in-Limit
 returns-in_err-outcome-in-Limit t c = λ instance held. (
     let tables = instance_of c.args.tables.now in
-    let handed = c.args.handed in
-    let here = subst (λ p. IsHeld p tables handed instance) (ap plan_of c.in-Limit.is) held in
-    let below_held = subst (λ p. IsHeld (plan_of p) tables handed instance) (sym c.deref-in-Limit.ensures) here in
+    let moved_in = c.args.moved_in in
+    let here = subst (λ p. IsHeld p tables moved_in instance) (ap plan_of c.in-Limit.is) held in
+    let below_held = subst (λ p. IsHeld (plan_of p) tables moved_in instance) (sym c.deref-in-Limit.ensures) here in
     let orderings = c.args.orderings in
     let first = c.args.first in
     let old = c.args.made.now.items in
     let mid = c.evaluate-in-Limit.new.made.items in
-    let new = c.limited.new.made.items in
+    let new = c.limit_rows.new.made.items in
     let limit = limit_of c.in-Limit.limit in
     let input = plan_of c.in-Limit.input.value in
     let below = c.in_ok-below-in-Limit.below in
@@ -267,9 +267,9 @@ returns-in_err-outcome-in-Limit t c = λ instance held. (
 pub returns-in_err-left-in-Join : goal.returns-in_err-left-in-Join
 returns-in_err-left-in-Join t c = λ instance held. (
     let tables = instance_of c.args.tables.now in
-    let handed = c.args.handed in
-    let here = subst (λ p. IsHeld p tables handed instance) (ap plan_of c.in-Join.is) held in
-    let left_held = subst (λ p. IsHeld (plan_of p) tables handed instance) (sym c.deref.ensures) here.0 in
+    let moved_in = c.args.moved_in in
+    let here = subst (λ p. IsHeld p tables moved_in instance) (ap plan_of c.in-Join.is) held in
+    let left_held = subst (λ p. IsHeld (plan_of p) tables moved_in instance) (sym c.deref.ensures) here.0 in
     let orderings = c.args.orderings in
     let first = c.args.first in
     let old = c.args.made.now.items in
@@ -288,9 +288,9 @@ returns-in_err-left-in-Join t c = λ instance held. (
 pub returns-in_err-right-in-Join : goal.returns-in_err-right-in-Join
 returns-in_err-right-in-Join t c = λ instance held. (
     let tables = instance_of c.args.tables.now in
-    let handed = c.args.handed in
-    let here = subst (λ p. IsHeld p tables handed instance) (ap plan_of c.in-Join.is) held in
-    let left_held = subst (λ p. IsHeld (plan_of p) tables handed instance) (sym c.deref.ensures) here.0 in
+    let moved_in = c.args.moved_in in
+    let here = subst (λ p. IsHeld p tables moved_in instance) (ap plan_of c.in-Join.is) held in
+    let left_held = subst (λ p. IsHeld (plan_of p) tables moved_in instance) (sym c.deref.ensures) here.0 in
     let right_held = subst (λ p. IsHeld (plan_of p) tables None instance) (sym c.deref-in-Join.ensures) here.1 in
     let orderings = c.args.orderings in
     let first = c.args.first in
@@ -309,9 +309,9 @@ returns-in_err-right-in-Join t c = λ instance held. (
 pub returns-in_ok-outcome-in-Join : goal.returns-in_ok-outcome-in-Join
 returns-in_ok-outcome-in-Join t c = λ instance held. (
     let tables = instance_of c.args.tables.now in
-    let handed = c.args.handed in
-    let here = subst (λ p. IsHeld p tables handed instance) (ap plan_of c.in-Join.is) held in
-    let left_held = subst (λ p. IsHeld (plan_of p) tables handed instance) (sym c.deref.ensures) here.0 in
+    let moved_in = c.args.moved_in in
+    let here = subst (λ p. IsHeld p tables moved_in instance) (ap plan_of c.in-Join.is) held in
+    let left_held = subst (λ p. IsHeld (plan_of p) tables moved_in instance) (sym c.deref.ensures) here.0 in
     let right_held = subst (λ p. IsHeld (plan_of p) tables None instance) (sym c.deref-in-Join.ensures) here.1 in
     let orderings = c.args.orderings in
     let first = c.args.first in
@@ -328,16 +328,16 @@ returns-in_ok-outcome-in-Join t c = λ instance held. (
     let b = subst (λ p. IsWalked (plan_of p) tables instance orderings l.next mid new r) c.deref-in-Join.ensures (c.in_ok-right-in-Join.ensures instance right_held).ok in
     record {
       ok = subst (λ p. IsWalked p tables instance orderings first old new (record { outcome = o; next = r.next })) (sym (ap plan_of c.in-Join.is))
-          (join_walked tables instance first old condition left right mid l new r orderings o a b (subst (λ m. IsSmall m (join_over condition (produced_of tables l.outcome) (produced_of tables r.outcome)) (produced_of tables o)) c.most-most.ensures c.in_ok-outcome-in-Join.ensures.ok));
+          (join_walked tables instance first old condition left right mid l new r orderings o a b (subst (λ m. IsSmall m (join_over condition (relation_of tables l.outcome) (relation_of tables r.outcome)) (relation_of tables o)) c.most-most.ensures c.in_ok-outcome-in-Join.ensures.ok));
       refused = tt;
     })
 
 pub returns-in_err-outcome-in-Join : goal.returns-in_err-outcome-in-Join
 returns-in_err-outcome-in-Join t c = λ instance held. (
     let tables = instance_of c.args.tables.now in
-    let handed = c.args.handed in
-    let here = subst (λ p. IsHeld p tables handed instance) (ap plan_of c.in-Join.is) held in
-    let left_held = subst (λ p. IsHeld (plan_of p) tables handed instance) (sym c.deref.ensures) here.0 in
+    let moved_in = c.args.moved_in in
+    let here = subst (λ p. IsHeld p tables moved_in instance) (ap plan_of c.in-Join.is) held in
+    let left_held = subst (λ p. IsHeld (plan_of p) tables moved_in instance) (sym c.deref.ensures) here.0 in
     let right_held = subst (λ p. IsHeld (plan_of p) tables None instance) (sym c.deref-in-Join.ensures) here.1 in
     let orderings = c.args.orderings in
     let first = c.args.first in
@@ -353,29 +353,29 @@ returns-in_err-outcome-in-Join t c = λ instance held. (
     let err = err_from_is_err_and c.from_residual-in_err-outcome-in-Join.result c.from_residual-in_err-outcome-in-Join.ensures.1 in
     let a = subst (λ p. IsWalked (plan_of p) tables instance orderings first old mid l) c.deref.ensures (c.in_ok-left-in-Join.ensures instance left_held).ok in
     let b = subst (λ p. IsWalked (plan_of p) tables instance orderings l.next mid new r) c.deref-in-Join.ensures (c.in_ok-right-in-Join.ensures instance right_held).ok in
-    rw (err.1, err.2) (record { ok = tt; refused = subst (λ p. IsHalted p instance orderings first (error_of e)) (sym (ap plan_of c.in-Join.is)) (join_halted tables instance first old condition left right mid l new r orderings e c.requires.at a b (subst (λ m. IsLarge m (join_over condition (produced_of tables l.outcome) (produced_of tables r.outcome)) e) c.most-most.ensures c.in_err-outcome-in-Join.ensures.refused)) }))
+    rw (err.1, err.2) (record { ok = tt; refused = subst (λ p. IsHalted p instance orderings first (error_of e)) (sym (ap plan_of c.in-Join.is)) (join_halted tables instance first old condition left right mid l new r orderings e c.requires.at a b (subst (λ m. IsLarge m (join_over condition (relation_of tables l.outcome) (relation_of tables r.outcome)) e) c.most-most.ensures c.in_err-outcome-in-Join.ensures.refused)) }))
 
 pub grouped-requires : goal.grouped-requires
 grouped-requires t c =
     let tables = instance_of c.args.tables.now in
     let below = c.in_ok-below-in-Group.below in
     let some = c.requires.held in
-    let here = subst (λ p. IsHeld p tables c.args.handed some.instance) (ap plan_of c.in-Group.is) some.held in
-    let below_held = subst (λ p. IsHeld (plan_of p) tables c.args.handed some.instance) (sym c.deref-in-Group.ensures) here in
+    let here = subst (λ p. IsHeld p tables c.args.moved_in some.instance) (ap plan_of c.in-Group.is) some.held in
+    let below_held = subst (λ p. IsHeld (plan_of p) tables c.args.moved_in some.instance) (sym c.deref-in-Group.ensures) here in
     let b = (c.in_ok-below-in-Group.ensures some.instance below_held).ok in
     let named = subst EachNamesClasses (ap plan_of c.in-Group.is) c.requires.named in
     record {
       few = (let is = c.most-most.ensures in let bound = c.requires.bounded in omega arith);
-      small = ap (λ m. has_more_rows m (produced_of tables below.outcome)) c.most-most.ensures ∙ small_below tables some.instance c.args.first c.args.made.now.items c.evaluate-in-Group.new.made.items c.args.orderings (plan_of c.deref-in-Group.result.now) below b;
+      small = ap (λ m. has_more_rows m (relation_of tables below.outcome)) c.most-most.ensures ∙ small_below tables some.instance c.args.first c.args.made.now.items c.evaluate-in-Group.new.made.items c.args.orderings (plan_of c.deref-in-Group.result.now) below b;
       masks = named.1;
     }
 
 pub returns-in_ok-outcome-in-Group : goal.returns-in_ok-outcome-in-Group
 returns-in_ok-outcome-in-Group t c = λ instance held. (
     let tables = instance_of c.args.tables.now in
-    let handed = c.args.handed in
-    let here = subst (λ p. IsHeld p tables handed instance) (ap plan_of c.in-Group.is) held in
-    let below_held = subst (λ p. IsHeld (plan_of p) tables handed instance) (sym c.deref-in-Group.ensures) here in
+    let moved_in = c.args.moved_in in
+    let here = subst (λ p. IsHeld p tables moved_in instance) (ap plan_of c.in-Group.is) held in
+    let below_held = subst (λ p. IsHeld (plan_of p) tables moved_in instance) (sym c.deref-in-Group.ensures) here in
     let orderings = c.args.orderings in
     let first = c.args.first in
     let old = c.args.made.now.items in
@@ -386,16 +386,16 @@ returns-in_ok-outcome-in-Group t c = λ instance held. (
     let input = plan_of c.in-Group.input.value in
     let b = subst (λ p. IsWalked (plan_of p) tables instance orderings first old new below) c.deref-in-Group.ensures (c.in_ok-below-in-Group.ensures instance below_held).ok in
     record {
-      ok = subst (λ p. IsWalked p tables instance orderings first old new (record { outcome = Made o; next = below.next })) (sym (ap plan_of c.in-Group.is)) (group_walked tables instance first old rule input new below orderings o b (subst (λ m. IsSmall m (group_over rule (produced_of tables below.outcome)) (outcome_of o)) c.most-most.ensures c.in_ok-outcome-in-Group.ensures.ok));
+      ok = subst (λ p. IsWalked p tables instance orderings first old new (record { outcome = Made o; next = below.next })) (sym (ap plan_of c.in-Group.is)) (group_walked tables instance first old rule input new below orderings o b (subst (λ m. IsSmall m (group_over rule (relation_of tables below.outcome)) (outcome_of o)) c.most-most.ensures c.in_ok-outcome-in-Group.ensures.ok));
       refused = tt;
     })
 
 pub returns-in_err-below-in-Group : goal.returns-in_err-below-in-Group
 returns-in_err-below-in-Group t c = λ instance held. (
     let tables = instance_of c.args.tables.now in
-    let handed = c.args.handed in
-    let here = subst (λ p. IsHeld p tables handed instance) (ap plan_of c.in-Group.is) held in
-    let below_held = subst (λ p. IsHeld (plan_of p) tables handed instance) (sym c.deref-in-Group.ensures) here in
+    let moved_in = c.args.moved_in in
+    let here = subst (λ p. IsHeld p tables moved_in instance) (ap plan_of c.in-Group.is) held in
+    let below_held = subst (λ p. IsHeld (plan_of p) tables moved_in instance) (sym c.deref-in-Group.ensures) here in
     let orderings = c.args.orderings in
     let first = c.args.first in
     let old = c.args.made.now.items in
@@ -413,9 +413,9 @@ returns-in_err-below-in-Group t c = λ instance held. (
 pub returns-in_err-outcome-in-Group : goal.returns-in_err-outcome-in-Group
 returns-in_err-outcome-in-Group t c = λ instance held. (
     let tables = instance_of c.args.tables.now in
-    let handed = c.args.handed in
-    let here = subst (λ p. IsHeld p tables handed instance) (ap plan_of c.in-Group.is) held in
-    let below_held = subst (λ p. IsHeld (plan_of p) tables handed instance) (sym c.deref-in-Group.ensures) here in
+    let moved_in = c.args.moved_in in
+    let here = subst (λ p. IsHeld p tables moved_in instance) (ap plan_of c.in-Group.is) held in
+    let below_held = subst (λ p. IsHeld (plan_of p) tables moved_in instance) (sym c.deref-in-Group.ensures) here in
     let orderings = c.args.orderings in
     let first = c.args.first in
     let old = c.args.made.now.items in
@@ -426,4 +426,4 @@ returns-in_err-outcome-in-Group t c = λ instance held. (
     let e = c.in_err-outcome-in-Group.field-0.0 in
     let err = err_from_is_err_and c.from_residual-in_err-outcome-in-Group.result c.from_residual-in_err-outcome-in-Group.ensures.1 in
     let b = subst (λ p. IsWalked (plan_of p) tables instance orderings first old new below) c.deref-in-Group.ensures (c.in_ok-below-in-Group.ensures instance below_held).ok in
-    rw (err.1, err.2) (record { ok = tt; refused = subst (λ p. IsHalted p instance orderings first (error_of e)) (sym (ap plan_of c.in-Group.is)) (group_halted tables instance first old rule input new below orderings e c.requires.at b (subst (λ m. IsLarge m (group_over rule (produced_of tables below.outcome)) e) c.most-most.ensures c.in_err-outcome-in-Group.ensures.refused)) }))
+    rw (err.1, err.2) (record { ok = tt; refused = subst (λ p. IsHalted p instance orderings first (error_of e)) (sym (ap plan_of c.in-Group.is)) (group_halted tables instance first old rule input new below orderings e c.requires.at b (subst (λ m. IsLarge m (group_over rule (relation_of tables below.outcome)) e) c.most-most.ensures c.in_err-outcome-in-Group.ensures.refused)) }))

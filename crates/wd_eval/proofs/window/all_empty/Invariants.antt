@@ -1,5 +1,5 @@
 use Rattle.wd_eval.specs.Windows.{orderings_of}
-use Rattle.wd_eval.specs.Listings.{AreEmpty}
+use Rattle.wd_eval.specs.ClassIndexes.{AreEmpty}
 use Rattle.wd_eval.proofs.window.all_empty.Given as goal
 
 abbrev pub invariant-loop-number : goal.invariant-loop-number

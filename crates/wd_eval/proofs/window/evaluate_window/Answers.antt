@@ -5,7 +5,7 @@ use Rattle.wd_value.specs.Rows.{rows_of}
 use Rattle.wd_plan.specs.Outcomes.{RowsOrFault, outcome_of}
 use Rattle.wd_plan.specs.Plans.{class_of, window_of}
 use Rattle.wd_eval.specs.Windows.{AreUnserved, IsExtended, orderings_of}
-use Rattle.wd_eval.specs.Listings.{AreListed, AreListings}
+use Rattle.wd_eval.specs.ClassIndexes.{AreIndexed, AreClassIndexes}
 use Rattle.wd_eval.proofs.Serving.{fault_done, fault_unserved, rows_done}
 use Rattle.wd_eval.proofs.window.evaluate_window.Goals as goal
 
@@ -37,13 +37,13 @@ returns-in_ok-outcome-in-Rows c =
     let rows = rows_of c.in-Rows.rows.items in
     let choice = orderings_of c.args.choice.now in
     let first = c.args.first in
-    let listings = c.in_ok-listings-in-Rows.listings.items in
+    let indexes = c.in_ok-indexes-in-Rows.indexes.items in
     let o = c.in_ok-outcome-in-Rows.outcome in
     let source : c.of_rows.result ≡ rows = c.of_rows.ensures ∙ ap rows_of c.deref.ensures.value in
-    let all : AreListings w rows choice first (length w.classes) listings = subst (λ rs. AreListings w rs choice first (length w.classes) listings) source c.in_ok-listings-in-Rows.ensures.ok in
+    let all : AreClassIndexes w rows choice first (length w.classes) indexes = subst (λ rs. AreClassIndexes w rs choice first (length w.classes) indexes) source c.in_ok-indexes-in-Rows.ensures.ok in
     let same = sym (ap outcome_of c.in-Rows.is) in
     record {
       ok = subst (λ (r : RowsOrFault). IsExtended w r choice first (outcome_of o)) same
-          (rows_done w rows choice first listings (outcome_of o) all (λ orderings listed. c.in_ok-outcome-in-Rows.ensures orderings (subst (λ ls. AreListed w rows orderings ls) (sym c.deref-in-Rows.ensures.value) listed)));
+          (rows_done w rows choice first indexes (outcome_of o) all (λ orderings listed. c.in_ok-outcome-in-Rows.ensures orderings (subst (λ ls. AreIndexed w rows orderings ls) (sym c.deref-in-Rows.ensures.value) listed)));
       refused = tt;
     }

@@ -3,7 +3,7 @@ use Rattle.std.proofs.lemmas.List.{length-map, map_push}
 use Rattle.wd_plan.specs.Outcomes.{class_at}
 use Rattle.wd_plan.specs.Plans.{class_of, window_of}
 use Rattle.wd_eval.specs.Windows.{orderings_of}
-use Rattle.wd_eval.specs.Listings.{AreListings}
+use Rattle.wd_eval.specs.ClassIndexes.{AreClassIndexes}
 use Rattle.wd_eval.specs.Tied.{IsSortedOver}
 use Rattle.wd_eval.specs.Ties.{ArePut}
 use Rattle.wd_eval.proofs.Putting.{none_listed, none_put, one_listed, one_put}
@@ -12,7 +12,7 @@ use Rattle.wd_eval.proofs.window.put_sorted.Goals as goal
 pub loop-number-init : goal.loop-number-init
 loop-number-init c = record {
   put = none_put (window_of c.args.window.now) (Ok c.args.rows.now) c.args.turned (orderings_of c.args.made.now.items);
-  listings = subst (λ ls. AreListings (window_of c.args.window.now) c.args.rows.now (orderings_of c.args.made.now.items) (length (orderings_of c.args.made.now.items)) 0 ls) (sym c.new-listings.ensures.items)
+  indexes = subst (λ ls. AreClassIndexes (window_of c.args.window.now) c.args.rows.now (orderings_of c.args.made.now.items) (length (orderings_of c.args.made.now.items)) 0 ls) (sym c.new-indexes.ensures.items)
       (none_listed (window_of c.args.window.now) c.args.rows.now (orderings_of c.args.made.now.items));
 }
 
@@ -23,12 +23,12 @@ returns-clause-put c =
     let all : c.loop-number.number ≡ length w.classes = omega arith in
     subst (λ n. ArePut w (Ok c.args.rows.now) c.args.turned n (orderings_of c.args.made.now.items) (orderings_of c.loop-number.made.items)) all c.loop-number.invariant.put
 
-pub returns-clause-listings : goal.returns-clause-listings
-returns-clause-listings c =
+pub returns-clause-indexes : goal.returns-clause-indexes
+returns-clause-indexes c =
     let w = window_of c.args.window.now in
     let long = length-map c.args.window.now.classes.items class_of in
     let all : c.loop-number.number ≡ length w.classes = omega arith in
-    subst (λ n. AreListings w c.args.rows.now (orderings_of c.loop-number.made.items) (length (orderings_of c.args.made.now.items)) n c.loop-number.listings.items) all c.loop-number.invariant.listings
+    subst (λ n. AreClassIndexes w c.args.rows.now (orderings_of c.loop-number.made.items) (length (orderings_of c.args.made.now.items)) n c.loop-number.indexes.items) all c.loop-number.invariant.indexes
 
 pub loop-number-preserved : goal.loop-number-preserved
 loop-number-preserved c =
@@ -49,5 +49,5 @@ loop-number-preserved c =
     let at : length old + n ≡ length mid = omega arith in
     record {
       put = one_put w (Ok rows) c.args.turned n c.len.result old mid new turn sorted.ordering.items p number c.turn_of-turn.ensures stable grown;
-      listings = one_listed w rows (length old) n mid new sorted.ordering.items c.loop-number.listings.items c.push-in-loop-number.new.self.items sorted.listing at grown c.loop-number.invariant.listings c.in_ok-sorted.ensures.listing c.in_ok-push-2.ensures.items;
+      indexes = one_listed w rows (length old) n mid new sorted.ordering.items c.loop-number.indexes.items c.push-in-loop-number.new.self.items sorted.class_index at grown c.loop-number.invariant.indexes c.in_ok-sorted.ensures.class_index c.in_ok-push-2.ensures.items;
     }

@@ -4,7 +4,7 @@ use Rattle.wd_value.specs.Rows.{rows_of}
 use Rattle.wd_plan.specs.Outcomes.{RowsOrFault, outcome_of}
 use Rattle.wd_plan.specs.Plans.{class_of, window_of}
 use Rattle.wd_eval.specs.Windows.{orderings_of}
-use Rattle.wd_eval.specs.Listings.{AreListed, AreListings}
+use Rattle.wd_eval.specs.ClassIndexes.{AreIndexed, AreClassIndexes}
 use Rattle.wd_eval.proofs.Serving.{rows_done}
 use Rattle.wd_eval.specs.Ties.{AreAllPut, IsPutEmpty, IsTiedWindow}
 use Rattle.wd_eval.proofs.Putting.{fault_tied}
@@ -26,12 +26,12 @@ returns-in_ok-outcome-in-Rows c =
     let rows = rows_of c.in-Rows.rows.items in
     let old = orderings_of c.args.made.now.items in
     let new = orderings_of c.put_sorted.new.made.items in
-    let listings = c.in_ok-listings-in-Rows.listings.items in
+    let indexes = c.in_ok-indexes-in-Rows.indexes.items in
     let o = c.in_ok-outcome-in-Rows.outcome in
     let source : c.of_rows.result ≡ rows = c.of_rows.ensures ∙ ap rows_of c.deref.ensures.value in
-    let put : AreAllPut w (Ok rows) c.args.turned old new = subst (λ rs. AreAllPut w (Ok rs) c.args.turned old new) source c.in_ok-listings-in-Rows.ensures.put in
-    let all : AreListings w rows new (length old) (length w.classes) listings = subst (λ rs. AreListings w rs new (length old) (length w.classes) listings) source c.in_ok-listings-in-Rows.ensures.listings in
+    let put : AreAllPut w (Ok rows) c.args.turned old new = subst (λ rs. AreAllPut w (Ok rs) c.args.turned old new) source c.in_ok-indexes-in-Rows.ensures.put in
+    let all : AreClassIndexes w rows new (length old) (length w.classes) indexes = subst (λ rs. AreClassIndexes w rs new (length old) (length w.classes) indexes) source c.in_ok-indexes-in-Rows.ensures.indexes in
     subst (λ (r : RowsOrFault). IsTiedWindow w r c.args.turned old new (outcome_of o)) (sym (ap outcome_of c.in-Rows.is)) (record {
       put = put;
-      extended = rows_done w rows new (length old) listings (outcome_of o) all (λ orderings listed. c.in_ok-outcome-in-Rows.ensures orderings (subst (λ ls. AreListed w rows orderings ls) (sym c.deref-in-Rows.ensures.value) listed));
+      extended = rows_done w rows new (length old) indexes (outcome_of o) all (λ orderings listed. c.in_ok-outcome-in-Rows.ensures orderings (subst (λ ls. AreIndexed w rows orderings ls) (sym c.deref-in-Rows.ensures.value) listed));
     })

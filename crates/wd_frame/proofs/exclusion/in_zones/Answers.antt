@@ -1,7 +1,7 @@
 use Rattle.std.proofs.Common.{◌∙◌, ◌∷◌, ◌++◌, [], take, get_or, ap, subst, sym}
 use Rattle.std.proofs.lemmas.List.{take_more}
 use Rattle.wd_frame.specs.declared.exclusion.Zone.TheVariants.{Before}
-use Rattle.wd_frame.specs.Stretches.{AreZones, lists_of}
+use Rattle.wd_frame.specs.IndexRanges.{AreZones, lists_of}
 use Rattle.wd_frame.proofs.Zones.{AreZones-push, lists_of-push}
 use Rattle.wd_frame.proofs.exclusion.in_zones.Goals as goal
 

@@ -1,5 +1,5 @@
 use Rattle.std.proofs.Common.{take}
-use Rattle.wd_frame.specs.Stretches.{AreZones, lists_of}
+use Rattle.wd_frame.specs.IndexRanges.{AreZones, lists_of}
 use Rattle.wd_frame.proofs.exclusion.in_zones.Given as goal
 
 abbrev pub invariant-loop-zone : goal.invariant-loop-zone

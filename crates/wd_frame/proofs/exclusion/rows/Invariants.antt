@@ -1,4 +1,4 @@
-use Rattle.wd_frame.specs.Stretches.{AreRows}
+use Rattle.wd_frame.specs.IndexRanges.{AreRows}
 use Rattle.wd_frame.proofs.exclusion.rows.Given as goal
 
 abbrev pub invariant-loop-place : goal.invariant-loop-place

@@ -1,6 +1,6 @@
 use Rattle.std.proofs.Common.{◌≡◌, [], length, take}
 use Rattle.wd_frame.specs.Slides.{seen}
-use Rattle.wd_frame.specs.Stretches.{AreAnswers, lists_of, picked, places_along}
+use Rattle.wd_frame.specs.IndexRanges.{AreAnswers, lists_of, picked, places_along}
 use Rattle.wd_frame.proofs.over.over_lists.Given as goal
 
 abbrev pub invariant-loop-number : goal.invariant-loop-number

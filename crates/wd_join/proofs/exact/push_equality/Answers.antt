@@ -11,5 +11,5 @@ returns-in_ok-push-in-Some-clause-exact c = λ told. (
     let right = c.args.widths.right in
     let e = equality (expression_of c.args.a.now) (expression_of c.args.b.now) in
     let old = c.args.columns.now.items in
-    let found = rw c.in-Some.is at c.compared.ensures.found in
+    let found = rw c.in-Some.is at c.compared_columns.ensures.found in
     subst (HasExact left right e old) (sym c.in_ok-push-in-Some.ensures.items) (HasExact-one left right e old c.in-Some.found found))

@@ -21,7 +21,7 @@ loop-i-preserved c =
     let agreeing = c.in_ok-agreeing.agreeing in
     let found : AreAgreeing columns left right agreeing = search rules in
     let s = c.index.result.now in
-    let at : s ≡ get_or agreeing.stretches.items i s = search rules in
+    let at : s ≡ get_or agreeing.ranges.items i s = search rules in
     let here : positions ≡ take (s.end - s.start) (drop s.start agreeing.order.items) = search rules in
     let is : first ≡ row_at left i = search rules in
-    c.loop-position.invariant ∙ matching_done columns left right agreeing.order.items agreeing.stretches.items i j first positions s found within at here is all
+    c.loop-position.invariant ∙ matching_done columns left right agreeing.order.items agreeing.ranges.items i j first positions s found within at here is all

@@ -17,10 +17,10 @@ returns-then-positions-most-clause-too_many c = λ same. (
     let agreeing = c.in_ok-agreeing.agreeing in
     let found : AreAgreeing columns left right agreeing = search rules in
     let s = c.index.result.now in
-    let at : s ≡ get_or agreeing.stretches.items i s = search rules in
+    let at : s ≡ get_or agreeing.ranges.items i s = search rules in
     let here : positions ≡ take (s.end - s.start) (drop s.start agreeing.order.items) = search rules in
     let past : c.args.most < length old + length positions = omega (arith, c.loop-i.invariant.within) in
-    paired_past columns left right agreeing.order.items positions agreeing.stretches.items i s old found within at here c.loop-i.invariant.pairs c.args.most past)
+    paired_past columns left right agreeing.order.items positions agreeing.ranges.items i s old found within at here c.loop-i.invariant.pairs c.args.most past)
 
 pub loop-i-preserved : goal.loop-i-preserved
 loop-i-preserved c =
@@ -34,12 +34,12 @@ loop-i-preserved c =
     let agreeing = c.in_ok-agreeing.agreeing in
     let found : AreAgreeing columns left right agreeing = search rules in
     let s = c.index.result.now in
-    let at : s ≡ get_or agreeing.stretches.items i s = search rules in
+    let at : s ≡ get_or agreeing.ranges.items i s = search rules in
     let here : positions ≡ take (s.end - s.start) (drop s.start agreeing.order.items) = search rules in
     let grown : c.push_each.new.pairs.items ≡ old ++ with_each i positions = search rules in
     let long = ap length grown ∙ length-append old (with_each i positions) in
     let each = length-with_each i positions in
     record {
-      pairs = ap (rows_paired left right) grown ∙ paired_more columns left right agreeing.order.items positions agreeing.stretches.items i s old found within at here c.loop-i.invariant.pairs;
+      pairs = ap (rows_paired left right) grown ∙ paired_more columns left right agreeing.order.items positions agreeing.ranges.items i s old found within at here c.loop-i.invariant.pairs;
       within = omega (arith, c.loop-i.invariant.within);
     }

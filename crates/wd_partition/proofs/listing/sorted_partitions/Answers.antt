@@ -10,7 +10,7 @@ pub partitions_of-requires-clause-lawful : goal.partitions_of-requires-clause-la
 partitions_of-requires-clause-lawful c =
     let rows = c.args.rows.now in
     let class = class_by c.args.partition.now c.args.keys.now in
-    let list = c.in_ok-arrangement.arrangement.positions.items in
+    let list = c.in_ok-index.index.positions.items in
     let sort : IsStableSortOf (sort_columns class) rows (given_positions c.args.turn (length c.args.rows.now)) list = search rules in
     record {
       lawful = IsOrdering-from_given class rows c.args.turn list sort;
@@ -21,7 +21,7 @@ pub returns-clause-partitions : goal.returns-clause-partitions
 returns-clause-partitions c =
     let rows = c.args.rows.now in
     let class = class_by c.args.partition.now c.args.keys.now in
-    let list = c.in_ok-arrangement.arrangement.positions.items in
+    let list = c.in_ok-index.index.positions.items in
     let sort : IsStableSortOf (sort_columns class) rows (given_positions c.args.turn (length c.args.rows.now)) list = search rules in
     let same : c.in_ok-ordering.ordering.items ≡ list = search rules in
     let found : c.in_ok-partitions.partitions ≡ members_of class c.args.numbers rows list = search rules in

@@ -1,6 +1,6 @@
 use Rattle.std.proofs.Common.{◌≡◌, drop, map}
 use Rattle.wd_resolve_call.specs.Functions.{columns_only}
-use Rattle.wd_resolve_call.specs.Leaves.{operand_of}
+use Rattle.wd_resolve_call.specs.References.{operand_of}
 use Rattle.wd_resolve_call.proofs.Prefixed.{prefixed}
 use Rattle.wd_resolve_call.proofs.function.columns_only.Given as goal
 

@@ -1,5 +1,5 @@
 use Rattle.std.proofs.Common.{◌≡◌, drop, nat_eq}
-use Rattle.wd_resolve_list.specs.Listing.{with_new}
+use Rattle.wd_resolve_list.specs.SelectLists.{with_new}
 use Rattle.wd_resolve_list.proofs.grouping.add_columns.Given as goal
 
 abbrev pub invariant-loop-number : goal.invariant-loop-number

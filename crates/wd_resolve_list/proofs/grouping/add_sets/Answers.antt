@@ -4,7 +4,7 @@ use Rattle.std.specs.declared.alloc.Global.{Global}
 use Rattle.std.specs.declared.vec.Vec.{Vec}
 use Rattle.std.proofs.Math.Seq.{drop-cons}
 use Rattle.wd_plan.specs.Plans.{sets_of}
-use Rattle.wd_resolve_list.specs.Listing.{with_new}
+use Rattle.wd_resolve_list.specs.SelectLists.{with_new}
 use Rattle.wd_resolve_list.proofs.FirstMet.{with_new_append}
 use Rattle.wd_resolve_list.proofs.grouping.add_sets.Goals as goal
 

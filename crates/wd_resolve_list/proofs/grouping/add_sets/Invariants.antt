@@ -1,7 +1,7 @@
 use Rattle.std.proofs.Common.{◌≡◌, drop, nat_eq}
 use Rattle.std.specs.Prelude.{flat_map}
 use Rattle.wd_plan.specs.Plans.{sets_of}
-use Rattle.wd_resolve_list.specs.Listing.{with_new}
+use Rattle.wd_resolve_list.specs.SelectLists.{with_new}
 use Rattle.wd_resolve_list.proofs.grouping.add_sets.Given as goal
 
 abbrev pub invariant-loop-set : goal.invariant-loop-set

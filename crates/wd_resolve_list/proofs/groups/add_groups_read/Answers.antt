@@ -3,8 +3,8 @@ use Rattle.std.specs.Prelude.{IfOk}
 use Rattle.wd_resolve_call.specs.Calls.{call_of}
 use Rattle.wd_resolve_call.specs.Rows.{GroupCall, same_group_call}
 use Rattle.wd_resolve_call.specs.Windows.{key_of}
-use Rattle.wd_resolve_call.specs.Rows.{row_formula_of}
-use Rattle.wd_resolve_list.specs.Listing.{all_row_leaves, group_calls_among, shared_call, sorted_by, with_new}
+use Rattle.wd_resolve_call.specs.Rows.{row_expression_of}
+use Rattle.wd_resolve_list.specs.SelectLists.{all_row_references, group_calls_among, shared_call, sorted_by, with_new}
 use Rattle.wd_resolve_list.proofs.FirstMet.{call_groups}
 use Rattle.wd_resolve_list.proofs.groups.add_groups_read.Goals as goal
 
@@ -15,6 +15,6 @@ returns c =
     let partition = c.deref-2.ensures.value ∙ ap (λ v. v.items) c.deref.ensures in
     let order = c.deref-4.ensures.value ∙ ap (λ v. v.items) c.deref-3.ensures in
     let parted = c.in_ok-add_partition_calls.ensures
-    ∙ (λ i. with_new same_group_call (c.in_ok-add_argument_calls.ensures i) (group_calls_among (all_row_leaves (map row_formula_of (partition i))))) in
-    let same = (λ i. with_new same_group_call (parted i) (group_calls_among (all_row_leaves (map sorted_by (map key_of (order i)))))) ∙ sym (call_groups before call) in
+    ∙ (λ i. with_new same_group_call (c.in_ok-add_argument_calls.ensures i) (group_calls_among (all_row_references (map row_expression_of (partition i))))) in
+    let same = (λ i. with_new same_group_call (parted i) (group_calls_among (all_row_references (map sorted_by (map key_of (order i)))))) ∙ sym (call_groups before call) in
     subst (λ (cs : List GroupCall). IfOk c.add_order_calls.result (λ u. map shared_call c.add_order_calls.new.calls.items ≡ cs)) same c.add_order_calls.ensures

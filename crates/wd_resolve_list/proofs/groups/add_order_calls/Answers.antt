@@ -1,9 +1,9 @@
 use Rattle.std.proofs.Common.{◌≡◌, ◌∙◌, sym, ap, suc, ◌<◌, ◌+◌, ◌∷◌, add-one, arith, drop, length, map}
 use Rattle.std.proofs.Math.Seq.{drop-cons}
-use Rattle.wd_resolve_operand.specs.Formulas.{leaves}
-use Rattle.wd_resolve_call.specs.Rows.{row_formula_of, same_group_call}
+use Rattle.wd_resolve_operand.specs.BoundExpressions.{references}
+use Rattle.wd_resolve_call.specs.Rows.{row_expression_of, same_group_call}
 use Rattle.wd_resolve_call.specs.Windows.{key_of}
-use Rattle.wd_resolve_list.specs.Listing.{all_row_leaves, group_calls_among, shared_call, sorted_by, with_new}
+use Rattle.wd_resolve_list.specs.SelectLists.{all_row_references, group_calls_among, shared_call, sorted_by, with_new}
 use Rattle.wd_resolve_list.proofs.FirstMet.{groups_added}
 use Rattle.wd_resolve_list.proofs.groups.add_order_calls.Goals as goal
 
@@ -13,11 +13,11 @@ loop-key-preserved c =
     let x = c.key-item.result in
     let i = c.loop-key.key-index in
     let before = map shared_call c.loop-key.calls.items in
-    let here = leaves (row_formula_of x.expression) in
-    let rest = all_row_leaves (map sorted_by (map key_of (drop (i + 1) all))) in
+    let here = references (row_expression_of x.expression) in
+    let rest = all_row_references (map sorted_by (map key_of (drop (i + 1) all))) in
     let within : i < length all = omega arith in
     let step : drop i all ≡ x ∷ drop (i + 1) all = drop-cons all i x within ∙ ap (λ o. o ∷ drop (suc i) all) (sym c.key-item.is) ∙ ap (λ k. x ∷ drop k all) (sym (add-one i)) in
     ap (λ cs. with_new same_group_call cs (group_calls_among rest)) c.in_ok-add_row_calls.ensures
     ∙ sym (groups_added before here rest)
-    ∙ ap (λ xs. with_new same_group_call before (group_calls_among (all_row_leaves (map sorted_by (map key_of (xs)))))) (sym step)
+    ∙ ap (λ xs. with_new same_group_call before (group_calls_among (all_row_references (map sorted_by (map key_of (xs)))))) (sym step)
     ∙ c.loop-key.invariant

@@ -2,7 +2,7 @@ use Rattle.std.proofs.Common.{◌≡◌, drop, map}
 use Rattle.std.specs.Prelude.{flat_map}
 use Rattle.wd_plan.specs.Expressions.{Column, expression_of}
 use Rattle.wd_plan.specs.Equality.{same_expression}
-use Rattle.wd_resolve_list.specs.Listing.{group_argument_of, shared_call, with_new}
+use Rattle.wd_resolve_list.specs.SelectLists.{group_argument_of, shared_call, with_new}
 use Rattle.wd_resolve_list.proofs.groups.group_inputs.Given as goal
 
 abbrev pub invariant-loop-call : goal.invariant-loop-call

@@ -5,7 +5,7 @@ use Rattle.wd_syntax.specs.Tree.{Binary, Call, Case, window, trees_of, arms_of, 
 use Rattle.wd_syntax.specs.View.{view, view_link, view_arm, view_key, view_window, view_over_option, view_else_option, chained}
 use Rattle.wd_syntax.proofs.Rows.{view_call, view_case, view_chain}
 use Rattle.wd_resolve_scope.specs.declared.context.Place.TheVariants as Place
-use Rattle.wd_resolve_call.specs.Leaves.{operand_of}
+use Rattle.wd_resolve_call.specs.References.{operand_of}
 use Rattle.wd_resolve_scope.specs.Resolving.{context_of, resolved, all_resolved, all_settled, arguments_in, arms_resolved, keys_resolved, window_resolved, moved_to}
 use Rattle.wd_resolve_operand.specs.Causes.{◌>>=◌}
 use Rattle.wd_resolve_scope.specs.Parts.{chain_meant, link_meant}
@@ -45,7 +45,7 @@ pub resolved-returns-in_ok-arms-in-Case : goal.resolved-returns-in_ok-arms-in-Ca
 resolved-returns-in_ok-arms-in-Case t c =
     let other = c.in-Case.other in
     let shown : view c.args.tree.now ≡ Case (arms_of (map view_arm c.deref-in-Case.result.now)) (view_else_option other) = ap view c.in-Case.is ∙ view_case c.in-Case.arms other ∙ ap (λ xs. Case (arms_of (map view_arm xs)) (view_else_option other)) (sym c.deref-in-Case.ensures.value) in
-    rw shown (rw c.in_ok-arms-in-Case.ensures c.case_ended.ensures)
+    rw shown (rw c.in_ok-arms-in-Case.ensures c.end_case.ensures)
 
 pub resolved-returns-in_err-first-in-Chain : goal.resolved-returns-in_err-first-in-Chain
 resolved-returns-in_err-first-in-Chain t c =
@@ -77,7 +77,7 @@ resolved-returns-in_ok-left-in-Chain t c =
     let last = view_link c.deref-in-Chain-3.result.now in
     let shown : view c.args.tree.now ≡ Binary last.0 (chained first before) last.1 = ap view c.in-Chain.is ∙ view_chain c.in-Chain.first c.in-Chain.before c.in-Chain.last ∙ ap (λ a. Binary c.in-Chain.last.value.operator (chained (view a) (map view_link c.in-Chain.before.items)) (view c.in-Chain.last.value.operand)) (sym c.deref-in-Chain.ensures) ∙ ap (λ xs. Binary c.in-Chain.last.value.operator (chained first (map view_link xs)) (view c.in-Chain.last.value.operand)) (sym c.deref-in-Chain-2.ensures.value) ∙ ap (λ l. Binary (view_link l).0 (chained first before) (view_link l).1) (sym c.deref-in-Chain-3.ensures) in
     let whole = ap (resolved context) shown ∙ chain_ends context first before last in
-    rw whole (rw c.in_ok-first-in-Chain.ensures (rw c.in_ok-left-in-Chain.ensures c.last_resolved.ensures))
+    rw whole (rw c.in_ok-first-in-Chain.ensures (rw c.in_ok-left-in-Chain.ensures c.resolve_last.ensures))
 
 pub window_resolved-returns-in_err-operands : goal.window_resolved-returns-in_err-operands
 window_resolved-returns-in_err-operands t c =
@@ -123,4 +123,4 @@ window_resolved-returns t c =
     let shown : view_window c.args.window.now ≡ window w.base trees keys w.frame = view_window_out c.args.window.now ∙ ap (λ ts. window w.base (trees_of (map view ts)) (keys_of (map view_key w.order.items)) w.frame) (sym c.deref.ensures.value) ∙ ap (λ ks. window w.base trees (keys_of (map view_key ks)) w.frame) (sym c.deref-3.ensures.value) in
     let g : all_resolved (moved_to Place.Window context) trees ≡ Ok xs = ap (λ d. all_resolved d trees) (sym c.moved_to-inside.ensures) ∙ c.in_ok-operands.ensures ∙ ap (λ ys. Ok (map operand_of ys)) (sym c.deref-2.ensures.value) in
     let k = ap (λ d. keys_resolved d keys) (sym c.moved_to-inside.ensures) ∙ c.in_ok-order.ensures in
-    rw shown (rw c.in_ok-base.ensures (rw g (rw c.in_ok-partition.ensures (rw k c.window_meant.ensures))))
+    rw shown (rw c.in_ok-base.ensures (rw g (rw c.in_ok-partition.ensures (rw k c.resolve_window.ensures))))

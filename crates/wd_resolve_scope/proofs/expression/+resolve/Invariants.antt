@@ -1,7 +1,7 @@
 use Rattle.std.proofs.Common.{◌≡◌, map, drop, Ok}
 use Rattle.wd_syntax.specs.View.{view, tested, view_link, view_arm, view_key}
 use Rattle.wd_syntax.specs.Tree.{trees_of, arms_of, keys_of}
-use Rattle.wd_resolve_call.specs.Leaves.{operand_of, arm_of}
+use Rattle.wd_resolve_call.specs.References.{operand_of, arm_of}
 use Rattle.wd_resolve_scope.specs.Resolving.{context_of, resolved, all_resolved, arms_resolved, keys_resolved}
 use Rattle.wd_resolve_call.specs.Windows.{key_of}
 use Rattle.wd_resolve_scope.specs.Parts.{chain_meant}

@@ -1,7 +1,7 @@
 use Rattle.std.proofs.Common.{◌≡◌, map, take}
 use Rattle.wd_plan.specs.Expressions.{expression_of}
 use Rattle.wd_plan.specs.Plans.{group_call_of}
-use Rattle.wd_resolve_list.specs.Listing.{shared_call}
+use Rattle.wd_resolve_list.specs.SelectLists.{shared_call}
 use Rattle.wd_resolve_select.specs.Steps.{group_call_over}
 use Rattle.wd_resolve_select.proofs.steps.group_calls_over.Given as goal
 

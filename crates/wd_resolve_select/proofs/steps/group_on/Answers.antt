@@ -1,5 +1,5 @@
 use Rattle.std.proofs.Common.{◌∙◌, ap, subst, ◌≤◌, length, map, sym}
-use Rattle.wd_resolve_list.specs.Listing.{grouped_by_of, group_inputs, shared_call}
+use Rattle.wd_resolve_list.specs.SelectLists.{grouped_by_of, group_inputs, shared_call}
 use Rattle.wd_resolve_list.proofs.Narrow.{few_inputs}
 use Rattle.wd_resolve_select.proofs.steps.group_on.Goals as goal
 

@@ -21,7 +21,7 @@ returns-in-Deterministic c =
     let tables = schema_of c.args.self.planned.schema in
     let plan = plan_of c.args.self.planned.resolved.plan in
     let read = resolved_of c.args.self.planned.resolved in
-    IfOk-weaker c.listed.result (IsOfVerdict tables read (Deterministic c.in-Deterministic.certificate)) (IsListVerdictOf tables read)
+    IfOk-weaker c.verdict_of_list.result (IsOfVerdict tables read (Deterministic c.in-Deterministic.certificate)) (IsListVerdictOf tables read)
     (λ v h. record {
       analysis = c.args.self.analysis;
       verdict = Deterministic c.in-Deterministic.certificate;
@@ -29,7 +29,7 @@ returns-in-Deterministic c =
       of_analysis = subst (IsVerdictOf tables plan c.args.self.analysis) c.in-Deterministic.is (c.verdict_of.ensures tables plan (c.in_ok-witness.field-0-1, c.in_ok-witness.ensures.sought));
       of_verdict = h;
     })
-    c.listed.ensures
+    c.verdict_of_list.ensures
 
 pub returns-in-Depends : goal.returns-in-Depends
 returns-in-Depends c =

@@ -1,0 +1,10 @@
+use Rattle.std.proofs.Common.{◌∙◌, sym}
+use Rattle.wd_resolve_operand.proofs.Mapped.{rebased_over}
+use Rattle.wd_resolve_call.specs.Rows.{row_expression_of}
+use Rattle.wd_resolve_call.proofs.Meanings.{ok_is}
+use Rattle.wd_resolve_list.specs.Grouping.{below_of}
+use Rattle.wd_resolve_list.specs.SelectLists.{projected_shown, row_place}
+use Rattle.wd_resolve_select.proofs.rebased.rebase_row.Goals as goal
+
+pub returns-in-Ok : goal.returns-in-Ok
+returns-in-Ok c = ok_is _ _ (sym c.in-Ok.ensures ∙ rebased_over (row_place (below_of c.args.below.now).grouped (projected_shown c.args.projected.now).groups) (row_expression_of c.args.expression.now))

@@ -1,7 +1,0 @@
-use Rattle.std.proofs.Common.{◌≡◌, map, take}
-use Rattle.wd_plan.specs.Plans.{sets_of}
-use Rattle.wd_resolve_list.specs.Grouping.{set_seated}
-use Rattle.wd_resolve_select.proofs.steps.sets_seated.Given as goal
-
-abbrev pub invariant-loop-set : goal.invariant-loop-set
-invariant-loop-set l = sets_of l.seated.items ≡ map (set_seated l.columns) (sets_of (take l.set-index l.sets))

@@ -1,6 +1,0 @@
-use Rattle.std.proofs.Common.{◌≡◌, flat_map, string_bytes}
-use Rattle.wd_spelling.specs.Spelling.{quoted_char}
-use Rattle.wd_spelling.proofs.literal.doubled.Given as goal
-
-abbrev pub invariant-loop-c : goal.invariant-loop-c
-invariant-loop-c l = string_bytes l.inner ≡ flat_map quoted_char l.yielded
