@@ -43,11 +43,11 @@ pub(crate) fn rebase_all(
     requires few_groups { is_group_wide (below_of below.now).grouped (projected_shown projected.now).groups ≡ false }
     ensures { IfOk result (λ v. map expression_of v.items ≡ map (over (row_place (below_of below.now).grouped (projected_shown projected.now).groups) (projected_shown projected.now)) (map bound_expression_of expressions.now)) }
 {
-    let mut expressions = Vec::with_capacity(alloc, expressions.len())?;
+    let mut rebased = Vec::with_capacity(alloc, expressions.len())?;
     for expression in expressions {
-        expressions.push(rebase(alloc, projected, below, expression)?)?;
+        rebased.push(rebase(alloc, projected, below, expression)?)?;
     }
-    Ok(expressions)
+    Ok(rebased)
 }
 
 /// An expression over rows, over the columns of its references.

@@ -6,4 +6,4 @@ use Rattle.wd_resolve_list.specs.SelectLists.{projected_shown, over, row_place}
 use Rattle.wd_resolve_select.proofs.rebased.rebase_all.Given as goal
 
 abbrev pub invariant-loop-expression : goal.invariant-loop-expression
-invariant-loop-expression l = map expression_of l.expressions.items ≡ map (over (row_place (below_of l.below).grouped (projected_shown l.projected).groups) (projected_shown l.projected)) (map bound_expression_of (take l.expression-index l.expressions))
+invariant-loop-expression l = map expression_of l.rebased.items ≡ map (over (row_place (below_of l.below).grouped (projected_shown l.projected).groups) (projected_shown l.projected)) (map bound_expression_of (take l.expression-index l.expressions))
