@@ -5,9 +5,9 @@ use Rattle.wd_plan.specs.Expressions as e
 use Rattle.wd_plan.specs.Expressions.{Expression}
 use Rattle.wd_resolve_operand.specs.Causes.{Meant, ◌>>=◌}
 use Rattle.wd_resolve_operand.specs.BoundExpressions.{BoundExpression, Reference, Literal, Negate, Arithmetic, Compare, Not, And, Or, IsNull, IsNotNull, Case, over_columns, over_references, rebased}
-use Rattle.wd_resolve_operand.specs.Mappings.{column_over, expressions, expressions, reference_over, mapped}
+use Rattle.wd_resolve_operand.specs.Mappings.{column_over, bound_expressions, expressions, reference_over, mapped}
 
-pub mapped_over_references : {K L : Type 0} (reference : K → Meant L) (f : BoundExpression K) → mapped expressions (reference_over reference) f ≡ over_references reference f
+pub mapped_over_references : {K L : Type 0} (reference : K → Meant L) (f : BoundExpression K) → mapped bound_expressions (reference_over reference) f ≡ over_references reference f
 mapped_over_references reference (Reference k) = refl
 mapped_over_references reference (Literal v kind) = refl
 mapped_over_references reference (Negate a) = rw (mapped_over_references reference a) refl

@@ -40,8 +40,8 @@ bound_expression_between (binary.Compare op) a b = f.Compare op a b
 bound_expression_between binary.And a b = f.And a b
 bound_expression_between binary.Or a b = f.Or a b
 
-abbrev pub expressions : {L : Type 0} → Making (BoundExpression L)
-expressions = record { literal = f.Literal; under = bound_expression_under; between = bound_expression_between; branch = f.Case }
+abbrev pub bound_expressions : {L : Type 0} → Making (BoundExpression L)
+bound_expressions = record { literal = f.Literal; under = bound_expression_under; between = bound_expression_between; branch = f.Case }
 
 abbrev pub expression_under : Unary → Expression → Expression
 expression_under unary.Negate a = e.Negate a

@@ -81,7 +81,7 @@ struct OverReferences<'m, M> {
 impl<'m, M: ReferenceMap> Maker for OverReferences<'m, M> {
     ghost use Rattle.std.specs.Prelude.{◌≡◌};
     ghost use Rattle.wd_resolve_operand.specs.BoundExpressions.{BoundExpression as Tree};
-    ghost use Rattle.wd_resolve_operand.specs.Mappings.{expressions, reference_over};
+    ghost use Rattle.wd_resolve_operand.specs.Mappings.{bound_expressions, reference_over};
 
     type From = M::From;
 
@@ -95,7 +95,7 @@ impl<'m, M: ReferenceMap> Maker for OverReferences<'m, M> {
 
     ghost shown = { bound_expression_of M.shown };
 
-    ghost making = { expressions };
+    ghost making = { bound_expressions };
 
     ghost meaning = { λ s l. reference_over (M.meaning s.map.now) l };
 
@@ -112,7 +112,7 @@ impl<'m, M: ReferenceMap> Maker for OverReferences<'m, M> {
     }
 
     fn under(operator: Unary, a: Box<BoundExpression<M::To>>) -> BoundExpression<M::To>
-        ensures { bound_expression_of M.shown result ≡ expressions.under operator (bound_expression_of M.shown a.value) }
+        ensures { bound_expression_of M.shown result ≡ bound_expressions.under operator (bound_expression_of M.shown a.value) }
     {
         match operator {
             Unary::Negate => BoundExpression::Negate(a),
@@ -127,7 +127,7 @@ impl<'m, M: ReferenceMap> Maker for OverReferences<'m, M> {
         a: Box<BoundExpression<M::To>>,
         b: Box<BoundExpression<M::To>>,
     ) -> BoundExpression<M::To>
-        ensures { bound_expression_of M.shown result ≡ expressions.between operator (bound_expression_of M.shown a.value) (bound_expression_of M.shown b.value) }
+        ensures { bound_expression_of M.shown result ≡ bound_expressions.between operator (bound_expression_of M.shown a.value) (bound_expression_of M.shown b.value) }
     {
         match operator {
             Binary::Arithmetic(op) => BoundExpression::Arithmetic(op, a, b),
@@ -143,7 +143,7 @@ impl<'m, M: ReferenceMap> Maker for OverReferences<'m, M> {
         b: Box<BoundExpression<M::To>>,
         c: Box<BoundExpression<M::To>>,
     ) -> BoundExpression<M::To>
-        ensures { bound_expression_of M.shown result ≡ expressions.branch branch (bound_expression_of M.shown a.value) (bound_expression_of M.shown b.value) (bound_expression_of M.shown c.value) }
+        ensures { bound_expression_of M.shown result ≡ bound_expressions.branch branch (bound_expression_of M.shown a.value) (bound_expression_of M.shown b.value) (bound_expression_of M.shown c.value) }
     {
         BoundExpression::Case(branch, a, b, c)
     }
