@@ -34,7 +34,7 @@ use wd_resolve_operand::{BoundExpression, Cause, ResolveError};
 use wd_resolve_scope::{Context, KnownWindow, Place, Scope, SelectReference, define_windows};
 use wd_resolve_select::{
     Below, Output, OutputColumn, ProjectedInputs, RowLimit, Shown, Sorted, add_distinct,
-    add_filter, add_limit, add_map, below_meant, drop_hidden, grouped_meant, item_meant,
+    add_filter, add_limit, add_map, drop_hidden, resolve_below, resolve_group_by, resolve_item,
     resolve_limits, resolve_sort_keys,
 };
 use wd_schema::Schema;
@@ -138,8 +138,8 @@ fn after_from(
 {
     let JoinedTables { scope, plan } = from;
     let plan = add_filter(alloc, &scope, &select.filter, plan)?;
-    let grouped = grouped_meant(alloc, &scope, select)?;
-    let below = below_meant(alloc, &scope, grouped, &select.grouping.having)?;
+    let grouped = resolve_group_by(alloc, &scope, select)?;
+    let below = resolve_below(alloc, &scope, grouped, &select.grouping.having)?;
     let windows = define_windows(alloc, &scope, below.groups(), &select.windows)?;
     lower_select_list(alloc, &scope, below, plan, &windows, select)
 }
@@ -243,7 +243,7 @@ fn outputs_of_item<'a>(
         windows,
         place: Place::SelectList,
     };
-    item_meant(alloc, &context, item)
+    resolve_item(alloc, &context, item)
 }
 
 /// The outputs with further ones, and what all of them need.
