@@ -11,7 +11,7 @@ use Rattle.wd_value.specs.declared.order.SortColumn.{SortColumn}
 use Rattle.wd_plan.specs.Choices.{AtRows}
 use Rattle.wd_plan.specs.Expressions.{Expression, value_of}
 use Rattle.wd_plan.specs.Faults.{all_ok, and_then, least_fault, unless, values_among}
-use Rattle.wd_plan.specs.Outcomes.{RowsOrFault, limit_step, distinct, extended, filter_outcome, first_rows, map_outcome, passes, peers}
+use Rattle.wd_plan.specs.Outcomes.{RowsOrFault, cut, distinct, extended, filter_outcome, first_rows, map_outcome, passes, peers}
 use Rattle.wd_plan.specs.Plans.{LimitRule, WindowRule}
 use Rattle.wd_plan.specs.Sorting.{IsOrdering, limit_class}
 use Rattle.wd_partition.proofs.Marks.{length_once}
@@ -56,9 +56,9 @@ first_rows-le keys true (suc zero) (r ∷ rows) = let h = take_while-le (peers k
 first_rows-le keys false (suc zero) (r ∷ rows) = omega arith
 first_rows-le keys ties (suc (suc n)) (r ∷ rows) = let h = first_rows-le keys ties (suc n) rows in omega arith
 
-limit_step-le : (keys : List SortColumn) (offset : ℕ) (count : Option ℕ) (ties : Bool) (rows : List Row) → length (limit_step (record { keys = keys; offset = offset; count = count; ties = ties }) rows) ≤ length rows
-limit_step-le keys offset None ties rows = let behind = length-drop offset rows in omega arith
-limit_step-le keys offset (Some n) ties rows =
+cut-le : (keys : List SortColumn) (offset : ℕ) (count : Option ℕ) (ties : Bool) (rows : List Row) → length (cut (record { keys = keys; offset = offset; count = count; ties = ties }) rows) ≤ length rows
+cut-le keys offset None ties rows = let behind = length-drop offset rows in omega arith
+cut-le keys offset (Some n) ties rows =
     let behind = length-drop offset rows in
     let front = first_rows-le keys ties n (drop offset rows) in
     omega arith
@@ -89,8 +89,8 @@ fewer_window most w orderings (Err fault) h = refl
 
 pub fewer_cut : (most : ℕ) (limit : LimitRule) (ordering : List ℕ) (input : RowsOrFault) → AtRows input (λ rows. IsOrdering (limit_class limit) rows ordering) (ordering ≡ []) → has_more_rows most input ≡ false → has_more_rows most (cut_over limit ordering input) ≡ false
 fewer_cut most limit ordering (Ok rows) lawful h =
-    let le = limit_step-le limit.keys limit.offset limit.count limit.ties (rows_at rows ordering) in
+    let le = cut-le limit.keys limit.offset limit.count limit.ties (rows_at rows ordering) in
     let long = length-map ordering (row_at rows) in
     let once = length_once (length rows) ordering lawful.once in
-    fewer most (length rows) (length (limit_step limit (rows_at rows ordering))) (omega arith) h
+    fewer most (length rows) (length (cut limit (rows_at rows ordering))) (omega arith) h
 fewer_cut most limit ordering (Err fault) lawful h = refl

@@ -8,7 +8,7 @@ ghost use Rattle.wd_plan.specs.Plans.{EachNamesClasses, plan_of};
 ghost use Rattle.wd_value.specs.Rows.{Instance, instance_of};
 
 use crate::error::EvalError;
-use crate::limit_step::limit_rows;
+use crate::limit::limit_rows;
 use crate::orderings::Orderings;
 use crate::window::extend_rows;
 use std::alloc::Global;

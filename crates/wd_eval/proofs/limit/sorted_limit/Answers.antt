@@ -8,7 +8,7 @@ use Rattle.wd_eval.specs.Windows.{orderings_of}
 use Rattle.wd_eval.specs.Nodes.{cut_over}
 use Rattle.wd_nodes.specs.Relation.{relation_of, stored_or_fault_of}
 use Rattle.wd_eval.proofs.Putting.{lawful_over, limit_tied_from}
-use Rattle.wd_eval.proofs.limit_step.sorted_limit.Goals as goal
+use Rattle.wd_eval.proofs.limit.sorted_limit.Goals as goal
 
 pub cut_input-requires : goal.cut_input-requires
 cut_input-requires c =

@@ -8,7 +8,7 @@ ghost use Rattle.wd_eval.specs.Tied.{IsSortedOver};
 ghost use Rattle.wd_eval.specs.Ties.{IsTiedLimit};
 ghost use Rattle.wd_eval.specs.Walks.{IsAt, IsLimitStep};
 ghost use Rattle.wd_plan.specs.Choices.{AtRows};
-ghost use Rattle.wd_plan.specs.Outcomes.{limit_step};
+ghost use Rattle.wd_plan.specs.Outcomes.{cut};
 ghost use Rattle.wd_plan.specs.Plans.{limit_of};
 ghost use Rattle.wd_plan.specs.Sorting.{IsOrdering, limit_class};
 ghost use Rattle.wd_value.specs.Bags.{EachOnce};
@@ -116,7 +116,7 @@ fn limit_stored(
     ordering: &[u64],
 ) -> Result<Relation, OutOfMemory>
     requires { EachOnce (length (stored_rows_of (instance_of instance.now) stored)) ordering.now }
-    ensures { IfOk result (λ o. relation_of (instance_of instance.now) o ≡ Ok (limit_step (limit_of limit.now) (rows_at (stored_rows_of (instance_of instance.now) stored) ordering.now))) }
+    ensures { IfOk result (λ o. relation_of (instance_of instance.now) o ≡ Ok (cut (limit_of limit.now) (rows_at (stored_rows_of (instance_of instance.now) stored) ordering.now))) }
 {
     let kept = kept_positions(limit, &source(&stored, instance), ordering);
     pick_rows(alloc, instance, stored, kept)

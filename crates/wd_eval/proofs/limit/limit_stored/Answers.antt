@@ -2,7 +2,7 @@ use Rattle.std.proofs.Common.{length}
 use Rattle.wd_value.specs.Rows.{instance_of}
 use Rattle.wd_nodes.specs.Relation.{stored_rows_of}
 use Rattle.wd_eval.proofs.Taking.{different, within}
-use Rattle.wd_eval.proofs.limit_step.limit_stored.Goals as goal
+use Rattle.wd_eval.proofs.limit.limit_stored.Goals as goal
 
 pub picked-requires-clause-different : goal.picked-requires-clause-different
 picked-requires-clause-different c = different (length (stored_rows_of (instance_of c.args.instance.now) c.args.stored)) c.args.ordering.now c.kept_positions-kept.result.now c.requires c.kept_positions-kept.ensures.part
