@@ -16,7 +16,7 @@ use Rattle.wd_plan.specs.Expressions.{Column}
 use Rattle.wd_plan.specs.Outcomes.{Agree, RowsOrFault, map_outcome, outcome, window_outcome}
 use Rattle.wd_plan.specs.Faults.{and_then}
 use Rattle.wd_join.specs.Joins.{has_more_rows}
-use Rattle.wd_nodes.specs.Produced.{most_rows}
+use Rattle.wd_nodes.specs.Relation.{most_rows}
 use Rattle.wd_plan.specs.Partitions.{members, place_in}
 use Rattle.wd_plan.specs.Plans.{ClassRule, PlanTree, Scan, Window}
 use Rattle.wd_plan.specs.Sorting.{class_columns, order_columns, same_partition}
