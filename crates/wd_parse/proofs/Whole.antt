@@ -40,7 +40,7 @@ limits_kept ts (Err e) a = tt
 passed_at : (ts : Kinds) (place left : ℕ) → place ≡ length ts - left → Passed 200 32 ts left → PassesLimitAt ts place
 passed_at ts place left e p =
     let total : length ts ≡ length p.0 + suc (length p.2) = ap length p.6 ∙ length-append p.0 (p.1 ∷ p.2) in
-    (p.0, p.1, p.2, p.3, p.4, omega (arith, total, p.5), p.6, p.7, p.8, query_past p.3 (p.1 ∷ p.4) p.9)
+    record { before = p.0; token = p.1; after = p.2; query = p.3; after_in_query = p.4; at_place = omega (arith, total, p.5); stands = p.6; begins_alike = p.7; well_levelled = p.8; is_past = query_past p.3 (p.1 ∷ p.4) p.9 }
 
 pub cause_is : (ts : Kinds) (r : Result Query ParseError) → Answers r ts → IfErr r (λ refusal. HasCause refusal ts)
 cause_is ts (Ok query) a = tt

@@ -171,5 +171,14 @@ IsPastAt rest mark = IsPast mark.weight × (mark.from ≡ rest)
 
 -- A limit is passed at that place of the tokens: a well-levelled query begins with the same tokens, up to and including the one at the
 -- place, and in it this token opens a 33rd level or is the 201st operator of its chain.
-abbrev pub PassesLimitAt : Kinds → ℕ → Type 0
-PassesLimitAt ts place = (front : Kinds) × (token : TokenKind) × (more : Kinds) × (tree : QueryTree) × (behind : Kinds) × (length front ≡ place) × (ts ≡ front ++ token ∷ more) × (spell tree ≡ front ++ token ∷ behind) × IsWellLevelled tree × One (IsPastAt (token ∷ behind)) (query_marks tree)
+pub record PassesLimitAt (tokens : Kinds) (place : ℕ) : Type 0 where
+  pub before : Kinds
+  pub token : TokenKind
+  pub after : Kinds
+  pub query : QueryTree
+  pub after_in_query : Kinds
+  pub at_place : length before ≡ place
+  pub stands : tokens ≡ before ++ token ∷ after
+  pub begins_alike : spell query ≡ before ++ token ∷ after_in_query
+  pub well_levelled : IsWellLevelled query
+  pub is_past : One (IsPastAt (token ∷ after_in_query)) (query_marks query)
