@@ -184,7 +184,7 @@ impl Reader for NamedWindows {
 
     ghost item = { λ windows. named_window_at (deeper_of most_operators windows.depth) };
 
-    #[tactic(auto, unfolding(crate::specs::Reading::named_window_at), using(wd_read_expression::proofs::Loops::length_kinds))]
+    #[tactic(auto, unfolding(crate::specs::Reading::named_window_at, wd_read_expression::specs::Reading::deeper_of), using(wd_read_expression::proofs::Loops::length_kinds))]
     fn read<'t>(
         &self,
         alloc: Global,

@@ -1,12 +1,17 @@
 -- Steps of the code's loops.
-use Rattle.std.proofs.Common.{◌≡◌, ◌≢◌, ℕ, zero, suc, ◌+◌, ◌-◌, ◌<◌, ◌≤◌, List, [], ◌∷◌, ◌++◌, length, map, Some, Ok, Err, refl, sym, ap, ◌∙◌, arith}
+use Rattle.std.proofs.Common.{◌≡◌, ℕ, suc, ◌+◌, ◌-◌, ◌<◌, ◌≤◌, List, [], ◌∷◌, ◌++◌, length, map, Some, Ok, Err, refl, sym, ap, ◌∙◌, arith}
 use Rattle.std.proofs.Common.{Bool}
+use Rattle.std.specs.Prelude.{IsTrue}
+use Rattle.std.proofs.lemmas.Bool.{false≢true}
 use Rattle.std.proofs.lemmas.List.{map_push}
 use Rattle.wd_lex.specs.Lexed.{kinds_of}
 use Rattle.wd_lex.specs.declared.token.Token.{Token}
 use Rattle.wd_lex.specs.declared.token.Terminal.TheVariants as m
 use Rattle.wd_syntax.specs.declared.expression.Operator.{Operator}
 use Rattle.wd_syntax.specs.declared.expression.Link.{Link}
+use Rattle.wd_syntax.specs.declared.expression.Height.{Height}
+use Rattle.wd_syntax.specs.declared.expression.Height.TheVariants as height
+use Rattle.wd_syntax.specs.Tokens.{rank}
 use Rattle.wd_syntax.specs.View.{view, view_link, chained, tested}
 use Rattle.wd_read_cursor.specs.Tokens.{Kinds}
 use Rattle.wd_syntax.specs.Tree.{Tree, Binary, IsNull}
@@ -16,24 +21,20 @@ use Rattle.wd_read_expression.proofs.Complete.{operand_first}
 use Rattle.wd_read_cursor.specs.declared.refusal.Refusal.{Refusal}
 use Rattle.wd_read_cursor.specs.declared.refusal.Refusal.TheVariants as r
 use Rattle.wd_read_cursor.specs.Given.{Fails}
-use Rattle.wd_read_expression.specs.Given.{IsChainHeight}
+use Rattle.wd_read_expression.specs.Given.{is_chain}
 
 -- tokens and what they say are as many
 pub length_kinds : (tokens : List Token) → length (kinds_of tokens) ≡ length tokens
 length_kinds [] = refl
 length_kinds (x ∷ tokens) = let h = length_kinds tokens in omega (arith, h)
 
-read_suc : (g d : ℕ) (ts : Kinds) → suc g ≤ 8 → g ≢ 0 → g ≢ 3 → g ≢ 4 → g ≢ 5 → read 200 d (suc g) ts ≡ read 200 d g ts >>= λ a. links (read 200 d g) (suc g) 200 a.0 a.1
-read_suc zero d ts le n0 n3 n4 n5 = absurd (n0 refl)
-read_suc (suc zero) d ts le n0 n3 n4 n5 = operand_first 200 1 d ts n0 n5
-read_suc (suc (suc zero)) d ts le n0 n3 n4 n5 = operand_first 200 2 d ts n0 n5
-read_suc (suc (suc (suc zero))) d ts le n0 n3 n4 n5 = absurd (n3 refl)
-read_suc (suc (suc (suc (suc zero)))) d ts le n0 n3 n4 n5 = absurd (n4 refl)
-read_suc (suc (suc (suc (suc (suc g))))) d ts le n0 n3 n4 n5 = operand_first 200 (suc (suc (suc (suc (suc g))))) d ts n0 n5
-
-pub read_chain : (h d : ℕ) (ts : Kinds) → IsChainHeight h → read 200 d h ts ≡ read 200 d (h - 1) ts >>= λ a. links (read 200 d (h - 1)) h 200 a.0 a.1
-read_chain zero d ts h = absurd (omega arith)
-read_chain (suc g) d ts h = let e : suc g - 1 ≡ g = omega arith in rw e (read_suc g d ts (omega arith) (omega arith) (omega arith) (omega arith) (omega arith))
+-- a chain is read from its left side on
+pub read_chain : (h : Height) (d : ℕ) (ts : Kinds) → IsTrue (is_chain h) → read 200 d (rank h) ts ≡ read 200 d (rank h - 1) ts >>= λ a. links (read 200 d (rank h - 1)) (rank h) 200 a.0 a.1
+read_chain height.Product d ts c = operand_first 200 1 d ts (omega arith) (omega arith)
+read_chain height.Sum d ts c = operand_first 200 2 d ts (omega arith) (omega arith)
+read_chain height.Conjunction d ts c = operand_first 200 6 d ts (omega arith) (omega arith)
+read_chain height.Disjunction d ts c = operand_first 200 7 d ts (omega arith) (omega arith)
+read_chain _ d ts c = absurd (false≢true c)
 
 -- ---- a chain
 

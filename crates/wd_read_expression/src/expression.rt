@@ -3,7 +3,7 @@
 //! `at` reads an expression of a height: a chain or a test of a lower one, or what opens a level, which reads an expression of any height
 //! with one level fewer. All functions that may meet an expression call it, so they are one cycle. `tree` puts together what was read.
 
-ghost use Rattle.std.specs.Prelude.{◌-◌, map};
+ghost use Rattle.std.specs.Prelude.{◌-◌, map, IsTrue};
 ghost use Rattle.wd_lex.specs.Lexed.{kinds_of};
 ghost use Rattle.wd_lex.specs.declared.token.Terminal.TheVariants as m;
 ghost use Rattle.wd_syntax.specs.declared.expression.Height.TheVariants as heights;
@@ -13,7 +13,7 @@ ghost use Rattle.wd_syntax.specs.View.{view, view_arm, view_key, view_window, vi
 ghost use Rattle.wd_read_expression.specs.Reading.{read, levels, deeper_of, links, compared, primary, primary_by_terminal, named_at, bracket_at, call_at, arguments_at, over_at, case_at, arm_at, else_at, key_at, partition_at, order_at, base_at, window_at};
 ghost use Rattle.wd_read_cursor.specs.Cursor.{list_at};
 ghost use Rattle.wd_read_cursor.specs.Given.{Gives, MayRead};
-ghost use Rattle.wd_read_expression.specs.Given.{MakesDeeper, IsChainHeight, view_arguments};
+ghost use Rattle.wd_read_expression.specs.Given.{MakesDeeper, is_chain, view_arguments};
 
 use crate::frame::{direction_at, frame_at, nulls_at};
 use crate::null_test::tests;
@@ -28,9 +28,8 @@ use wd_syntax::{Arm, Expr, Height, Link, Literal, Name, Over, SortKey, Window};
 const WHOLE: Height = Height::Disjunction;
 
 /// One level fewer than `depth`, for what the first of the last `left` tokens opens; `PastLimit` at that token where no level is left.
-#[tactic(auto, unfolding(crate::specs::Reading::deeper_of))]
 pub fn deeper(depth: u8, left: usize) -> Result<u8, Refusal>
-    ensures { MakesDeeper result depth left }
+    ensures { MakesDeeper depth left result }
 {
     if depth == 0 {
         return Err(Refusal::PastLimit { left });
@@ -85,7 +84,7 @@ fn chain(
     depth: u8,
     tokens: &[Token],
 ) -> Result<(Box<Expr>, &[Token]), Refusal>
-    requires { IsChainHeight (rank height) }
+    requires { IsTrue (is_chain height) }
     ensures { Gives (λ x. (view x.0.value, kinds_of x.1.now)) result (read most_operators depth (rank height) (kinds_of tokens.now)) }
 {
     let (first, rest) = at(alloc, tighter(height), depth, tokens)?;
@@ -102,7 +101,7 @@ fn links(
     first: Box<Expr>,
     tokens: &[Token],
 ) -> Result<(Box<Expr>, &[Token]), Refusal>
-    requires { IsChainHeight (rank height) }
+    requires { IsTrue (is_chain height) }
     ensures { Gives (λ x. (view x.0.value, kinds_of x.1.now)) result (links (read most_operators depth (rank height - 1)) (rank height) most_operators (view first.value) (kinds_of tokens.now)) }
 {
     let mut items = Vec::new(alloc);
@@ -149,7 +148,7 @@ fn tested(alloc: Global, depth: u8, tokens: &[Token]) -> Result<(Box<Expr>, &[To
     tests(alloc, operand, rest)
 }
 
-#[tactic(auto, unfolding(crate::specs::Reading::levels), using(crate::proofs::Loops::length_kinds))]
+#[tactic(auto, unfolding(crate::specs::Reading::levels, crate::specs::Reading::deeper_of), using(crate::proofs::Loops::length_kinds))]
 #[cycle(expr)]
 fn negated(alloc: Global, depth: u8, tokens: &[Token]) -> Result<(Box<Expr>, &[Token]), Refusal>
     ensures { Gives (λ x. (view x.0.value, kinds_of x.1.now)) result (read most_operators depth (rank heights.Negation) (kinds_of tokens.now)) }
@@ -164,7 +163,7 @@ fn negated(alloc: Global, depth: u8, tokens: &[Token]) -> Result<(Box<Expr>, &[T
     }
 }
 
-#[tactic(auto, unfolding(crate::specs::Reading::levels), using(crate::proofs::Loops::length_kinds))]
+#[tactic(auto, unfolding(crate::specs::Reading::levels, crate::specs::Reading::deeper_of), using(crate::proofs::Loops::length_kinds))]
 #[cycle(expr)]
 fn signed(alloc: Global, depth: u8, tokens: &[Token]) -> Result<(Box<Expr>, &[Token]), Refusal>
     ensures { Gives (λ x. (view x.0.value, kinds_of x.1.now)) result (read most_operators depth (rank heights.Sign) (kinds_of tokens.now)) }
@@ -217,7 +216,7 @@ fn primary(alloc: Global, depth: u8, tokens: &[Token]) -> Result<(Box<Expr>, &[T
 }
 
 /// A primary expression that begins with a terminal, after the terminal.
-#[tactic(auto, using(crate::proofs::Loops::length_kinds))]
+#[tactic(auto, unfolding(crate::specs::Reading::deeper_of), using(crate::proofs::Loops::length_kinds))]
 #[cycle(expr)]
 fn led_by(
     alloc: Global,
@@ -278,7 +277,7 @@ fn named(
 }
 
 /// A call, after its opening bracket.
-#[tactic(auto, unfolding(crate::specs::Reading::call_at), using(crate::proofs::Loops::length_kinds))]
+#[tactic(auto, unfolding(crate::specs::Reading::call_at, crate::specs::Reading::deeper_of), using(crate::proofs::Loops::length_kinds))]
 #[cycle(expr)]
 fn call(
     alloc: Global,
@@ -317,7 +316,7 @@ fn arguments(
 }
 
 /// `[OVER (name | ( .. ))]`
-#[tactic(auto, unfolding(crate::specs::Reading::over_at), using(crate::proofs::Loops::length_kinds))]
+#[tactic(auto, unfolding(crate::specs::Reading::over_at, crate::specs::Reading::deeper_of), using(crate::proofs::Loops::length_kinds))]
 #[cycle(expr)]
 fn over(
     alloc: Global,
