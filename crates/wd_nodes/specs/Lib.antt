@@ -1,3 +1,4 @@
+pub mod Results
 pub mod Relation
 pub mod Held
 pub mod Enough

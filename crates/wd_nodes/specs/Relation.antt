@@ -1,5 +1,5 @@
 -- What a node of a plan gives to the step above it, as contracts see it, and the steps over that.
-use Rattle.std.specs.Prelude.{◌≡◌, ℕ, true, false, List, Option, None, option_map, Result, Ok, Err, IfErr, IfOk, ⊤}
+use Rattle.std.specs.Prelude.{◌≡◌, ℕ, true, false, List, Option, None, option_map, Result, Ok, Err, ⊤}
 use Rattle.std.specs.Borrow.{Bor}
 use Rattle.std.specs.declared.alloc.Global.{Global}
 use Rattle.std.specs.declared.vec.Vec.{Vec}
@@ -15,6 +15,7 @@ use Rattle.wd_join.specs.declared.error.StepError.{StepError}
 use Rattle.wd_join.specs.declared.error.StepError.TheVariants.{TooManyRows, OutOfMemory}
 use Rattle.wd_join.specs.Joins.{has_more_rows}
 use Rattle.wd_join.specs.Paired.{rows_paired}
+use Rattle.wd_nodes.specs.Results.{OkOr}
 use Rattle.wd_nodes.specs.declared.relation.Relation.{Relation}
 use Rattle.wd_nodes.specs.declared.relation.Relation.TheVariants.{Table, Made, ByColumn, Pairs', Joined}
 use Rattle.wd_nodes.specs.declared.relation.ListedRelation.{ListedRelation}
@@ -82,9 +83,8 @@ IsLarge most expected TooManyRows = has_more_rows most expected ≡ true
 IsLarge most expected OutOfMemory = ⊤
 
 -- that outcome, as the view of a value has it, or that error
-pub record IsSmallOrLarge {X : Type 0} (most : ℕ) (expected : RowsOrFault) (view : X → RowsOrFault) (r : Result X StepError) : Type 0 where
-  pub ok : IfOk r (λ x. IsSmall most expected (view x))
-  pub refused : IfErr r (λ e. IsLarge most expected e)
+abbrev pub IsSmallOrLarge : {X : Type 0} → ℕ → RowsOrFault → (X → RowsOrFault) → Result X StepError → Type 0
+IsSmallOrLarge most expected view r = OkOr (λ x. IsSmall most expected (view x)) (IsLarge most expected) r
 
 -- what a Join gives, of its condition and inputs in the code
 abbrev pub joined_of : Instance → Option Expr → Relation → Relation → RowsOrFault

@@ -37,7 +37,7 @@ pub(crate) fn has_more(instance: &[Vec<Row>], relation: &Relation, most: u64) ->
     }
 }
 
-/// What is produced, of pairs only those that the condition above can be true for, whatever row
+/// Moves a relation into a list; of pairs only those are made that the condition above can be true for, whatever row
 /// follows them: where it joins each right side to what stands left of it by equalities, no product
 /// is made.
 pub(crate) fn narrow(

@@ -35,8 +35,8 @@ pub enum Relation {
     Joined(StoredRows, StoredRows, Vec<Pair>),
 }
 
-/// What is produced as a list of rows, with its pairs made. Rows that are made of columns have memory
-/// for so many values more.
+/// Moves a relation into a list of rows, for which its pairs are made. Rows that are made of columns have memory
+/// for `room` values more.
 pub fn make_list(
     alloc: Global,
     instance: &[Vec<Row>],
@@ -82,7 +82,7 @@ fn make_pairs(
     }
 }
 
-/// The rows that are given, where they are, or the fault.
+/// The rows of a list, where they are, or the fault.
 pub fn listed_rows<'a>(
     list: &'a ListedRelation,
     instance: &'a [Vec<Row>],
@@ -96,7 +96,7 @@ pub fn listed_rows<'a>(
     }
 }
 
-/// What is given as an outcome of its own, for which a table is copied.
+/// Moves a list into an outcome of its own, for which a table is copied.
 pub fn into_own_outcome(
     alloc: Global,
     instance: &[Vec<Row>],
@@ -113,7 +113,7 @@ pub fn into_own_outcome(
     }
 }
 
-/// What is produced as an outcome of its own. Rows that are made of columns have memory for so many
+/// Moves a relation into an outcome of its own. Rows that are made of columns have memory for `room`
 /// values more.
 pub fn outcome_from(
     alloc: Global,

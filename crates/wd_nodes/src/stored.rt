@@ -1,4 +1,4 @@
-//! The sides of a join, however their rows are kept.
+//! Rows that a step reads where they are: in a list or column by column.
 
 ghost use Rattle.std.specs.Prelude.{◌≡◌, IfOk, Ok, length};
 ghost use Rattle.wd_columns.specs.Moves.{AreDifferent, AreWithin};
@@ -25,14 +25,14 @@ pub enum RowList {
     Rows(Vec<Row>),
 }
 
-/// The rows of a side of a join: a list of them, or rows that are kept column by column.
+/// Rows in a list, or kept column by column.
 #[derive(Drop)]
 pub enum StoredRows {
     RowList(RowList),
     ByColumn(Columns),
 }
 
-/// What is produced as a side of a join, or the fault.
+/// Moves a relation into stored rows, for which its pairs are made, or answers its fault.
 pub fn store(
     alloc: Global,
     instance: &[Vec<Row>],
@@ -49,8 +49,8 @@ pub fn store(
     }
 }
 
-/// What is produced as a side of a join, or the fault, where of pairs that are not made yet only those are wanted for which the
-/// condition above can be true.
+/// Moves a relation into stored rows, or answers its fault; of pairs that are not made yet only those are made for which the condition
+/// above can be true.
 pub(crate) fn narrow_stored(
     alloc: Global,
     instance: &[Vec<Row>],
@@ -78,7 +78,7 @@ fn store_list(list: ListedRelation) -> Result<StoredRows, Fault>
     }
 }
 
-/// The rows of a side to be read where they are.
+/// Stored rows to be read where they are.
 pub fn source<'a>(stored: &'a StoredRows, instance: &'a [Vec<Row>]) -> RowSource<'a>
     ensures { result ≡ stored_rows_of (instance_of instance.now) stored.now }
 {
@@ -88,7 +88,7 @@ pub fn source<'a>(stored: &'a StoredRows, instance: &'a [Vec<Row>]) -> RowSource
     }
 }
 
-/// The rows of a side as a list, for which those of columns are made.
+/// Moves stored rows into a list, for which those of columns are made.
 pub(crate) fn list_from(alloc: Global, stored: StoredRows) -> Result<RowList, OutOfMemory>
     ensures { IfOk result (λ l. (instance : Instance) → row_list_of instance l ≡ stored_rows_of instance stored) }
 {
@@ -111,7 +111,7 @@ pub(crate) fn rows_in<'a>(listed: &'a RowList, instance: &'a [Vec<Row>]) -> &'a 
     }
 }
 
-/// The rows of a side at these positions, in their order; those of columns stay in columns, and only those of a table are copied. No
+/// Moves out the stored rows at these positions, in their order; those of columns stay in columns, and only those of a table are copied. No
 /// position is there twice, and each is one of a row.
 pub fn pick_rows(
     alloc: Global,
