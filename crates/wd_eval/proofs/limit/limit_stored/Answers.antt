@@ -4,8 +4,8 @@ use Rattle.wd_nodes.specs.Relation.{stored_rows_of}
 use Rattle.wd_eval.proofs.Taking.{different, within}
 use Rattle.wd_eval.proofs.limit.limit_stored.Goals as goal
 
-pub picked-requires-clause-different : goal.picked-requires-clause-different
-picked-requires-clause-different c = different (length (stored_rows_of (instance_of c.args.instance.now) c.args.stored)) c.args.ordering.now c.kept_positions-kept.result.now c.requires c.kept_positions-kept.ensures.part
+pub pick_rows-requires-clause-different : goal.pick_rows-requires-clause-different
+pick_rows-requires-clause-different c = different (length (stored_rows_of (instance_of c.args.instance.now) c.args.stored)) c.args.ordering.now c.kept_positions-kept.result.now c.requires c.kept_positions-kept.ensures.part
 
-pub picked-requires-clause-within : goal.picked-requires-clause-within
-picked-requires-clause-within c = within (length (stored_rows_of (instance_of c.args.instance.now) c.args.stored)) c.args.ordering.now c.kept_positions-kept.result.now c.requires c.kept_positions-kept.ensures.part
+pub pick_rows-requires-clause-within : goal.pick_rows-requires-clause-within
+pick_rows-requires-clause-within c = within (length (stored_rows_of (instance_of c.args.instance.now) c.args.stored)) c.args.ordering.now c.kept_positions-kept.result.now c.requires c.kept_positions-kept.ensures.part

@@ -10,8 +10,8 @@ use Rattle.wd_nodes.specs.Relation.{relation_of, stored_or_fault_of}
 use Rattle.wd_eval.proofs.Putting.{lawful_over, limit_tied_from}
 use Rattle.wd_eval.proofs.limit.sorted_limit.Goals as goal
 
-pub cut_input-requires : goal.cut_input-requires
-cut_input-requires c =
+pub limit_input-requires : goal.limit_input-requires
+limit_input-requires c =
     let limit = limit_of c.args.limit.now in
     let input = stored_or_fault_of (instance_of c.args.instance.now) c.args.input in
     let ordering = c.in_ok-ordering.ordering.items in

@@ -355,8 +355,8 @@ returns-in_err-outcome-in-Join t c = λ instance held. (
     let b = subst (λ p. IsWalked (plan_of p) tables instance orderings l.next mid new r) c.deref-in-Join.ensures (c.in_ok-right-in-Join.ensures instance right_held).ok in
     rw (err.1, err.2) (record { ok = tt; refused = subst (λ p. IsHalted p instance orderings first (error_of e)) (sym (ap plan_of c.in-Join.is)) (join_halted tables instance first old condition left right mid l new r orderings e c.requires.at a b (subst (λ m. IsLarge m (join_over condition (relation_of tables l.outcome) (relation_of tables r.outcome)) e) c.most-most.ensures c.in_err-outcome-in-Join.ensures.refused)) }))
 
-pub grouped-requires : goal.grouped-requires
-grouped-requires t c =
+pub group_input-requires : goal.group_input-requires
+group_input-requires t c =
     let tables = instance_of c.args.tables.now in
     let below = c.in_ok-below-in-Group.below in
     let some = c.requires.held in

@@ -9,11 +9,11 @@ use Rattle.wd_resolve_select.specs.Steps.{grouped_on, mapped_over}
 use Rattle.wd_resolve.proofs.More.{mapped_counted, narrow_below}
 use Rattle.wd_resolve.proofs.select.add_outputs.Goals as goal
 
-pub mapped-requires-clause-few_inputs : goal.mapped-requires-clause-few_inputs
-mapped-requires-clause-few_inputs c = (narrow_below (below_of c.args.below.now) (map bound_expression_of c.args.outputs.items) (map bound_expression_of c.args.hidden.items) (projected_shown c.args.projected) c.requires.counted c.requires.narrow).0
+pub add_map-requires-clause-few_inputs : goal.add_map-requires-clause-few_inputs
+add_map-requires-clause-few_inputs c = (narrow_below (below_of c.args.below.now) (map bound_expression_of c.args.outputs.items) (map bound_expression_of c.args.hidden.items) (projected_shown c.args.projected) c.requires.counted c.requires.narrow).0
 
-pub mapped-requires-clause-few_groups : goal.mapped-requires-clause-few_groups
-mapped-requires-clause-few_groups c = (narrow_below (below_of c.args.below.now) (map bound_expression_of c.args.outputs.items) (map bound_expression_of c.args.hidden.items) (projected_shown c.args.projected) c.requires.counted c.requires.narrow).1
+pub add_map-requires-clause-few_groups : goal.add_map-requires-clause-few_groups
+add_map-requires-clause-few_groups c = (narrow_below (below_of c.args.below.now) (map bound_expression_of c.args.outputs.items) (map bound_expression_of c.args.hidden.items) (projected_shown c.args.projected) c.requires.counted c.requires.narrow).1
 
 pub returns : goal.returns
 returns c =

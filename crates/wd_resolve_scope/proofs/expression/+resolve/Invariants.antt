@@ -9,17 +9,17 @@ use Rattle.wd_resolve_scope.proofs.Chains.{tests_meant}
 use Rattle.wd_resolve_call.proofs.Prefixed.{prefixed}
 use Rattle.wd_resolve_scope.proofs.expression.+resolve.Given as goal
 
-abbrev pub invariant-all_resolved-loop-tree : goal.invariant-all_resolved-loop-tree
-invariant-all_resolved-loop-tree l = prefixed (map operand_of l.operands.items) (all_resolved (context_of l.context) (trees_of (map view (drop l.tree-index l.trees)))) ≡ all_resolved (context_of l.context) (trees_of (map view l.initial.trees))
+abbrev pub invariant-resolve_all-loop-tree : goal.invariant-resolve_all-loop-tree
+invariant-resolve_all-loop-tree l = prefixed (map operand_of l.operands.items) (all_resolved (context_of l.context) (trees_of (map view (drop l.tree-index l.trees)))) ≡ all_resolved (context_of l.context) (trees_of (map view l.initial.trees))
 
-abbrev pub invariant-arms_resolved-loop-arm : goal.invariant-arms_resolved-loop-arm
-invariant-arms_resolved-loop-arm l = prefixed (map arm_of l.parts.items) (arms_resolved (context_of l.context) (arms_of (map view_arm (drop l.arm-index l.arms)))) ≡ arms_resolved (context_of l.context) (arms_of (map view_arm l.initial.arms))
+abbrev pub invariant-resolve_arms-loop-arm : goal.invariant-resolve_arms-loop-arm
+invariant-resolve_arms-loop-arm l = prefixed (map arm_of l.parts.items) (arms_resolved (context_of l.context) (arms_of (map view_arm (drop l.arm-index l.arms)))) ≡ arms_resolved (context_of l.context) (arms_of (map view_arm l.initial.arms))
 
-abbrev pub invariant-chain_resolved-loop-link : goal.invariant-chain_resolved-loop-link
-invariant-chain_resolved-loop-link l = chain_meant (context_of l.context) (map view_link (drop l.link-index l.links)) (operand_of l.left) ≡ chain_meant (context_of l.context) (map view_link l.initial.links) (operand_of l.initial.left)
+abbrev pub invariant-resolve_chain-loop-link : goal.invariant-resolve_chain-loop-link
+invariant-resolve_chain-loop-link l = chain_meant (context_of l.context) (map view_link (drop l.link-index l.links)) (operand_of l.left) ≡ chain_meant (context_of l.context) (map view_link l.initial.links) (operand_of l.initial.left)
 
-abbrev pub invariant-tests_resolved-loop-not : goal.invariant-tests_resolved-loop-not
-invariant-tests_resolved-loop-not l = Ok (tests_meant (drop l.not-index l.tests) (operand_of l.operand)) ≡ resolved (context_of l.context) (tested (view l.fn.inner) l.fn.tests)
+abbrev pub invariant-resolve_tests-loop-not : goal.invariant-resolve_tests-loop-not
+invariant-resolve_tests-loop-not l = Ok (tests_meant (drop l.not-index l.tests) (operand_of l.operand)) ≡ resolved (context_of l.context) (tested (view l.fn.inner) l.fn.tests)
 
-abbrev pub invariant-keys_resolved-loop-key : goal.invariant-keys_resolved-loop-key
-invariant-keys_resolved-loop-key l = prefixed (map key_of l.order.items) (keys_resolved (context_of l.context) (keys_of (map view_key (drop l.key-index l.keys)))) ≡ keys_resolved (context_of l.context) (keys_of (map view_key l.initial.keys))
+abbrev pub invariant-resolve_keys-loop-key : goal.invariant-resolve_keys-loop-key
+invariant-resolve_keys-loop-key l = prefixed (map key_of l.order.items) (keys_resolved (context_of l.context) (keys_of (map view_key (drop l.key-index l.keys)))) ≡ keys_resolved (context_of l.context) (keys_of (map view_key l.initial.keys))

@@ -9,8 +9,8 @@ use Rattle.wd_decide.specs.declared.verdict.Verdict.TheVariants.{Deterministic, 
 use Rattle.wd_decide.proofs.Lists.{certified_of}
 use Rattle.wd_decide.proofs.verdict.Examined.list_verdict.Goals as goal
 
-pub listed-requires-clause-analysed : goal.listed-requires-clause-analysed
-listed-requires-clause-analysed c =
+pub verdict_of_list-requires-clause-analysed : goal.verdict_of_list-requires-clause-analysed
+verdict_of_list-requires-clause-analysed c =
     let tables = schema_of c.args.self.planned.schema in
     let plan = plan_of c.args.self.planned.resolved.plan in
     certified_of tables plan c.args.self.analysis c.in-Deterministic.certificate c.requires.analysed
