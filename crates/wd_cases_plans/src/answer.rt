@@ -5,7 +5,7 @@ use crate::{calls, facts, plans, slides, sorts, steps, values};
 use std::alloc::Global;
 use wd_cases::{Cases, Failure, text_of};
 use wd_cases_notation::{Line, State};
-use wd_eval::laws::{has_one_tied_outcome, has_tied_choice};
+use wd_eval::laws::{has_one_stable_outcome, has_stable_choice};
 use wd_frame::laws::{bounds_are_frames, exclusions_are_ranges, places_are_frames};
 use wd_laws::laws::agreeing_is_an_equivalence;
 use wd_value::laws::compare_is_a_total_order;
@@ -86,7 +86,7 @@ fn laws(out: &mut String) -> Result<(), Failure> {
     bounds_are_frames();
     exclusions_are_ranges();
     agreeing_is_an_equivalence();
-    has_tied_choice();
-    has_one_tied_outcome();
+    has_stable_choice();
+    has_one_stable_outcome();
     push(out, "called")
 }

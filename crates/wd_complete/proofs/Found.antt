@@ -16,7 +16,7 @@ use Rattle.wd_analyse.specs.declared.analysis.Analysis.TheVariants.{Certified, O
 use Rattle.wd_analyse.specs.declared.analysis.Reason.{Reason}
 use Rattle.wd_candidates.specs.Candidates.{candidate, shapes}
 use Rattle.wd_eval.specs.Steps.{has_large_step}
-use Rattle.wd_eval.specs.Tied.{IsTiedChoice, IsTurnedTooLarge}
+use Rattle.wd_eval.specs.Tied.{IsStableChoice, IsTurnedTooLarge}
 use Rattle.wd_partition.specs.declared.turn.Turn.TheVariants.{Reversed}
 use Rattle.wd_seek.specs.Evaluations.{ShowNothing, ShowsNothing, flip_of, most_evaluations}
 use Rattle.wd_seek.specs.Search.{Begun, FindsNothing}
@@ -82,10 +82,10 @@ module _ (tables : List TableRule) (p : PlainPlan) (over : IsPlainOver tables p)
   abbrev tied : Tie (class_columns p.class) a b
   tied = tie tables p over lacking
 
-  first_is : (choice : List (List ℕ)) → IsTiedChoice (plan_by p) instance None choice → choice ≡ (0 ∷ 1 ∷ []) ∷ []
+  first_is : (choice : List (List ℕ)) → IsStableChoice (plan_by p) instance None choice → choice ≡ (0 ∷ 1 ∷ []) ∷ []
   first_is = first_choice p instance r q (rows_are tables p over lacking) tied
 
-  flipped_is : (choice : List (List ℕ)) → IsTiedChoice (plan_by p) instance (Some 0) choice → choice ≡ (1 ∷ 0 ∷ []) ∷ []
+  flipped_is : (choice : List (List ℕ)) → IsStableChoice (plan_by p) instance (Some 0) choice → choice ≡ (1 ∷ 0 ∷ []) ∷ []
   flipped_is = flipped_choice p instance r q (rows_are tables p over lacking) tied
 
   two_answers : Agree (outcome (plan_by p) instance ((0 ∷ 1 ∷ []) ∷ [])) (outcome (plan_by p) instance ((1 ∷ 0 ∷ []) ∷ [])) → ⊥

@@ -15,7 +15,7 @@ use Rattle.wd_eval.specs.Windows.{HasOrdering, IsWindowServed}
 use Rattle.wd_eval.specs.ClassIndexes.{AreClassIndexes, IsClassIndexIn}
 use Rattle.wd_eval.specs.declared.class_index.ClassIndex.{ClassIndex}
 use Rattle.wd_eval.specs.Tied.{IsSortedOver, turn_of}
-use Rattle.wd_eval.specs.Ties.{ArePut, AreSortedOver, IsPutEmpty, IsTiedLimit, IsTiedWindow}
+use Rattle.wd_eval.specs.Ties.{ArePut, AreSortedOver, IsPutEmpty, IsStableLimit, IsStableWindow}
 use Rattle.wd_partition.specs.declared.turn.Turn.{Turn}
 use Rattle.wd_eval.specs.declared.turned.Turned.{Turned}
 use Rattle.wd_eval.proofs.Serving.{all_from_each, indexes_more}
@@ -38,7 +38,7 @@ module _ (limit : LimitRule) (input : RowsOrFault) (turned : Option Turned) (old
         lawful = subst (λ (o : List ℕ). AtRows input (λ rows. IsOrdering (limit_class limit) rows o) (o ≡ [])) (sym own_is) (lawful_over (limit_class limit) turn input own sorted);
       }
 
-  pub limit_tied_from : (found : RowsOrFault) → turn ≡ turn_of turned number → found ≡ cut_over limit own input → IsTiedLimit limit input turned old new found
+  pub limit_tied_from : (found : RowsOrFault) → turn ≡ turn_of turned number → found ≡ cut_over limit own input → IsStableLimit limit input turned old new found
   limit_tied_from found e is = record {
     own = own;
     grown = grown;
@@ -75,7 +75,7 @@ empty_put w fault turned count old new e p = record {
   sorted = record { long = p.long ∙ e; each = λ k h. p.empty k (omega arith) };
 }
 
-pub fault_tied : (w : WindowRule) (fault : Fault) (turned : Option Turned) (count : ℕ) (old new : List (List ℕ)) → count ≡ length w.classes → IsPutEmpty count old new → IsTiedWindow w (Err fault) turned old new (Err fault)
+pub fault_tied : (w : WindowRule) (fault : Fault) (turned : Option Turned) (count : ℕ) (old new : List (List ℕ)) → count ≡ length w.classes → IsPutEmpty count old new → IsStableWindow w (Err fault) turned old new (Err fault)
 fault_tied w fault turned count old new e p =
     let put = empty_put w fault turned count old new e p in
     record { put = put; extended = record { served = window_put w (Err fault) turned old new put; is = refl } }

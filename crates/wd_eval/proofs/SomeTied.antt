@@ -8,7 +8,7 @@ use Rattle.wd_plan.specs.Plans.{ClassRule, PlanTree, Scan, Join, Filter, Map, Gr
 use Rattle.wd_plan.specs.Sorting.{limit_class}
 use Rattle.wd_plan.proofs.ChoiceLaws.{outcome-append}
 use Rattle.wd_partition.specs.Columns.{given_positions, sort_columns}
-use Rattle.wd_eval.specs.Laws.{HasOneTiedOutcome, HasTiedChoice}
+use Rattle.wd_eval.specs.Laws.{HasOneStableOutcome, HasStableChoice}
 use Rattle.wd_eval.specs.Tied.{AreTied, IsSortedOver, IsTurnedRefused, turn_of}
 use Rattle.wd_eval.specs.Ties.{IsUntied}
 use Rattle.wd_eval.specs.declared.error.EvalError.{EvalError}
@@ -92,11 +92,11 @@ module _ (instance : Instance) (turned : Option Turned) where
         ),
       )
 
-pub has_tied_choice : HasTiedChoice
-has_tied_choice plan instance turned = let t = some_tied instance turned plan 0 in (t.0, record { number = t.1; tied = t.2 })
+pub has_stable_choice : HasStableChoice
+has_stable_choice plan instance turned = let t = some_tied instance turned plan 0 in (t.0, record { number = t.1; tied = t.2 })
 
-pub has_one_tied_outcome : HasOneTiedOutcome
-has_one_tied_outcome plan instance turned a b s t =
+pub has_one_stable_outcome : HasOneStableOutcome
+has_one_stable_outcome plan instance turned a b s t =
     let long : ordering_count plan ≤ length a = (let n = s.number in omega arith) in
     let longer : ordering_count plan ≤ length b = (let n = t.number in omega arith) in
     one_outcome instance turned plan 0 a b long longer s.tied t.tied
@@ -105,7 +105,7 @@ has_one_tied_outcome plan instance turned a b s t =
 pub refused_from : (plan : PlanTree) (instance : Instance) (turned : Option Turned) (e : EvalError) → IsUntied plan instance turned 0 e → IsTurnedRefused plan instance turned e
 refused_from plan instance turned (NotValid place) h = h
 refused_from plan instance turned TooManyRows h =
-    let t = has_tied_choice plan instance turned in
+    let t = has_stable_choice plan instance turned in
     let long : ordering_count plan ≤ length t.0 = (let n = t.1.number in omega arith) in
     record { choice = t.0; tied = t.1; large = h t.0 long t.1.tied }
 refused_from plan instance turned OutOfMemory h = tt

@@ -21,7 +21,7 @@ use Rattle.wd_eval.specs.Nodes.{IsEvaluated, cut_over}
 use Rattle.wd_eval.specs.Windows.{window_over}
 use Rattle.wd_eval.specs.Steps.{has_large_step, is_large}
 use Rattle.wd_eval.specs.Tied.{AreTied, IsSortedOver, IsValidTurnedChoice, turn_of}
-use Rattle.wd_eval.specs.Ties.{IsTied, IsTiedLimit, IsTiedWindow, IsUntied, IsOutOfMemory}
+use Rattle.wd_eval.specs.Ties.{IsUnderStable, IsStableLimit, IsStableWindow, IsUntied, IsOutOfMemory}
 use Rattle.wd_eval.specs.declared.error.EvalError.{EvalError}
 use Rattle.wd_eval.specs.declared.error.EvalError.TheVariants.{NotValid, TooManyRows, OutOfMemory}
 use Rattle.wd_nodes.specs.declared.relation.Relation.{Relation}
@@ -154,7 +154,7 @@ module _ (tables instance : Instance) (turned : Option Turned) (old : List (List
   grown_long : (mid own : List (List ℕ)) → mid ≡ old ++ own → length old ≤ length mid
   grown_long mid own e = let long = ap length e ∙ length-append old own in omega arith
 
-  pub scan_tied : (table columns : ℕ) (o : Relation) → IsSmall most_rows (Ok (table_at instance table)) (relation_of tables o) → IsTied (Scan table columns) tables instance turned old old o
+  pub scan_tied : (table columns : ℕ) (o : Relation) → IsSmall most_rows (Ok (table_at instance table)) (relation_of tables o) → IsUnderStable (Scan table columns) tables instance turned old old o
   scan_tied table columns o s = record {
     own = [];
     grown = sym (append-nil old);
@@ -162,8 +162,8 @@ module _ (tables instance : Instance) (turned : Option Turned) (old : List (List
     tied = tt;
   }
 
-  module _ (input : PlanTree) (new : List (List ℕ)) (below : Relation) (b : IsTied input tables instance turned old new below) (o : Relation) where
-    pub filter_tied : (condition : Expression) → relation_of tables o ≡ and_then (relation_of tables below) (filter_outcome condition) → IsTied (Filter condition input) tables instance turned old new o
+  module _ (input : PlanTree) (new : List (List ℕ)) (below : Relation) (b : IsUnderStable input tables instance turned old new below) (o : Relation) where
+    pub filter_tied : (condition : Expression) → relation_of tables o ≡ and_then (relation_of tables below) (filter_outcome condition) → IsUnderStable (Filter condition input) tables instance turned old new o
     filter_tied condition is = record {
       own = b.own;
       grown = b.grown;
@@ -171,7 +171,7 @@ module _ (tables instance : Instance) (turned : Option Turned) (old : List (List
       tied = b.tied;
     }
 
-    pub map_tied : (outputs : List Expression) → relation_of tables o ≡ and_then (relation_of tables below) (map_outcome outputs) → IsTied (Map outputs input) tables instance turned old new o
+    pub map_tied : (outputs : List Expression) → relation_of tables o ≡ and_then (relation_of tables below) (map_outcome outputs) → IsUnderStable (Map outputs input) tables instance turned old new o
     map_tied outputs is = record {
       own = b.own;
       grown = b.grown;
@@ -179,7 +179,7 @@ module _ (tables instance : Instance) (turned : Option Turned) (old : List (List
       tied = b.tied;
     }
 
-    pub distinct_tied : relation_of tables o ≡ and_then (relation_of tables below) (λ rows. Ok (distinct rows)) → IsTied (Distinct input) tables instance turned old new o
+    pub distinct_tied : relation_of tables o ≡ and_then (relation_of tables below) (λ rows. Ok (distinct rows)) → IsUnderStable (Distinct input) tables instance turned old new o
     distinct_tied is = record {
       own = b.own;
       grown = b.grown;
@@ -207,8 +207,8 @@ module _ (tables instance : Instance) (turned : Option Turned) (old : List (List
   group_untied_below rule input TooManyRows h = λ choice long s. or_left (has_large_step input instance choice) (is_large (Group rule input) instance choice) (h choice long s)
   group_untied_below rule input OutOfMemory h = tt
 
-  module _ (rule : GroupRule) (input : PlanTree) (new : List (List ℕ)) (below : Relation) (b : IsTied input tables instance turned old new below) where
-    pub group_tied : (o : Outcome) → IsSmall most_rows (group_over rule (relation_of tables below)) (outcome_of o) → IsTied (Group rule input) tables instance turned old new (Made o)
+  module _ (rule : GroupRule) (input : PlanTree) (new : List (List ℕ)) (below : Relation) (b : IsUnderStable input tables instance turned old new below) where
+    pub group_tied : (o : Outcome) → IsSmall most_rows (group_over rule (relation_of tables below)) (outcome_of o) → IsUnderStable (Group rule input) tables instance turned old new (Made o)
     group_tied o s = record {
       own = b.own;
       grown = b.grown;
@@ -237,7 +237,7 @@ module _ (tables instance : Instance) (turned : Option Turned) (old : List (List
 
   -- ---- what stands after the orderings of a node below
 
-  module _ (plan : PlanTree) (mid own new : List (List ℕ)) (o : Relation) (b : IsTied plan tables instance turned old mid o) (e : new ≡ mid ++ own) where
+  module _ (plan : PlanTree) (mid own new : List (List ℕ)) (o : Relation) (b : IsUnderStable plan tables instance turned old mid o) (e : new ≡ mid ++ own) where
     abbrev at_mid : Evaluated
     at_mid = record { outcome = o; next = length mid }
 
@@ -266,7 +266,7 @@ module _ (tables instance : Instance) (turned : Option Turned) (old : List (List
     pub grown_more : new ≡ old ++ (b.own ++ own)
     grown_more = e ∙ ap (λ ch. ch ++ own) b.grown ∙ append_assoc old b.own own
 
-  pub window_tied : (w : WindowRule) (input : PlanTree) (mid new : List (List ℕ)) (below o : Relation) → IsTied input tables instance turned old mid below → IsTiedWindow w (relation_of tables below) turned mid new (relation_of tables o) → IsTied (Window w input) tables instance turned old new o
+  pub window_tied : (w : WindowRule) (input : PlanTree) (mid new : List (List ℕ)) (below o : Relation) → IsUnderStable input tables instance turned old mid below → IsStableWindow w (relation_of tables below) turned mid new (relation_of tables o) → IsUnderStable (Window w input) tables instance turned old new o
   window_tied w input mid new below o b x =
       let own = x.put.own in
       let e = x.put.grown in
@@ -290,7 +290,7 @@ module _ (tables instance : Instance) (turned : Option Turned) (old : List (List
         );
       }
 
-  pub limit_tied : (limit : LimitRule) (input : PlanTree) (mid new : List (List ℕ)) (below o : Relation) → IsTied input tables instance turned old mid below → IsTiedLimit limit (relation_of tables below) turned mid new (relation_of tables o) → IsTied (Limit limit input) tables instance turned old new o
+  pub limit_tied : (limit : LimitRule) (input : PlanTree) (mid new : List (List ℕ)) (below o : Relation) → IsUnderStable input tables instance turned old mid below → IsStableLimit limit (relation_of tables below) turned mid new (relation_of tables o) → IsUnderStable (Limit limit input) tables instance turned old new o
   limit_tied limit input mid new below o b x =
       let own = x.own ∷ [] in
       let e = x.grown in
@@ -323,7 +323,7 @@ module _ (tables instance : Instance) (turned : Option Turned) (old : List (List
         or_left (on_left || on_right) (is_large (Join condition left right) instance choice) (or_left on_left on_right (h choice (omega arith) s.0)))
     join_untied_left OutOfMemory h = tt
 
-    module _ (mid : List (List ℕ)) (lo : Relation) (l : IsTied left tables instance turned old mid lo) where
+    module _ (mid : List (List ℕ)) (lo : Relation) (l : IsUnderStable left tables instance turned old mid lo) where
       pub join_untied_right : (e : EvalError) → IsUntied right instance turned (length mid) e → IsUntied (Join condition left right) instance turned (length old) e
       join_untied_right (NotValid p) h = h
       join_untied_right TooManyRows h = λ choice long s. (
@@ -335,7 +335,7 @@ module _ (tables instance : Instance) (turned : Option Turned) (old : List (List
           (or_right on_left on_right (h (drop n choice) (omega arith) (subst (λ (k : ℕ). AreTied right instance turned k (drop n choice)) (sym l.evaluated.next) s.1))))
       join_untied_right OutOfMemory h = tt
 
-      module _ (new : List (List ℕ)) (ro : Relation) (r : IsTied right tables instance turned mid new ro) where
+      module _ (new : List (List ℕ)) (ro : Relation) (r : IsUnderStable right tables instance turned mid new ro) where
         right_rest : drop (ordering_count left) (drop (length old) new) ≡ drop (length mid) new
         right_rest = drop-drop (ordering_count left) (length old) new ∙ ap (λ k. drop k new) (sym l.evaluated.next)
 
@@ -345,7 +345,7 @@ module _ (tables instance : Instance) (turned : Option Turned) (old : List (List
         both_tied : AreTied (Join condition left right) instance turned (length old) (drop (length old) new)
         both_tied = (still_tied left mid r.own new lo l r.grown, right_tied)
 
-        pub join_tied : (o : Relation) → IsSmall most_rows (join_over condition (relation_of tables lo) (relation_of tables ro)) (relation_of tables o) → IsTied (Join condition left right) tables instance turned old new o
+        pub join_tied : (o : Relation) → IsSmall most_rows (join_over condition (relation_of tables lo) (relation_of tables ro)) (relation_of tables o) → IsUnderStable (Join condition left right) tables instance turned old new o
         join_tied o s = record {
           own = l.own ++ r.own;
           grown = grown_more left mid r.own new lo l r.grown;
@@ -370,7 +370,7 @@ module _ (tables instance : Instance) (turned : Option Turned) (old : List (List
 
 -- ---- whole plans
 
-module _ (plan : PlanTree) (tables instance : Instance) (turned : Option Turned) (new : List (List ℕ)) (g : Relation) (t : IsTied plan tables instance turned [] new g) where
+module _ (plan : PlanTree) (tables instance : Instance) (turned : Option Turned) (new : List (List ℕ)) (g : Relation) (t : IsUnderStable plan tables instance turned [] new g) where
   pub tied_valid : IsValidTurnedChoice plan instance turned new
   tied_valid = record {
     tied = record { number = t.evaluated.next ∙ omega arith; tied = t.tied };
@@ -378,5 +378,5 @@ module _ (plan : PlanTree) (tables instance : Instance) (turned : Option Turned)
     small = t.evaluated.each;
   }
 
-  pub tied_outcome : (o : RowsOrFault) → o ≡ relation_of tables g → IsOutcome plan instance new o
-  tied_outcome o e = record { valid = tied_valid.valid; small = t.evaluated.each; is = e ∙ t.evaluated.is }
+  pub stable_outcome : (o : RowsOrFault) → o ≡ relation_of tables g → IsOutcome plan instance new o
+  stable_outcome o e = record { valid = tied_valid.valid; small = t.evaluated.each; is = e ∙ t.evaluated.is }

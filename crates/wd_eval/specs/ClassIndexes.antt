@@ -1,5 +1,5 @@
 -- The partitions of a Window's classes, and the values of its calls.
-use Rattle.std.specs.Prelude.{◌≡◌, ℕ, ◌+◌, ◌<◌, ◌≤◌, Bool, ◌&&◌, true, nat_eq, List, [], length, map, slice_index_or, Result, Ok, IfErr, IfOk, OnOk}
+use Rattle.std.specs.Prelude.{◌≡◌, ℕ, ◌+◌, ◌<◌, ◌≤◌, Bool, ◌&&◌, true, nat_eq, List, [], length, map, slice_index_or, Result, Ok, IfErr, OnOk}
 use Rattle.std.specs.List.{list_any}
 use Rattle.std.specs.declared.alloc.Global.{Global}
 use Rattle.std.specs.declared.vec.Vec.{Vec}
@@ -14,6 +14,7 @@ use Rattle.wd_plan.specs.Plans.{ClassRule, WindowRule}
 use Rattle.wd_plan.specs.Sorting.{IsOrdering}
 use Rattle.wd_frame.specs.Laws.{has_range_offset, is_descending}
 use Rattle.wd_partition.specs.Members.{members_of}
+use Rattle.wd_nodes.specs.Results.{OkOr}
 use Rattle.wd_eval.specs.declared.class_index.ClassIndex.{ClassIndex}
 use Rattle.wd_eval.specs.Windows.{AreUnserved, IsLeast, IsUnserved}
 use Rattle.wd_eval.specs.declared.error.EvalError.{EvalError}
@@ -52,9 +53,8 @@ pub record AreClassIndexes (w : WindowRule) (rows : List Row) (choice : List (Li
   pub each : (k : ℕ) (class_index : ClassIndex) → k < n → IsClassIndexIn w k rows (ordering_at choice (first + k)) (slice_index_or indexes k class_index)
 
 -- those of all classes, or the place of the first of these orderings that does not serve the Window
-pub record AreClassIndexesOrUnserved (w : WindowRule) (rows : List Row) (choice : List (List ℕ)) (first : ℕ) (r : Result (Vec ClassIndex Global) EvalError) : Type 0 where
-  pub ok : IfOk r (λ v. AreClassIndexes w rows choice first (length w.classes) v.items)
-  pub refused : IfErr r (λ e. AreUnserved w (Ok rows) choice first e)
+abbrev pub AreClassIndexesOrUnserved : WindowRule → List Row → List (List ℕ) → ℕ → Result (Vec ClassIndex Global) EvalError → Type 0
+AreClassIndexesOrUnserved w rows choice first r = OkOr (λ v. AreClassIndexes w rows choice first (length w.classes) v.items) (AreUnserved w (Ok rows) choice first) r
 
 -- the partitions of a Window's classes
 pub record AreIndexed (w : WindowRule) (rows : List Row) (orderings : List (List ℕ)) (indexes : List ClassIndex) : Type 0 where

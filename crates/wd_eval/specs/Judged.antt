@@ -1,10 +1,11 @@
 -- What a plan gives under a choice, or why it gives nothing, as contracts see it.
-use Rattle.std.specs.Prelude.{◌≡◌, ℕ, true, false, List, Result, IfErr, IfOk, OnOk, ⊤}
+use Rattle.std.specs.Prelude.{◌≡◌, ℕ, true, false, List, Result, IfErr, OnOk, ⊤}
 use Rattle.wd_value.specs.Rows.{Instance}
 use Rattle.wd_plan.specs.declared.plan.Outcome.{Outcome}
 use Rattle.wd_plan.specs.Choices.{IsValidChoice}
 use Rattle.wd_plan.specs.Outcomes.{RowsOrFault, outcome, outcome_of}
 use Rattle.wd_plan.specs.Plans.{PlanTree}
+use Rattle.wd_nodes.specs.Results.{OkOr}
 use Rattle.wd_nodes.specs.Relation.{most_rows}
 use Rattle.wd_eval.specs.Windows.{IsLeast}
 use Rattle.wd_eval.specs.Steps.{has_large_step, has_larger_step}
@@ -37,9 +38,8 @@ abbrev pub IsOutcome : PlanTree → Instance → List (List ℕ) → RowsOrFault
 IsOutcome plan instance choice o = IsOutcomeWithin most_rows plan instance choice o
 
 -- the outcome under a choice, where a step may have so many rows, or why there is none
-pub record IsOutcomeWithinOrRefused (most : ℕ) (plan : PlanTree) (instance : Instance) (choice : List (List ℕ)) (r : Result Outcome EvalError) : Type 0 where
-  pub ok : IfOk r (λ o. IsOutcomeWithin most plan instance choice (outcome_of o))
-  pub refused : IfErr r (λ e. IsRefusedWithin most plan instance choice e)
+abbrev pub IsOutcomeWithinOrRefused : ℕ → PlanTree → Instance → List (List ℕ) → Result Outcome EvalError → Type 0
+IsOutcomeWithinOrRefused most plan instance choice r = OkOr (λ o. IsOutcomeWithin most plan instance choice (outcome_of o)) (IsRefusedWithin most plan instance choice) r
 
 abbrev pub IsOutcomeOrRefused : PlanTree → Instance → List (List ℕ) → Result Outcome EvalError → Type 0
 IsOutcomeOrRefused plan instance choice r = IsOutcomeWithinOrRefused most_rows plan instance choice r

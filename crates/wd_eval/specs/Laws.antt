@@ -9,12 +9,12 @@ use Rattle.wd_eval.specs.Wrong.{IsWrongOrdering}
 use Rattle.wd_eval.specs.declared.turned.Turned.{Turned}
 
 -- each plan has such a choice over each instance, whichever ordering takes rows that tie in another turn
-abbrev pub HasTiedChoice : Type 0
-HasTiedChoice = (plan : PlanTree) (instance : Instance) (turned : Option Turned) → (choice : List (List ℕ)) × IsTurnedChoice plan instance turned choice
+abbrev pub HasStableChoice : Type 0
+HasStableChoice = (plan : PlanTree) (instance : Instance) (turned : Option Turned) → (choice : List (List ℕ)) × IsTurnedChoice plan instance turned choice
 
 -- all such choices give one outcome
-abbrev pub HasOneTiedOutcome : Type 0
-HasOneTiedOutcome = (plan : PlanTree) (instance : Instance) (turned : Option Turned) (a b : List (List ℕ)) → IsTurnedChoice plan instance turned a → IsTurnedChoice plan instance turned b → outcome plan instance a ≡ outcome plan instance b
+abbrev pub HasOneStableOutcome : Type 0
+HasOneStableOutcome = (plan : PlanTree) (instance : Instance) (turned : Option Turned) (a b : List (List ℕ)) → IsTurnedChoice plan instance turned a → IsTurnedChoice plan instance turned b → outcome plan instance a ≡ outcome plan instance b
 
 -- a valid choice has no wrong ordering
 abbrev pub HasNoWrongOrdering : Type 0

@@ -1,5 +1,5 @@
 -- A node of a plan under the orderings from a number on.
-use Rattle.std.specs.Prelude.{◌≡◌, ℕ, ◌+◌, ◌≤◌, true, false, List, drop, length, ⊤, Result, Ok, IfErr, IfOk}
+use Rattle.std.specs.Prelude.{◌≡◌, ℕ, ◌+◌, ◌≤◌, true, false, List, drop, length, ⊤, Result, Ok}
 use Rattle.wd_value.specs.Rows.{Instance, rows_at}
 use Rattle.wd_plan.specs.Choices.{AreLawful}
 use Rattle.wd_plan.specs.Faults.{and_then}
@@ -7,6 +7,7 @@ use Rattle.wd_plan.specs.Outcomes.{RowsOrFault, cut, ordering_at, outcome}
 use Rattle.wd_plan.specs.Plans.{PlanTree, LimitRule, ordering_count}
 use Rattle.wd_plan.specs.Sorting.{limit_class}
 use Rattle.wd_join.specs.Joins.{has_more_rows}
+use Rattle.wd_nodes.specs.Results.{OkOr}
 use Rattle.wd_eval.specs.Windows.{HasOrdering, IsLeast, IsUnserved, IsWrong}
 use Rattle.wd_eval.specs.Steps.{has_larger_step}
 use Rattle.wd_nodes.specs.Relation.{relation_of}
@@ -47,6 +48,5 @@ pub record IsLimited (limit : LimitRule) (input : RowsOrFault) (choice : List (L
   pub is : found ≡ cut_over limit (ordering_at choice number) input
 
 -- what a Limit gives over its input under the ordering with this number, as the view of a value has it, or why that is not lawful
-pub record IsLimitedOrUnserved {X : Type 0} (view : X → RowsOrFault) (limit : LimitRule) (input : RowsOrFault) (choice : List (List ℕ)) (number : ℕ) (r : Result X EvalError) : Type 0 where
-  pub ok : IfOk r (λ x. IsLimited limit input choice number (view x))
-  pub refused : IfErr r (λ e. IsUnserved (IsWrong (limit_class limit) input choice number) e)
+abbrev pub IsLimitedOrUnserved : {X : Type 0} → (X → RowsOrFault) → LimitRule → RowsOrFault → List (List ℕ) → ℕ → Result X EvalError → Type 0
+IsLimitedOrUnserved view limit input choice number r = OkOr (λ x. IsLimited limit input choice number (view x)) (IsUnserved (IsWrong (limit_class limit) input choice number)) r

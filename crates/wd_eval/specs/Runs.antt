@@ -1,48 +1,47 @@
 -- What a plan gives under the choice that leaves rows that tie as they are, or why it gives nothing.
-use Rattle.std.specs.Prelude.{◌≡◌, ℕ, false, List, Option, None, Result, IfErr, IfOk}
+use Rattle.std.specs.Prelude.{◌≡◌, ℕ, false, List, Option, None, Result}
 use Rattle.wd_value.specs.Rows.{Instance}
 use Rattle.wd_plan.specs.Choices.{IsValidChoice}
 use Rattle.wd_plan.specs.Outcomes.{RowsOrFault, outcome, outcome_of}
 use Rattle.wd_plan.specs.Plans.{PlanTree}
+use Rattle.wd_nodes.specs.Results.{OkOr}
 use Rattle.wd_eval.specs.Windows.{orderings_of}
 use Rattle.wd_eval.specs.Steps.{has_large_step}
 use Rattle.wd_eval.specs.Judged.{IsOutcome}
-use Rattle.wd_eval.specs.Tied.{IsTiedChoice, IsTiedRefused, IsTurnedRefused, IsValidTurnedChoice, reversed_at}
+use Rattle.wd_eval.specs.Tied.{IsStableChoice, IsStableRefused, IsTurnedRefused, IsValidTurnedChoice, reversed_at}
 use Rattle.wd_eval.specs.declared.error.EvalError.{EvalError}
-use Rattle.wd_eval.specs.declared.eval.TiedOutcome.{TiedOutcome}
+use Rattle.wd_eval.specs.declared.eval.StableOutcome.{StableOutcome}
 use Rattle.wd_eval.specs.declared.turned.Turned.{Turned}
 
 -- such a choice, but for one ordering that may take rows that tie in another turn, and the outcome under it
-pub record IsTurnedOutcome (plan : PlanTree) (instance : Instance) (turned : Option Turned) (t : TiedOutcome) : Type 0 where
+pub record IsTurnedOutcome (plan : PlanTree) (instance : Instance) (turned : Option Turned) (t : StableOutcome) : Type 0 where
   pub choice : IsValidTurnedChoice plan instance turned (orderings_of t.choice.orderings.items)
   pub is : outcome_of t.outcome ≡ outcome plan instance (orderings_of t.choice.orderings.items)
 
 -- the two, or why there are none
-pub record IsTurnedOutcomeOrRefused (plan : PlanTree) (instance : Instance) (turned : Option Turned) (r : Result TiedOutcome EvalError) : Type 0 where
-  pub ok : IfOk r (λ t. IsTurnedOutcome plan instance turned t)
-  pub refused : IfErr r (λ e. IsTurnedRefused plan instance turned e)
+abbrev pub IsTurnedOutcomeOrRefused : PlanTree → Instance → Option Turned → Result StableOutcome EvalError → Type 0
+IsTurnedOutcomeOrRefused plan instance turned r = OkOr (λ t. IsTurnedOutcome plan instance turned t) (IsTurnedRefused plan instance turned) r
 
 -- where that ordering is flipped
-abbrev pub IsTiedOutcome : PlanTree → Instance → Option ℕ → TiedOutcome → Type 0
-IsTiedOutcome plan instance flipped t = IsTurnedOutcome plan instance (reversed_at flipped) t
+abbrev pub IsStableOutcome : PlanTree → Instance → Option ℕ → StableOutcome → Type 0
+IsStableOutcome plan instance flipped t = IsTurnedOutcome plan instance (reversed_at flipped) t
 
-abbrev pub IsTiedOutcomeOrRefused : PlanTree → Instance → Option ℕ → Result TiedOutcome EvalError → Type 0
-IsTiedOutcomeOrRefused plan instance flipped r = IsTurnedOutcomeOrRefused plan instance (reversed_at flipped) r
+abbrev pub IsStableOutcomeOrRefused : PlanTree → Instance → Option ℕ → Result StableOutcome EvalError → Type 0
+IsStableOutcomeOrRefused plan instance flipped r = IsTurnedOutcomeOrRefused plan instance (reversed_at flipped) r
 
 -- the outcome under a valid choice that leaves rows that tie as they are, and under which no step is too large
 pub record IsRun (plan : PlanTree) (instance : Instance) (o : RowsOrFault) : Type 0 where
   pub choice : List (List ℕ)
-  pub tied : IsTiedChoice plan instance None choice
+  pub tied : IsStableChoice plan instance None choice
   pub outcome : IsOutcome plan instance choice o
 
 -- why a plan has no outcome under that choice
 abbrev pub IsRunRefused : PlanTree → Instance → EvalError → Type 0
-IsRunRefused plan instance e = IsTiedRefused plan instance None e
+IsRunRefused plan instance e = IsStableRefused plan instance None e
 
 -- the outcome under that choice, as the view of a value has it, or why there is none
-pub record IsRunOrRefused {X : Type 0} (view : X → RowsOrFault) (plan : PlanTree) (instance : Instance) (r : Result X EvalError) : Type 0 where
-  pub ok : IfOk r (λ x. IsRun plan instance (view x))
-  pub refused : IfErr r (λ e. IsRunRefused plan instance e)
+abbrev pub IsRunOrRefused : {X : Type 0} → (X → RowsOrFault) → PlanTree → Instance → Result X EvalError → Type 0
+IsRunOrRefused view plan instance r = OkOr (λ x. IsRun plan instance (view x)) (IsRunRefused plan instance) r
 
 -- an answer of a plan: its outcome under some valid choice, under which no step is too large
 pub record IsAnswerWithin (plan : PlanTree) (instance : Instance) (answer : RowsOrFault) : Type 0 where

@@ -1,5 +1,5 @@
 -- The choice that leaves rows that tie as they are, but for one ordering that takes them in another turn.
-use Rattle.std.specs.Prelude.{◌≡◌, ℕ, ◌+◌, ◌<◌, false, List, [], length, drop, if◌then◌else◌, Option, Some, None, option_map, Result, IfErr, IfOk, nat_eq, true, ⊤}
+use Rattle.std.specs.Prelude.{◌≡◌, ℕ, ◌+◌, ◌<◌, false, List, [], length, drop, if◌then◌else◌, Option, Some, None, option_map, Result, nat_eq, true, ⊤}
 use Rattle.wd_value.specs.Rows.{Row, Instance}
 use Rattle.wd_sort.specs.Sorting.{IsStableSortOf}
 use Rattle.wd_plan.specs.declared.plan.Choice.{Choice}
@@ -10,6 +10,7 @@ use Rattle.wd_plan.specs.Sorting.{limit_class}
 use Rattle.wd_partition.specs.Columns.{given_positions, sort_columns}
 use Rattle.wd_partition.specs.declared.turn.Turn.{Turn}
 use Rattle.wd_partition.specs.declared.turn.Turn.TheVariants.{AsGiven, Reversed}
+use Rattle.wd_nodes.specs.Results.{OkOr}
 use Rattle.wd_eval.specs.Windows.{orderings_of}
 use Rattle.wd_eval.specs.Steps.{has_large_step}
 use Rattle.wd_eval.specs.declared.error.EvalError.{EvalError}
@@ -70,9 +71,8 @@ IsTurnedRefused plan instance turned TooManyRows = IsTurnedTooLarge plan instanc
 IsTurnedRefused plan instance turned OutOfMemory = ⊤
 
 -- that choice, or why it is not answered
-pub record IsTurnedOrRefused (plan : PlanTree) (instance : Instance) (turned : Option Turned) (r : Result Choice EvalError) : Type 0 where
-  pub ok : IfOk r (λ c. IsValidTurnedChoice plan instance turned (orderings_of c.orderings.items))
-  pub refused : IfErr r (λ e. IsTurnedRefused plan instance turned e)
+abbrev pub IsTurnedOrRefused : PlanTree → Instance → Option Turned → Result Choice EvalError → Type 0
+IsTurnedOrRefused plan instance turned r = OkOr (λ c. IsValidTurnedChoice plan instance turned (orderings_of c.orderings.items)) (IsTurnedRefused plan instance turned) r
 
 -- ---- where that ordering is flipped: it takes the positions last to first
 
@@ -82,17 +82,17 @@ reversed number = record { number = number; turn = Reversed }
 abbrev pub reversed_at : Option ℕ → Option Turned
 reversed_at flipped = option_map reversed flipped
 
-abbrev pub IsTiedChoice : PlanTree → Instance → Option ℕ → List (List ℕ) → Type 0
-IsTiedChoice plan instance flipped choice = IsTurnedChoice plan instance (reversed_at flipped) choice
+abbrev pub IsStableChoice : PlanTree → Instance → Option ℕ → List (List ℕ) → Type 0
+IsStableChoice plan instance flipped choice = IsTurnedChoice plan instance (reversed_at flipped) choice
 
-abbrev pub IsValidTiedChoice : PlanTree → Instance → Option ℕ → List (List ℕ) → Type 0
-IsValidTiedChoice plan instance flipped choice = IsValidTurnedChoice plan instance (reversed_at flipped) choice
+abbrev pub IsValidStableChoice : PlanTree → Instance → Option ℕ → List (List ℕ) → Type 0
+IsValidStableChoice plan instance flipped choice = IsValidTurnedChoice plan instance (reversed_at flipped) choice
 
-abbrev pub IsTiedTooLarge : PlanTree → Instance → Option ℕ → Type 0
-IsTiedTooLarge plan instance flipped = IsTurnedTooLarge plan instance (reversed_at flipped)
+abbrev pub IsStableTooLarge : PlanTree → Instance → Option ℕ → Type 0
+IsStableTooLarge plan instance flipped = IsTurnedTooLarge plan instance (reversed_at flipped)
 
-abbrev pub IsTiedRefused : PlanTree → Instance → Option ℕ → EvalError → Type 0
-IsTiedRefused plan instance flipped e = IsTurnedRefused plan instance (reversed_at flipped) e
+abbrev pub IsStableRefused : PlanTree → Instance → Option ℕ → EvalError → Type 0
+IsStableRefused plan instance flipped e = IsTurnedRefused plan instance (reversed_at flipped) e
 
-abbrev pub IsTiedOrRefused : PlanTree → Instance → Option ℕ → Result Choice EvalError → Type 0
-IsTiedOrRefused plan instance flipped r = IsTurnedOrRefused plan instance (reversed_at flipped) r
+abbrev pub IsStableChoiceOrRefused : PlanTree → Instance → Option ℕ → Result Choice EvalError → Type 0
+IsStableChoiceOrRefused plan instance flipped r = IsTurnedOrRefused plan instance (reversed_at flipped) r

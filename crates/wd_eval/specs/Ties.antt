@@ -1,11 +1,12 @@
 -- Sorted orderings put after those that are there, node by node.
-use Rattle.std.specs.Prelude.{◌≡◌, ℕ, ◌+◌, ◌<◌, ◌≤◌, true, List, [], ◌∷◌, ◌++◌, drop, length, Option, Result, IfErr, IfOk, ⊤}
+use Rattle.std.specs.Prelude.{◌≡◌, ℕ, ◌+◌, ◌<◌, ◌≤◌, true, List, [], ◌∷◌, ◌++◌, drop, length, Option, Result, ⊤}
 use Rattle.std.specs.declared.alloc.Global.{Global}
 use Rattle.std.specs.declared.vec.Vec.{Vec}
 use Rattle.wd_value.specs.Rows.{Instance}
 use Rattle.wd_plan.specs.Outcomes.{RowsOrFault, class_at, ordering_at}
 use Rattle.wd_plan.specs.Plans.{LimitRule, PlanTree, WindowRule, ordering_count}
 use Rattle.wd_plan.specs.Sorting.{limit_class}
+use Rattle.wd_nodes.specs.Results.{OkOr}
 use Rattle.wd_nodes.specs.Relation.{most_rows}
 use Rattle.wd_eval.specs.Nodes.{IsLimited, IsEvaluated}
 use Rattle.wd_eval.specs.Windows.{IsExtended, orderings_of}
@@ -32,32 +33,32 @@ abbrev pub AreAllPut : WindowRule → RowsOrFault → Option Turned → List (Li
 AreAllPut w input turned old new = ArePut w input turned (length w.classes) old new
 
 -- and what is found is what the Window gives under them
-pub record IsTiedWindow (w : WindowRule) (input : RowsOrFault) (turned : Option Turned) (old new : List (List ℕ)) (found : RowsOrFault) : Type 0 where
+pub record IsStableWindow (w : WindowRule) (input : RowsOrFault) (turned : Option Turned) (old new : List (List ℕ)) (found : RowsOrFault) : Type 0 where
   pub put : AreAllPut w input turned old new
   pub extended : IsExtended w input new (length old) found
 
 -- the sorted ordering of a Limit was put there, and what is found is what the Limit gives under it
-pub record IsTiedLimit (limit : LimitRule) (input : RowsOrFault) (turned : Option Turned) (old new : List (List ℕ)) (found : RowsOrFault) : Type 0 where
+pub record IsStableLimit (limit : LimitRule) (input : RowsOrFault) (turned : Option Turned) (old new : List (List ℕ)) (found : RowsOrFault) : Type 0 where
   pub own : List ℕ
   pub grown : new ≡ old ++ own ∷ []
   pub sorted : IsSortedOver (limit_class limit) (turn_of turned (length old)) input own
   pub is : IsLimited limit input new (length old) found
 
 -- the plan's sorted orderings were put after those that were there, and the outcome is that under them
-pub record IsTied (plan : PlanTree) (tables instance : Instance) (turned : Option Turned) (old new : List (List ℕ)) (o : Relation) : Type 0 where
+pub record IsUnderStable (plan : PlanTree) (tables instance : Instance) (turned : Option Turned) (old new : List (List ℕ)) (o : Relation) : Type 0 where
   pub own : List (List ℕ)
   pub grown : new ≡ old ++ own
   pub evaluated : IsEvaluated most_rows plan tables instance new (length old) (record { outcome = o; next = length new })
   pub tied : AreTied plan instance turned (length old) (drop (length old) new)
 
 -- some step is too large under all sorted orderings
-abbrev pub IsTiedTooLargeFrom : PlanTree → Instance → Option Turned → ℕ → Type 0
-IsTiedTooLargeFrom plan instance turned first = (choice : List (List ℕ)) → ordering_count plan ≤ length choice → AreTied plan instance turned first choice → has_large_step plan instance choice ≡ true
+abbrev pub IsStableTooLargeFrom : PlanTree → Instance → Option Turned → ℕ → Type 0
+IsStableTooLargeFrom plan instance turned first = (choice : List (List ℕ)) → ordering_count plan ≤ length choice → AreTied plan instance turned first choice → has_large_step plan instance choice ≡ true
 
 -- out of memory, or such a step
 abbrev pub IsUntied : PlanTree → Instance → Option Turned → ℕ → EvalError → Type 0
 IsUntied plan instance turned first (NotValid place) = ⊥
-IsUntied plan instance turned first TooManyRows = IsTiedTooLargeFrom plan instance turned first
+IsUntied plan instance turned first TooManyRows = IsStableTooLargeFrom plan instance turned first
 IsUntied plan instance turned first OutOfMemory = ⊤
 
 -- out of memory alone
@@ -74,11 +75,9 @@ pub record IsPutEmpty (count : ℕ) (old new : List (List ℕ)) : Type 0 where
   pub empty : (k : ℕ) → k < count → ordering_at own k ≡ []
 
 -- what a Window gives under its sorted orderings, as the view of a value has it, or out of memory
-pub record IsTiedWindowOrNoMemory {X : Type 0} (view : X → RowsOrFault) (w : WindowRule) (input : RowsOrFault) (turned : Option Turned) (old new : List (Vec ℕ Global)) (r : Result X EvalError) : Type 0 where
-  pub ok : IfOk r (λ x. IsTiedWindow w input turned (orderings_of old) (orderings_of new) (view x))
-  pub refused : IfErr r (λ e. IsOutOfMemory e)
+abbrev pub IsStableWindowOrNoMemory : {X : Type 0} → (X → RowsOrFault) → WindowRule → RowsOrFault → Option Turned → List (Vec ℕ Global) → List (Vec ℕ Global) → Result X EvalError → Type 0
+IsStableWindowOrNoMemory view w input turned old new r = OkOr (λ x. IsStableWindow w input turned (orderings_of old) (orderings_of new) (view x)) IsOutOfMemory r
 
 -- what a Limit gives under its sorted ordering, as the view of a value has it, or out of memory
-pub record IsTiedLimitOrNoMemory {X : Type 0} (view : X → RowsOrFault) (limit : LimitRule) (input : RowsOrFault) (turned : Option Turned) (old new : List (Vec ℕ Global)) (r : Result X EvalError) : Type 0 where
-  pub ok : IfOk r (λ x. IsTiedLimit limit input turned (orderings_of old) (orderings_of new) (view x))
-  pub refused : IfErr r (λ e. IsOutOfMemory e)
+abbrev pub IsStableLimitOrNoMemory : {X : Type 0} → (X → RowsOrFault) → LimitRule → RowsOrFault → Option Turned → List (Vec ℕ Global) → List (Vec ℕ Global) → Result X EvalError → Type 0
+IsStableLimitOrNoMemory view limit input turned old new r = OkOr (λ x. IsStableLimit limit input turned (orderings_of old) (orderings_of new) (view x)) IsOutOfMemory r

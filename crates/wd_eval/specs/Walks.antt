@@ -1,15 +1,16 @@
 -- One walk over the nodes of a plan, under the orderings of a choice or under sorted ones.
-use Rattle.std.specs.Prelude.{◌≡◌, ℕ, ◌≤◌, true, List, drop, length, Result, IfErr, IfOk, ⊤}
+use Rattle.std.specs.Prelude.{◌≡◌, ℕ, ◌≤◌, true, List, drop, length, Result, ⊤}
 use Rattle.std.specs.declared.alloc.Global.{Global}
 use Rattle.std.specs.declared.vec.Vec.{Vec}
 use Rattle.wd_value.specs.Rows.{Instance}
 use Rattle.wd_plan.specs.Outcomes.{RowsOrFault}
 use Rattle.wd_plan.specs.Plans.{LimitRule, PlanTree, WindowRule}
+use Rattle.wd_nodes.specs.Results.{OkOr}
 use Rattle.wd_eval.specs.Windows.{IsLeast, orderings_of, IsExtendedOrUnserved}
 use Rattle.wd_eval.specs.Nodes.{IsLimitedOrUnserved, IsEvaluated}
 use Rattle.wd_eval.specs.Steps.{has_larger_step}
 use Rattle.wd_nodes.specs.Relation.{most_rows}
-use Rattle.wd_eval.specs.Ties.{IsTied, IsTiedLimitOrNoMemory, IsTiedTooLargeFrom, IsTiedWindowOrNoMemory}
+use Rattle.wd_eval.specs.Ties.{IsUnderStable, IsStableLimitOrNoMemory, IsStableTooLargeFrom, IsStableWindowOrNoMemory}
 use Rattle.wd_eval.specs.Wrong.{IsWrongFrom}
 use Rattle.wd_eval.specs.declared.error.EvalError.{EvalError}
 use Rattle.wd_eval.specs.declared.error.EvalError.TheVariants.{NotValid, TooManyRows, OutOfMemory}
@@ -31,7 +32,7 @@ IsAt (Sorted turned) first made = first ≡ length made
 -- those made before, as these tables show it; with the number of the next ordering
 abbrev pub IsWalked : PlanTree → Instance → Instance → Orderings → ℕ → List (Vec ℕ Global) → List (Vec ℕ Global) → Evaluated → Type 0
 IsWalked plan tables instance (Chosen choice most) first old new e = IsEvaluated most plan tables instance (orderings_of choice.now) first e
-IsWalked plan tables instance (Sorted turned) first old new e = (e.next ≡ length new) × IsTied plan tables instance turned (orderings_of old) (orderings_of new) e.outcome
+IsWalked plan tables instance (Sorted turned) first old new e = (e.next ≡ length new) × IsUnderStable plan tables instance turned (orderings_of old) (orderings_of new) e.outcome
 
 -- the place is that of the first wrong ordering of the choice; no sorted ordering is wrong
 abbrev pub IsWrongAt : PlanTree → Instance → Orderings → ℕ → ℕ → Type 0
@@ -41,7 +42,7 @@ IsWrongAt plan instance (Sorted turned) first place = ⊥
 -- some step is too large under these orderings
 abbrev pub IsTooLarge : PlanTree → Instance → Orderings → ℕ → Type 0
 IsTooLarge plan instance (Chosen choice most) first = has_larger_step most plan instance (drop first (orderings_of choice.now)) ≡ true
-IsTooLarge plan instance (Sorted turned) first = IsTiedTooLargeFrom plan instance turned first
+IsTooLarge plan instance (Sorted turned) first = IsStableTooLargeFrom plan instance turned first
 
 -- why a plan gives nothing
 abbrev pub IsHalted : PlanTree → Instance → Orderings → ℕ → EvalError → Type 0
@@ -50,16 +51,15 @@ IsHalted plan instance orderings first TooManyRows = IsTooLarge plan instance or
 IsHalted plan instance orderings first OutOfMemory = ⊤
 
 -- what it gives, or why it gives nothing
-pub record IsWalkedOrHalted (plan : PlanTree) (tables instance : Instance) (orderings : Orderings) (first : ℕ) (old new : List (Vec ℕ Global)) (r : Result Evaluated EvalError) : Type 0 where
-  pub ok : IfOk r (λ e. IsWalked plan tables instance orderings first old new e)
-  pub refused : IfErr r (λ e. IsHalted plan instance orderings first e)
+abbrev pub IsWalkedOrHalted : PlanTree → Instance → Instance → Orderings → ℕ → List (Vec ℕ Global) → List (Vec ℕ Global) → Result Evaluated EvalError → Type 0
+IsWalkedOrHalted plan tables instance orderings first old new r = OkOr (λ e. IsWalked plan tables instance orderings first old new e) (IsHalted plan instance orderings first) r
 
 -- ---- Windows and Limits over their inputs
 
 abbrev pub IsWindowStep : {X : Type 0} → (X → RowsOrFault) → WindowRule → RowsOrFault → Orderings → ℕ → List (Vec ℕ Global) → List (Vec ℕ Global) → Result X EvalError → Type 0
 IsWindowStep view w input (Chosen choice most) first old new r = IsExtendedOrUnserved view w input (orderings_of choice.now) first r
-IsWindowStep view w input (Sorted turned) first old new r = IsTiedWindowOrNoMemory view w input turned old new r
+IsWindowStep view w input (Sorted turned) first old new r = IsStableWindowOrNoMemory view w input turned old new r
 
 abbrev pub IsLimitStep : {X : Type 0} → (X → RowsOrFault) → LimitRule → RowsOrFault → Orderings → ℕ → List (Vec ℕ Global) → List (Vec ℕ Global) → Result X EvalError → Type 0
 IsLimitStep view limit input (Chosen choice most) first old new r = IsLimitedOrUnserved view limit input (orderings_of choice.now) first r
-IsLimitStep view limit input (Sorted turned) first old new r = IsTiedLimitOrNoMemory view limit input turned old new r
+IsLimitStep view limit input (Sorted turned) first old new r = IsStableLimitOrNoMemory view limit input turned old new r

@@ -1,5 +1,5 @@
 -- A Window over its input, under the orderings of a choice from a number on.
-use Rattle.std.specs.Prelude.{◌≡◌, ℕ, ◌+◌, ◌<◌, ◌≤◌, List, [], drop, take, length, map, ⊤, Result, Ok, Err, IfErr, IfOk}
+use Rattle.std.specs.Prelude.{◌≡◌, ℕ, ◌+◌, ◌<◌, ◌≤◌, List, [], drop, take, length, map, ⊤, Result, Ok, Err}
 use Rattle.std.specs.List.{AllByRecursion}
 use Rattle.std.specs.declared.alloc.Global.{Global}
 use Rattle.std.specs.declared.vec.Vec.{Vec}
@@ -8,6 +8,7 @@ use Rattle.wd_plan.specs.Faults.{and_then}
 use Rattle.wd_plan.specs.Outcomes.{RowsOrFault, class_at, ordering_at, window_outcome}
 use Rattle.wd_plan.specs.Plans.{ClassRule, WindowRule}
 use Rattle.wd_plan.specs.Sorting.{IsOrdering}
+use Rattle.wd_nodes.specs.Results.{OkOr}
 use Rattle.wd_eval.specs.declared.error.EvalError.{EvalError}
 use Rattle.wd_eval.specs.declared.error.EvalError.TheVariants.{NotValid, TooManyRows, OutOfMemory}
 
@@ -69,6 +70,5 @@ AreUnserved w input choice first e = IsUnserved (IsLeast (IsWrongIn w input choi
 
 -- what a Window gives over its input under the orderings from the number `first` on, as the view of a value has it, or why they do
 -- not serve it
-pub record IsExtendedOrUnserved {X : Type 0} (view : X → RowsOrFault) (w : WindowRule) (input : RowsOrFault) (choice : List (List ℕ)) (first : ℕ) (r : Result X EvalError) : Type 0 where
-  pub ok : IfOk r (λ x. IsExtended w input choice first (view x))
-  pub refused : IfErr r (λ e. AreUnserved w input choice first e)
+abbrev pub IsExtendedOrUnserved : {X : Type 0} → (X → RowsOrFault) → WindowRule → RowsOrFault → List (List ℕ) → ℕ → Result X EvalError → Type 0
+IsExtendedOrUnserved view w input choice first r = OkOr (λ x. IsExtended w input choice first (view x)) (AreUnserved w input choice first) r

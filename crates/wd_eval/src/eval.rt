@@ -3,8 +3,8 @@
 ghost use Rattle.std.specs.Prelude.{◌≡◌, ◌≤◌, true, None, IfErr, IfOk};
 ghost use Rattle.wd_eval.specs.Judged.{IsAllowedOrRefused, IsOutcome, IsOutcomeOrRefused, IsOutcomeWithin, IsOutcomeWithinOrRefused, IsRefused, IsRefusedWithin};
 ghost use Rattle.wd_eval.specs.Windows.{orderings_of};
-ghost use Rattle.wd_eval.specs.Runs.{IsRunOrRefused, IsTiedOutcomeOrRefused, IsTurnedOutcomeOrRefused};
-ghost use Rattle.wd_eval.specs.Tied.{IsTiedOrRefused, IsTurnedOrRefused};
+ghost use Rattle.wd_eval.specs.Runs.{IsRunOrRefused, IsStableOutcomeOrRefused, IsTurnedOutcomeOrRefused};
+ghost use Rattle.wd_eval.specs.Tied.{IsStableChoiceOrRefused, IsTurnedOrRefused};
 ghost use Rattle.wd_nodes.specs.Relation.{most_rows, relation_of};
 ghost use Rattle.wd_plan.specs.Fits.{fits};
 ghost use Rattle.wd_plan.specs.Outcomes.{outcome_of};
@@ -130,7 +130,7 @@ pub fn tied_choice(
     flipped: Option<u32>,
 ) -> Result<Choice, EvalError>
     requires { fits (schema_of schema.now) (plan_of plan.now) ≡ true }
-    ensures { IsTiedOrRefused (plan_of plan.now) (instance_of instance.now.items) flipped result }
+    ensures { IsStableChoiceOrRefused (plan_of plan.now) (instance_of instance.now.items) flipped result }
 {
     turned_choice(alloc, plan, schema, instance, reversed_at(flipped))
 }
@@ -161,28 +161,28 @@ pub fn first_choice(
     instance: &Instance,
 ) -> Result<Choice, EvalError>
     requires { fits (schema_of schema.now) (plan_of plan.now) ≡ true }
-    ensures { IsTiedOrRefused (plan_of plan.now) (instance_of instance.now.items) None result }
+    ensures { IsStableChoiceOrRefused (plan_of plan.now) (instance_of instance.now.items) None result }
 {
     tied_choice(alloc, plan, schema, instance, None)
 }
 
 /// A choice, and the outcome of a plan under it.
 #[derive(Drop)]
-pub struct TiedOutcome {
+pub struct StableOutcome {
     pub choice: Choice,
     pub outcome: Outcome,
 }
 
 /// What [`tied_choice`] answers, and the outcome of the plan under it, evaluated once.
-pub fn eval_tied(
+pub fn eval_stable(
     alloc: Global,
     plan: &Plan,
     schema: &Schema,
     instance: &Instance,
     flipped: Option<u32>,
-) -> Result<TiedOutcome, EvalError>
+) -> Result<StableOutcome, EvalError>
     requires { fits (schema_of schema.now) (plan_of plan.now) ≡ true }
-    ensures { IsTiedOutcomeOrRefused (plan_of plan.now) (instance_of instance.now.items) flipped result }
+    ensures { IsStableOutcomeOrRefused (plan_of plan.now) (instance_of instance.now.items) flipped result }
 {
     eval_turned(alloc, plan, schema, instance, reversed_at(flipped))
 }
@@ -196,7 +196,7 @@ pub fn eval_turned(
     schema: &Schema,
     instance: &Instance,
     turned: Option<Turned>,
-) -> Result<TiedOutcome, EvalError>
+) -> Result<StableOutcome, EvalError>
     requires { fits (schema_of schema.now) (plan_of plan.now) ≡ true }
     ensures { IsTurnedOutcomeOrRefused (plan_of plan.now) (instance_of instance.now.items) turned result }
 {
@@ -205,7 +205,7 @@ pub fn eval_turned(
     let evaluated = evaluate(alloc, plan, instance, None, sorted, 0, &mut orderings)?;
     let outcome = outcome_from(alloc, instance, evaluated.outcome, 0)?;
     let choice = Choice { orderings };
-    Ok(TiedOutcome { choice, outcome })
+    Ok(StableOutcome { choice, outcome })
 }
 
 /// The outcome of a plan over an instance under the choice that leaves rows that tie as they are.
@@ -218,7 +218,7 @@ pub fn run_plan(
     requires { fits (schema_of schema.now) (plan_of plan.now) ≡ true }
     ensures { IsRunOrRefused outcome_of (plan_of plan.now) (instance_of instance.now.items) result }
 {
-    let TiedOutcome { outcome, .. } = eval_tied(alloc, plan, schema, instance, None)?;
+    let StableOutcome { outcome, .. } = eval_stable(alloc, plan, schema, instance, None)?;
     Ok(outcome)
 }
 

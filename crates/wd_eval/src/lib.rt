@@ -23,7 +23,7 @@ mod window;
 pub use answer::Answer;
 pub use error::EvalError;
 pub use eval::{
-    TiedOutcome, answer_with, check_choice, eval_tied, eval_turned, eval_with, eval_within,
+    StableOutcome, answer_with, check_choice, eval_stable, eval_turned, eval_with, eval_within,
     first_choice, run_columns, run_plan, tied_choice,
 };
 pub use turned::Turned;

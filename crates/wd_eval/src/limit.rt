@@ -5,7 +5,7 @@ ghost use Rattle.std.specs.Prelude.{◌≡◌, ◌↔◌, [], IfOk, IsTrue, Ok, 
 ghost use Rattle.wd_eval.specs.Nodes.{IsLimitedOrUnserved, cut_over};
 ghost use Rattle.wd_nodes.specs.Relation.{relation_of, stored_rows_of, stored_or_fault_of};
 ghost use Rattle.wd_eval.specs.Tied.{IsSortedOver};
-ghost use Rattle.wd_eval.specs.Ties.{IsTiedLimit};
+ghost use Rattle.wd_eval.specs.Ties.{IsStableLimit};
 ghost use Rattle.wd_eval.specs.Walks.{IsAt, IsLimitStep};
 ghost use Rattle.wd_plan.specs.Choices.{AtRows};
 ghost use Rattle.wd_plan.specs.Outcomes.{cut};
@@ -131,7 +131,7 @@ fn sorted_limit(
     turned: Option<Turned>,
     made: &mut Vec<Vec<u64>>,
 ) -> Result<Relation, OutOfMemory>
-    ensures { IfOk result (λ o. IsTiedLimit (limit_of limit.now) (stored_or_fault_of (instance_of instance.now) input) turned (orderings_of made.old.items) (orderings_of made.new.items) (relation_of (instance_of instance.now) o)) }
+    ensures { IfOk result (λ o. IsStableLimit (limit_of limit.now) (stored_or_fault_of (instance_of instance.now) input) turned (orderings_of made.old.items) (orderings_of made.new.items) (relation_of (instance_of instance.now) o)) }
 {
     let turn = turn_of(turned, made.len());
     let ordering = sorted_over(alloc, instance, &input, limit, turn)?;

@@ -2,7 +2,7 @@
 
 ghost use Rattle.std.specs.Prelude.{◌≡◌, ◌↔◌, ◌-◌, ◌^◌, ◌<◌, ◌≤◌, IfOk, IsTrue, Ok, OnOk, length};
 ghost use Rattle.wd_eval.specs.ClassIndexes.{AreEmptyOrUnserved, AreClassIndexes, IsEmptyAt};
-ghost use Rattle.wd_eval.specs.Ties.{AreAllPut, IsPutEmpty, IsTiedWindow};
+ghost use Rattle.wd_eval.specs.Ties.{AreAllPut, IsPutEmpty, IsStableWindow};
 ghost use Rattle.wd_eval.specs.Walks.{IsAt, IsWindowStep};
 ghost use Rattle.wd_eval.specs.Windows.{AreFew, IsExtendedOrUnserved, orderings_of};
 ghost use Rattle.wd_nodes.specs.Relation.{relation_of};
@@ -115,7 +115,7 @@ fn sorted_window(
 ) -> Result<Relation, OutOfMemory>
     requires few { AreFew (2 ^ 32 - 1) (relation_of (instance_of instance.now) input) }
     requires named { NamesClasses (window_of window.now) }
-    ensures { IfOk result (λ o. IsTiedWindow (window_of window.now) (relation_of (instance_of instance.now) input) turned (orderings_of made.old.items) (orderings_of made.new.items) (relation_of (instance_of instance.now) o)) }
+    ensures { IfOk result (λ o. IsStableWindow (window_of window.now) (relation_of (instance_of instance.now) input) turned (orderings_of made.old.items) (orderings_of made.new.items) (relation_of (instance_of instance.now) o)) }
 {
     match input {
         Relation::ByColumn(columns) => sorted_by_column(alloc, window, columns, turned, made),
@@ -137,7 +137,7 @@ fn sorted_by_column(
 ) -> Result<Relation, OutOfMemory>
     requires few { length columns < 2 ^ 32 }
     requires named { NamesClasses (window_of window.now) }
-    ensures { IfOk result (λ o. (instance : Instance) → IsTiedWindow (window_of window.now) (Ok columns) turned (orderings_of made.old.items) (orderings_of made.new.items) (relation_of instance o)) }
+    ensures { IfOk result (λ o. (instance : Instance) → IsStableWindow (window_of window.now) (Ok columns) turned (orderings_of made.old.items) (orderings_of made.new.items) (relation_of instance o)) }
 {
     let indexes = put_sorted(
         alloc,
@@ -162,7 +162,7 @@ fn sorted_rows(
 ) -> Result<Outcome, OutOfMemory>
     requires few { AreFew (2 ^ 32 - 1) (outcome_of input) }
     requires named { NamesClasses (window_of window.now) }
-    ensures { IfOk result (λ o. IsTiedWindow (window_of window.now) (outcome_of input) turned (orderings_of made.old.items) (orderings_of made.new.items) (outcome_of o)) }
+    ensures { IfOk result (λ o. IsStableWindow (window_of window.now) (outcome_of input) turned (orderings_of made.old.items) (orderings_of made.new.items) (outcome_of o)) }
 {
     match input {
         Outcome::Fault(fault) => {

@@ -6,7 +6,7 @@ use Rattle.wd_plan.specs.Plans.{PlanTree, ordering_count}
 use Rattle.wd_eval.specs.Tied.{IsTurnedTooLarge, IsValidTurnedChoice}
 use Rattle.wd_partition.specs.declared.turn.Turn.{Turn}
 use Rattle.wd_seek.specs.Evaluations.{AllPass, IsTooLargeAt, Passes, flip_of, most_evaluations, turned_at}
-use Rattle.wd_seek.specs.Probed.{IsFirst, IsTiedOutcome}
+use Rattle.wd_seek.specs.Probed.{IsFirst, IsStableOutcome}
 
 below_or_at : (k n : ℕ) → k < n + 1 → (k < n) ⊎ (k ≡ n)
 below_or_at zero zero h = inr refl
@@ -41,7 +41,7 @@ first_passes turn plan instance o first = all_pass_more turn plan instance 0 (no
 next_flip : (turn : Turn) (k : ℕ) → flip_of turn (k + 1) ≡ Some (turned_at turn k)
 next_flip turn k = let e : k + 1 ≡ suc k = omega arith in subst (λ n. flip_of turn n ≡ Some (turned_at turn k)) (sym e) refl
 
-pub next_passes : (turn : Turn) (plan : PlanTree) (instance : Instance) (o other : RowsOrFault) (k : ℕ) (choice : List (List ℕ)) → IsFirst plan instance o → IsTiedOutcome plan instance (Some (turned_at turn k)) choice other → Agree o other → Passes turn plan instance (k + 1)
+pub next_passes : (turn : Turn) (plan : PlanTree) (instance : Instance) (o other : RowsOrFault) (k : ℕ) (choice : List (List ℕ)) → IsFirst plan instance o → IsStableOutcome plan instance (Some (turned_at turn k)) choice other → Agree o other → Passes turn plan instance (k + 1)
 next_passes turn plan instance o other k choice first tied agree = record {
   first = first.choice;
   choice = choice;

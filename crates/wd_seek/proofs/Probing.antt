@@ -9,7 +9,7 @@ use Rattle.wd_eval.specs.Tied.{IsTurnedTooLarge}
 use Rattle.wd_partition.specs.declared.turn.Turn.{Turn}
 use Rattle.wd_seek.specs.Evaluations.{AllPass, IsTooLargeAt, evaluations, most_evaluations}
 use Rattle.wd_seek.specs.Search.{FindsNothing, FindsTwo}
-use Rattle.wd_seek.specs.Probed.{IsOther, IsTiedOutcome, ShowNoOther}
+use Rattle.wd_seek.specs.Probed.{IsOther, IsStableOutcome, ShowNoOther}
 use Rattle.wd_seek.proofs.Passing.{none_pass}
 
 -- no evaluation is left
@@ -79,7 +79,7 @@ no_other turn plan instance o start end h = by h.2
     }
 
 -- one of them differs from the first
-pub another : (turn : Turn) (plan : PlanTree) (instance : Instance) (start end : ℕ) (o : RowsOrFault) (first : List (List ℕ)) (second : Choice) → IsTiedOutcome plan instance None first o
+pub another : (turn : Turn) (plan : PlanTree) (instance : Instance) (start end : ℕ) (o : RowsOrFault) (first : List (List ℕ)) (second : Choice) → IsStableOutcome plan instance None first o
     → IsOther turn plan instance o (start + 1) end (Some second) → FindsTwo turn plan (instance ∷ []) start end instance first (orderings_of second.orderings.items)
 another turn plan instance start end o first second tied h = record {
   before = [];

@@ -14,19 +14,19 @@ use Rattle.wd_seek.specs.declared.evaluated.Evaluated.{Evaluated}
 use Rattle.wd_seek.specs.declared.probed.Pair.{Pair}
 
 -- the outcome under a choice that keeps tied rows in their order, or turns an ordering
-pub record IsTiedOutcome (plan : PlanTree) (instance : Instance) (turned : Option Turned) (choice : List (List ℕ)) (o : RowsOrFault) : Type 0 where
+pub record IsStableOutcome (plan : PlanTree) (instance : Instance) (turned : Option Turned) (choice : List (List ℕ)) (o : RowsOrFault) : Type 0 where
   pub valid : IsValidTurnedChoice plan instance turned choice
   pub is : o ≡ outcome plan instance choice
 
 -- an evaluation returns such a choice and the outcome under it, or nothing where a step is too large
 abbrev pub IsEvaluated : PlanTree → Instance → Option Turned → Option Evaluated → Type 0
 IsEvaluated plan instance turned None = IsTurnedTooLarge plan instance turned
-IsEvaluated plan instance turned (Some e) = IsTiedOutcome plan instance turned (orderings_of e.choice.orderings.items) e.outcome
+IsEvaluated plan instance turned (Some e) = IsStableOutcome plan instance turned (orderings_of e.choice.orderings.items) e.outcome
 
 -- the outcome is that of the first evaluation
 pub record IsFirst (plan : PlanTree) (instance : Instance) (o : RowsOrFault) : Type 0 where
   pub choice : List (List ℕ)
-  pub tied : IsTiedOutcome plan instance None choice o
+  pub tied : IsStableOutcome plan instance None choice o
 
 -- the given number of evaluations after the first show nothing: all were made, the last one had a step that is too large, or the most
 -- evaluations were made

@@ -8,7 +8,7 @@ ghost use Rattle.wd_seek.specs.Probed.{IsEvaluated};
 ghost use Rattle.wd_value.specs.Rows.{instance_of};
 
 use std::alloc::Global;
-use wd_eval::{EvalError, TiedOutcome, Turned, eval_turned};
+use wd_eval::{EvalError, StableOutcome, Turned, eval_turned};
 use wd_plan::{Choice, Plan};
 use wd_refute::SortedOutcome;
 use wd_schema::Schema;
@@ -33,7 +33,7 @@ pub(crate) fn evaluate(
     ensures { IfOk result (IsEvaluated (plan_of plan.now) (instance_of instance.now.items) turned) }
 {
     match eval_turned(alloc, plan, schema, instance, turned) {
-        Ok(TiedOutcome { choice, outcome }) => {
+        Ok(StableOutcome { choice, outcome }) => {
             let outcome = SortedOutcome::new(alloc, outcome)?;
             Ok(Some(Evaluated { choice, outcome }))
         }

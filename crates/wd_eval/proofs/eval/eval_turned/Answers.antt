@@ -7,10 +7,10 @@ use Rattle.wd_plan.specs.Plans.{plan_of}
 use Rattle.wd_plan.specs.Outcomes.{outcome_of}
 use Rattle.wd_eval.specs.Windows.{orderings_of}
 use Rattle.wd_nodes.specs.Relation.{relation_of}
-use Rattle.wd_eval.specs.Ties.{IsTied, IsUntied}
+use Rattle.wd_eval.specs.Ties.{IsUnderStable, IsUntied}
 use Rattle.wd_nodes.proofs.Held.{same_for_some, same_held}
 use Rattle.wd_eval.proofs.SomeTied.{refused_from}
-use Rattle.wd_eval.proofs.Tying.{tied_outcome, tied_valid}
+use Rattle.wd_eval.proofs.Tying.{stable_outcome, tied_valid}
 use Rattle.wd_eval.proofs.Walks.{to_untied}
 use Rattle.wd_eval.proofs.eval.eval_turned.Goals as goal
 
@@ -38,10 +38,10 @@ returns c =
     let new = orderings_of c.evaluate.new.made.items in
     let o = c.in_ok-outcome.outcome in
     let walked = (c.in_ok-evaluated.ensures own (same_held plan own)).ok in
-    let tied = subst (λ old. IsTied plan own own c.args.turned (orderings_of old) new e.outcome) c.new-orderings.ensures.items walked.1 in
-    let here = subst (λ is. IsTied plan (instance_of is) (instance_of is) c.args.turned [] new e.outcome) c.deref.ensures.value tied in
+    let tied = subst (λ old. IsUnderStable plan own own c.args.turned (orderings_of old) new e.outcome) c.new-orderings.ensures.items walked.1 in
+    let here = subst (λ is. IsUnderStable plan (instance_of is) (instance_of is) c.args.turned [] new e.outcome) c.deref.ensures.value tied in
     let is = subst (λ is. outcome_of o ≡ relation_of (instance_of is) e.outcome) c.deref-2.ensures.value c.in_ok-outcome.ensures in
     record {
-      ok = record { choice = tied_valid plan instance instance c.args.turned new e.outcome here; is = (tied_outcome plan instance instance c.args.turned new e.outcome here (outcome_of o) is).is };
+      ok = record { choice = tied_valid plan instance instance c.args.turned new e.outcome here; is = (stable_outcome plan instance instance c.args.turned new e.outcome here (outcome_of o) is).is };
       refused = tt;
     }

@@ -7,9 +7,9 @@ use Rattle.wd_plan.specs.Plans.{plan_of}
 use Rattle.wd_eval.specs.Windows.{orderings_of}
 use Rattle.wd_nodes.specs.Held.{IsHeld}
 use Rattle.wd_nodes.specs.Relation.{relation_of}
-use Rattle.wd_eval.specs.Ties.{IsTied}
+use Rattle.wd_eval.specs.Ties.{IsUnderStable}
 use Rattle.wd_eval.proofs.SomeTied.{refused_from}
-use Rattle.wd_eval.proofs.Tying.{tied_outcome, tied_valid}
+use Rattle.wd_eval.proofs.Tying.{stable_outcome, tied_valid}
 use Rattle.wd_eval.proofs.Walks.{to_untied}
 use Rattle.wd_eval.proofs.eval.run_columns.Goals as goal
 
@@ -42,11 +42,11 @@ returns c =
     let new = orderings_of c.evaluate.new.made.items in
     let o = c.in_ok-answer.answer in
     let walked = (c.in_ok-evaluated.ensures instance held).ok in
-    let tied = subst (λ old. IsTied plan tables instance None (orderings_of old) new e.outcome) c.new-orderings.ensures.items walked.1 in
-    let here = subst (λ ts. IsTied plan (instance_of ts) instance None [] new e.outcome) c.deref.ensures.value tied in
+    let tied = subst (λ old. IsUnderStable plan tables instance None (orderings_of old) new e.outcome) c.new-orderings.ensures.items walked.1 in
+    let here = subst (λ ts. IsUnderStable plan (instance_of ts) instance None [] new e.outcome) c.deref.ensures.value tied in
     let is = subst (λ ts. o ≡ relation_of (instance_of ts) e.outcome) c.deref-2.ensures.value c.in_ok-answer.ensures in
     let left = instance_of c.in_ok-others.others.items in
     record {
-      ok = record { choice = new; tied = (tied_valid plan left instance None new e.outcome here).tied; outcome = tied_outcome plan left instance None new e.outcome here o is };
+      ok = record { choice = new; tied = (tied_valid plan left instance None new e.outcome here).tied; outcome = stable_outcome plan left instance None new e.outcome here o is };
       refused = tt;
     }

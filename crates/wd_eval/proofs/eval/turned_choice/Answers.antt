@@ -6,7 +6,7 @@ use Rattle.wd_value.specs.Rows.{instance_of}
 use Rattle.wd_plan.specs.Plans.{plan_of}
 use Rattle.wd_eval.specs.Windows.{orderings_of}
 use Rattle.wd_eval.specs.Tied.{IsValidTurnedChoice}
-use Rattle.wd_eval.specs.Ties.{IsTied, IsUntied}
+use Rattle.wd_eval.specs.Ties.{IsUnderStable, IsUntied}
 use Rattle.wd_nodes.proofs.Held.{same_for_some, same_held}
 use Rattle.wd_eval.proofs.SomeTied.{refused_from}
 use Rattle.wd_eval.proofs.Tying.{tied_valid}
@@ -35,5 +35,5 @@ returns c =
     let e = c.in_ok-evaluate.field-0 in
     let new = orderings_of c.evaluate.new.made.items in
     let walked = (c.in_ok-evaluate.ensures own (same_held plan own)).ok in
-    let tied = subst (λ old. IsTied plan own own c.args.turned (orderings_of old) new e.outcome) c.new-orderings.ensures.items walked.1 in
+    let tied = subst (λ old. IsUnderStable plan own own c.args.turned (orderings_of old) new e.outcome) c.new-orderings.ensures.items walked.1 in
     record { ok = subst (λ i. IsValidTurnedChoice plan i c.args.turned new) (ap instance_of c.deref.ensures.value) (tied_valid plan own own c.args.turned new e.outcome tied); refused = tt }

@@ -1,5 +1,0 @@
-use Rattle.wd_eval.proofs.SomeTied as laws
-use Rattle.wd_eval.proofs.laws.has_tied_choice.Goals as goal
-
-pub returns : goal.returns
-returns c = laws.has_tied_choice
