@@ -22,7 +22,7 @@ use Rattle.wd_analyse.specs.Evidence.{Closing, IsClosing, trace_by}
 use Rattle.wd_analyse.specs.Kept.{kept_fact}
 use Rattle.wd_analyse.proofs.Valid.{IsClaim}
 use Rattle.wd_analyse.proofs.Keeps.{keep_passes, kept_are}
-use Rattle.wd_analyse.proofs.RulesPass.{all_among, none_missing, window_passes}
+use Rattle.wd_analyse.proofs.RulesPass.{all_among, evidence, none_missing, window_passes}
 use Rattle.wd_analyse.proofs.Traces.{are_traced, each_reached, shown}
 
 pub map_append : {X Y : Type 0} (f : X → Y) (xs ys : List X) → map f (xs ++ ys) ≡ map f xs ++ map f ys
@@ -49,7 +49,7 @@ module _ (node : ℕ) (facts : FactList) (plan : PlanTree) (kept others : List C
   abbrev all : List Traced
   all = map (shown node facts) (kept ++ others)
 
-  pub entry_passes : rules_refusal node facts all plan (entry_by (width plan) kept others calls limit) ≡ None → entry_refusal node facts plan (entry_by (width plan) kept others calls limit) ≡ None
+  pub entry_passes : rules_refusal (evidence node facts all) plan (entry_by (width plan) kept others calls limit) ≡ None → entry_refusal node facts plan (entry_by (width plan) kept others calls limit) ≡ None
   entry_passes rules =
       let entry = entry_by (width plan) kept others calls limit in
       let traced = are_traced node facts (kept ++ others) (all_append (IsClosing facts) kept others (are_closings facts (width plan) kept claims) closings) in

@@ -117,7 +117,7 @@ module _ (node : ℕ) (facts : FactList) (width : ℕ) where
       both_pass (list_all (is_target width) (map target_of (kept_members width c))) (list_all (λ d. nat_lt d width) (once c.from) && reaches_each facts (shown node facts c).has (map member_of (map target_of (kept_members width c)))) (OutOfRange node) (UnreachedClaim node)
       (are_targets width (kept_members width c) plain) (λ i. once_all (λ d. nat_lt d width) c.from is.low i && reach i)
 
-  pub keep_passes : (all : List Traced) (n : ℕ) (cs : List Closing) (rest : List Traced) → AllByRecursion (IsClaim facts width) cs → drop n all ≡ map (shown node facts) cs ++ rest → keep_refusal node facts width all (keep_by width n cs) ≡ None
+  pub keep_passes : (all : List Traced) (n : ℕ) (cs : List Closing) (rest : List Traced) → AllByRecursion (IsClaim facts width) cs → drop n all ≡ map (shown node facts) cs ++ rest → keep_refusal (record { node = node; facts = facts; shown = all }) width (keep_by width n cs) ≡ None
   keep_passes all n [] rest a e = refl
   keep_passes all n (c ∷ cs) rest a e =
       let here = dropped_get all n (shown node facts c) (map (shown node facts) cs ++ rest) e in

@@ -11,7 +11,7 @@ use Rattle.wd_facts.specs.Laws.{AreOfChildren, ArePlain}
 use Rattle.wd_rules.specs.Lists.{final_limit, goes_by_keys}
 use Rattle.wd_rules.specs.Validity.{entry_at, top_number}
 use Rattle.wd_analyse.specs.Evidence.{IsClosing}
-use Rattle.wd_analyse.specs.Findings.{AreFindings, Finding, IsOfLimit, entries_in, entry_by_keys, facts_kept, lacking}
+use Rattle.wd_analyse.specs.Findings.{AreFindings, Finding, IsOfLimit, PlanFindings, entries_in, entry_by_keys, facts_kept, in_postorder, lacking}
 use Rattle.wd_analyse.specs.Lists.{IsLack, IsLackOf, KeysComeFirst}
 use Rattle.wd_analyse.proofs.Postorder.{at_end, at_front, top_low}
 use Rattle.wd_analyse.proofs.Sound.{are_analysed, entries_more}
@@ -52,37 +52,39 @@ module _ (tables : List TableRule) where
   -- what two analyses say that a Limit lacks is one thing
   lack_same : (limit : LimitRule) (input : PlanTree) (o p : Option ℕ) → IsLackOf tables limit input o → IsLackOf tables limit input p → o ≡ p
   lack_same limit input o p a b =
-      let under = are_same tables input 0 a.before b.before a.child b.child a.below b.below in
-      let kept : facts_kept input a.child ≡ facts_kept input b.child = told_facts input a.child b.child under.1 in
-      let facts = given tables (Limit limit input) (facts_kept input a.child) [] in
+      let under = are_same tables input 0 a.found b.found a.are b.are in
+      let kept : facts_kept input a.found.top ≡ facts_kept input b.found.top = told_facts input a.found.top b.found.top under.1 in
+      let facts = given tables (Limit limit input) (facts_kept input a.found.top) [] in
       let there : IsClosing facts b.keys = subst (λ k. IsClosing (given tables (Limit limit input) k []) b.keys) (sym kept) b.closing in
       sym a.is ∙ ap (lacking (width input)) (closing_same facts a.keys b.keys a.closing there (a.columns ∙ sym b.columns)) ∙ b.is
 
-  long : (plan : PlanTree) (before : List Finding) (top : Finding) → AreFindings tables plan 0 before top → length (entries_in (before ++ top ∷ [])) ≡ node_count plan
-  long plan before top a = let all = (are_analysed tables plan [] [] before top a).long in omega (arith, all)
+  long : (plan : PlanTree) (found : PlanFindings) → AreFindings tables plan 0 found → length (entries_in (in_postorder found)) ≡ node_count plan
+  long plan found a = let all = (are_analysed tables plan [] [] found a).long in omega (arith, all)
 
-  keys_first : (plan : PlanTree) (before : List Finding) (top : Finding) (o : Option ℕ) → AreFindings tables plan 0 before top → IsLack tables plan o → is_some (final_limit plan 0) ≡ true
-      → is_some o ≡ not (goes_by_keys (entries_in (before ++ top ∷ [])) (final_limit plan 0))
-  keys_first (Scan table columns) before top o a l t = absurd (false≢true t)
-  keys_first (Join condition left right) before top o a l t = absurd (false≢true t)
-  keys_first (Filter condition input) before top o a l t = absurd (false≢true t)
-  keys_first (Map outputs input) before top o a l t =
-      let inner = entries_in (a.deeper ++ a.child ∷ []) in
-      let number = long input a.deeper a.child a.below in
-      let all : entries_in (before ++ top ∷ []) ≡ inner ++ top.entry ∷ [] = ap (λ b. entries_in (b ++ top ∷ [])) a.are ∙ entries_more [] (a.deeper ++ a.child ∷ []) top in
-      keys_first input a.deeper a.child o a.below l t
+  keys_first : (plan : PlanTree) (found : PlanFindings) (o : Option ℕ) → AreFindings tables plan 0 found → IsLack tables plan o → is_some (final_limit plan 0) ≡ true
+      → is_some o ≡ not (goes_by_keys (entries_in (in_postorder found)) (final_limit plan 0))
+  keys_first (Scan table columns) found o a l t = absurd (false≢true t)
+  keys_first (Join condition left right) found o a l t = absurd (false≢true t)
+  keys_first (Filter condition input) found o a l t = absurd (false≢true t)
+  keys_first (Map outputs input) found o a l t =
+      let top = found.top in
+      let inner = entries_in (in_postorder a.0) in
+      let number = long input a.0 a.1 in
+      let all : entries_in (in_postorder found) ≡ inner ++ top.entry ∷ [] = ap (λ b. entries_in (b ++ top ∷ [])) a.2.before ∙ entries_more [] (in_postorder a.0) top in
+      keys_first input a.0 o a.1 l t
       ∙ ap not (sym (keys_front inner (top.entry ∷ []) (final_limit input 0) (λ n e. let low = final_low input 0 n e in omega (arith, low, number))))
       ∙ ap (λ ns. not (goes_by_keys ns (final_limit input 0))) (sym all)
-  keys_first (Window w input) before top o a l t = absurd (false≢true t)
-  keys_first (Distinct input) before top o a l t = absurd (false≢true t)
-  keys_first (Group g input) before top o a l t = absurd (false≢true t)
-  keys_first (Limit limit input) before top o a l t =
-      let inner = entries_in (a.deeper ++ a.child ∷ []) in
-      let number = long input a.deeper a.child a.below in
-      let all : entries_in (before ++ top ∷ []) ≡ inner ++ top.entry ∷ [] = ap (λ b. entries_in (b ++ top ∷ [])) a.are ∙ entries_more [] (a.deeper ++ a.child ∷ []) top in
-      let last : entry_at (entries_in (before ++ top ∷ [])) (top_number (Limit limit input) 0) ≡ top.entry = ap (λ ns. entry_at ns (top_number (Limit limit input) 0)) all ∙ at_end inner top.entry (top_number (Limit limit input) 0) (omega (arith, number)) in
-      let said = a.finding.said in
-      let own : IsLackOf tables limit input (lacking (width input) said.keys) = record { before = a.deeper; child = a.child; below = a.below; keys = said.keys; closing = said.closing; columns = said.columns; is = refl } in
+  keys_first (Window w input) found o a l t = absurd (false≢true t)
+  keys_first (Distinct input) found o a l t = absurd (false≢true t)
+  keys_first (Group g input) found o a l t = absurd (false≢true t)
+  keys_first (Limit limit input) found o a l t =
+      let top = found.top in
+      let inner = entries_in (in_postorder a.0) in
+      let number = long input a.0 a.1 in
+      let all : entries_in (in_postorder found) ≡ inner ++ top.entry ∷ [] = ap (λ b. entries_in (b ++ top ∷ [])) a.2.before ∙ entries_more [] (in_postorder a.0) top in
+      let last : entry_at (entries_in (in_postorder found)) (top_number (Limit limit input) 0) ≡ top.entry = ap (λ ns. entry_at ns (top_number (Limit limit input) 0)) all ∙ at_end inner top.entry (top_number (Limit limit input) 0) (omega (arith, number)) in
+      let said = a.2.finding.said in
+      let own : IsLackOf tables limit input (lacking (width input) said.keys) = record { found = a.0; are = a.1; keys = said.keys; closing = said.closing; columns = said.columns; is = refl } in
       ap is_some (lack_same limit input o (lacking (width input) said.keys) l own)
       ∙ entry_keys _ limit input _ top said (lacking (width input) said.keys) refl
       ∙ ap (λ (e : NodeRecord). not (is_some e.limit)) (sym last)
@@ -90,7 +92,7 @@ module _ (tables : List TableRule) where
 pub keys_come_first : KeysComeFirst
 keys_come_first tables plan certificate o answer l t =
     let exact = answer.exact in
-    keys_first tables plan exact.before exact.top o exact.are l t
+    keys_first tables plan exact.found o exact.are l t
     ∙ ap (λ ns. not (goes_by_keys ns (final_limit plan 0))) (sym exact.tells.1)
 
 -- the given facts of a Limit over an input that keeps plain facts can be closed

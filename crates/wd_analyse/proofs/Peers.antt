@@ -10,12 +10,12 @@ use Rattle.wd_plan.specs.Settled.{is_by_peers}
 use Rattle.wd_plan.specs.Sorting.{class_columns}
 use Rattle.wd_plan.specs.declared.window.Call.{Call}
 use Rattle.wd_plan.proofs.Ranges.{names_classes}
-use Rattle.wd_step_facts.specs.Facts.{FactList}
+use Rattle.wd_step_facts.specs.Facts.{Fact, FactList}
 use Rattle.wd_rules.specs.Rules.{is_whole_or_ties}
 use Rattle.wd_analyse.specs.declared.analysis.Analysis.TheVariants.{Certified, Open}
 use Rattle.wd_analyse.specs.Decisions.{decide_of, decided_calls, next_exchange}
 use Rattle.wd_analyse.specs.Evidence.{Closing}
-use Rattle.wd_analyse.specs.Findings.{AreFindings, Finding, IsOfLimit, IsOfWindow, OverOne, lacking, reason_of, reasons_by_keys, reasons_in, reasons_of}
+use Rattle.wd_analyse.specs.Findings.{AreFindings, Finding, IsFoundOver, IsOfLimit, IsOfWindow, PlanFindings, facts_kept, in_postorder, lacking, reason_of, reasons_by_keys, reasons_in, reasons_of}
 use Rattle.wd_analyse.proofs.Sound.{reasons_more}
 use Rattle.wd_analyse.specs.Peers.{GoByPeers, PeersAreCertified}
 
@@ -63,29 +63,25 @@ module _ (facts : FactList) (node : ℕ) (f : Finding) where
 -- ---- a plan
 
 module _ (tables : List TableRule) where
-  of_one : (plan input : PlanTree) (first : ℕ) (before : List Finding) (top : Finding) (over : OverOne tables plan input first (AreFindings tables input first) before top)
-      → reasons_in (over.deeper ++ over.child ∷ []) ≡ [] → top.reasons ≡ [] → reasons_in (before ++ top ∷ []) ≡ []
-  of_one plan input first before top over below own = behind before top (ap reasons_in over.are ∙ below) own
+  of_one : (plan : PlanTree) (first : ℕ) (inner found : PlanFindings) (kept : List Fact) → IsFoundOver tables plan first (in_postorder inner) kept [] found
+      → reasons_in (in_postorder inner) ≡ [] → found.top.reasons ≡ [] → reasons_in (in_postorder found) ≡ []
+  of_one plan first inner found kept over below own = behind found.below found.top (ap reasons_in over.before ∙ below) own
 
-  no_reasons : (plan : PlanTree) (first : ℕ) (before : List Finding) (top : Finding) → EachNamesClasses plan → GoByPeers plan → AreFindings tables plan first before top → reasons_in (before ++ top ∷ []) ≡ []
-  no_reasons (Scan table columns) first before top names peers are = behind before top (ap reasons_in are.0) are.1.said.reasons
-  no_reasons (Join condition left right) first before top names peers over =
-      let l = no_reasons left first over.deeper over.child names.0 peers.0 over.on_left in
-      let r = no_reasons right (first + length (over.deeper ++ over.child ∷ [])) over.beside over.other names.1 peers.1 over.on_right in
-      behind before top (ap reasons_in over.are ∙ reasons_append (over.deeper ++ over.child ∷ []) (over.beside ++ over.other ∷ []) ∙ (λ i. l i ++ r i)) over.finding.said.reasons
-  no_reasons (Filter condition input) first before top names peers over = of_one (Filter condition input) input first before top over (no_reasons input first over.deeper over.child names peers over.below) over.finding.said.reasons
-  no_reasons (Map outputs input) first before top names peers over = of_one (Map outputs input) input first before top over (no_reasons input first over.deeper over.child names peers over.below) over.finding.said.reasons
-  no_reasons (Window w input) first before top names peers over =
-      of_one (Window w input) input first before top over (no_reasons input first over.deeper over.child names.0 peers.0 over.below)
-      (of_window _ _ top w input names.1 peers.1 over.finding.said)
-  no_reasons (Distinct input) first before top names peers over = of_one (Distinct input) input first before top over (no_reasons input first over.deeper over.child names peers over.below) over.finding.said.reasons
-  no_reasons (Group g input) first before top names peers over = of_one (Group g input) input first before top over (no_reasons input first over.deeper over.child names.0 peers over.below) over.finding.said.reasons
-  no_reasons (Limit limit input) first before top names peers over =
-      of_one (Limit limit input) input first before top over (no_reasons input first over.deeper over.child names peers.0 over.below)
-      (of_limit _ _ top limit input peers.1 over.finding.said)
+  no_reasons : (plan : PlanTree) (first : ℕ) (found : PlanFindings) → EachNamesClasses plan → GoByPeers plan → AreFindings tables plan first found → reasons_in (in_postorder found) ≡ []
+  no_reasons (Scan table columns) first found names peers a = behind found.below found.top (ap reasons_in a.0) a.1.said.reasons
+  no_reasons (Join condition left right) first found names peers a =
+      let l = no_reasons left first a.0 names.0 peers.0 a.2 in
+      let r = no_reasons right (first + length (in_postorder a.0)) a.1 names.1 peers.1 a.3 in
+      behind found.below found.top (ap reasons_in a.4.before ∙ reasons_append (in_postorder a.0) (in_postorder a.1) ∙ (λ i. l i ++ r i)) a.4.finding.said.reasons
+  no_reasons (Filter condition input) first found names peers a = of_one (Filter condition input) first a.0 found (facts_kept input a.0.top) a.2 (no_reasons input first a.0 names peers a.1) a.2.finding.said.reasons
+  no_reasons (Map outputs input) first found names peers a = of_one (Map outputs input) first a.0 found (facts_kept input a.0.top) a.2 (no_reasons input first a.0 names peers a.1) a.2.finding.said.reasons
+  no_reasons (Window w input) first found names peers a = of_one (Window w input) first a.0 found (facts_kept input a.0.top) a.2 (no_reasons input first a.0 names.0 peers.0 a.1) (of_window _ _ found.top w input names.1 peers.1 a.2.finding.said)
+  no_reasons (Distinct input) first found names peers a = of_one (Distinct input) first a.0 found (facts_kept input a.0.top) a.2 (no_reasons input first a.0 names peers a.1) a.2.finding.said.reasons
+  no_reasons (Group g input) first found names peers a = of_one (Group g input) first a.0 found (facts_kept input a.0.top) a.2 (no_reasons input first a.0 names.0 peers a.1) a.2.finding.said.reasons
+  no_reasons (Limit limit input) first found names peers a = of_one (Limit limit input) first a.0 found (facts_kept input a.0.top) a.2 (no_reasons input first a.0 names peers.0 a.1) (of_limit _ _ found.top limit input peers.1 a.2.finding.said)
 
 pub peers_are_certified : PeersAreCertified
 peers_are_certified tables plan (Certified certificate) fit peers answer = tt
 peers_are_certified tables plan (Open reasons marks) fit peers answer =
     let x = answer.exact in
-    x.tells.0 (x.tells.1 ∙ no_reasons tables plan 0 x.before x.top (names_classes tables plan fit) peers x.are)
+    x.tells.0 (x.tells.1 ∙ no_reasons tables plan 0 x.found (names_classes tables plan fit) peers x.are)

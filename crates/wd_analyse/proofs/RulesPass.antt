@@ -17,7 +17,7 @@ use Rattle.wd_step_facts.specs.declared.facts.Member.TheVariants as member
 use Rattle.wd_step_facts.specs.Facts.{FactList, columns_named}
 use Rattle.wd_step_facts.specs.Steps.{all_columns}
 use Rattle.wd_sets.specs.Sets.{is_in}
-use Rattle.wd_rules.specs.Rules.{call_refusal, calls_refusal, exchange_class, exchange_only, has_one_exchange, is_exchange, or_else, refuse_unless, refuse_unless_shown, shows, shows_column, shows_value, taken_column, window_refusal}
+use Rattle.wd_rules.specs.Rules.{EvidenceRecord, call_refusal, calls_refusal, exchange_class, exchange_only, has_one_exchange, is_exchange, or_else, refuse_unless, refuse_unless_shown, shows, shows_column, shows_value, taken_column, window_refusal}
 use Rattle.wd_rules.specs.Traces.{Traced}
 use Rattle.wd_analyse.specs.Decisions.{all_by, by_exchange, decide, decide_of, decided_calls, gives_all, gives_value, has_taken, is_by, lack_of, missing_of, next_exchange, rules_in, with_rule}
 use Rattle.wd_analyse.specs.declared.decided.Decided.{Decided}
@@ -72,9 +72,13 @@ from_at (x ∷ cs) (y ∷ classes) (suc i) c e f = from_at cs classes i c (let g
 
 -- ---- a call
 
+-- what the traces of closings show
+abbrev pub evidence : ℕ → FactList → List Traced → EvidenceRecord
+evidence node facts all = record { node = node; facts = facts; shown = all }
+
 module _ (node : ℕ) (facts : FactList) (columns : ℕ) (all : List Traced) where
   abbrev Passes : ℕ → (X : List ℕ) → Call → Rule → Type 0
-  Passes n X call r = call_refusal node facts columns all (is_in X) call r ≡ None
+  Passes n X call r = call_refusal (evidence node facts all) columns (is_in X) call r ≡ None
 
   module _ (c : Closing) (is : IsClosing facts c) (n : ℕ) (there : slice_get all n ≡ Some (shown node facts c)) (call : Call) where
     refused_not : (refusal : CertError) (test : Traced → Bool) → test (shown node facts c) ≡ true → refuse_unless_shown node refusal test (slice_get all n) ≡ None
@@ -141,19 +145,19 @@ of_class (Some c) n columns k call r e x = decided_class c.has n columns k call 
 -- ---- all calls of a Window
 
 module _ (node : ℕ) (facts : FactList) (columns : ℕ) (all : List Traced) (w : WindowRule) (cs : List Closing) (first : ℕ) (closings : AllByRecursion (IsClosing facts) cs) (froms : map (λ (c : Closing). c.from) cs ≡ map class_columns w.classes) (there : (i : ℕ) (c : Closing) → slice_get cs i ≡ Some c → slice_get all (first + i) ≡ Some (shown node facts c)) where
-  one_passes : (o : Option Closing) (exchange : Option ℕ) (call : Call) (r : Rule) → slice_get cs call.class ≡ o → decide_of o (first + call.class) columns exchange call ≡ By r → call_refusal node facts columns all (is_in (class_columns (class_at w call.class))) call r ≡ None
+  one_passes : (o : Option Closing) (exchange : Option ℕ) (call : Call) (r : Rule) → slice_get cs call.class ≡ o → decide_of o (first + call.class) columns exchange call ≡ By r → call_refusal (evidence node facts all) columns (is_in (class_columns (class_at w call.class))) call r ≡ None
   one_passes None exchange call r e f = cc
   one_passes (Some c) exchange call r e f =
-      subst (λ X. call_refusal node facts columns all (is_in X) call r ≡ None) (from_at cs w.classes call.class c froms e)
+      subst (λ X. call_refusal (evidence node facts all) columns (is_in X) call r ≡ None) (from_at cs w.classes call.class c froms e)
       (decided_passes node facts columns all c (all_at (IsClosing facts) cs call.class c closings e) (first + call.class) (there call.class c e) call exchange r f)
 
-  calls_step : (exchange : Option ℕ) (call : Call) (calls : List Call) (d : Decided) (rest : List Decided) → decide_of (slice_get cs call.class) (first + call.class) columns exchange call ≡ d → (is_by d && all_by rest) ≡ true → (all_by rest ≡ true → calls_refusal node facts columns all w calls (rules_in rest) ≡ None) → calls_refusal node facts columns all w (call ∷ calls) (with_rule d (rules_in rest)) ≡ None
+  calls_step : (exchange : Option ℕ) (call : Call) (calls : List Call) (d : Decided) (rest : List Decided) → decide_of (slice_get cs call.class) (first + call.class) columns exchange call ≡ d → (is_by d && all_by rest) ≡ true → (all_by rest ≡ true → calls_refusal (evidence node facts all) columns w calls (rules_in rest) ≡ None) → calls_refusal (evidence node facts all) columns w (call ∷ calls) (with_rule d (rules_in rest)) ≡ None
   calls_step exchange call calls (By r) rest is e later =
       let own = one_passes (slice_get cs call.class) exchange call r refl is in
       λ i. or_else (own i) (later e i)
   calls_step exchange call calls (Open lacking) rest is e later = absurd (false≢true e)
 
-  pub calls_pass : (exchange : Option ℕ) (calls : List Call) → all_by (decided_calls cs first columns exchange calls) ≡ true → calls_refusal node facts columns all w calls (rules_in (decided_calls cs first columns exchange calls)) ≡ None
+  pub calls_pass : (exchange : Option ℕ) (calls : List Call) → all_by (decided_calls cs first columns exchange calls) ≡ true → calls_refusal (evidence node facts all) columns w calls (rules_in (decided_calls cs first columns exchange calls)) ≡ None
   calls_pass exchange [] e = refl
   calls_pass exchange (call ∷ calls) e =
       let d = decide_of (slice_get cs call.class) (first + call.class) columns exchange call in
@@ -189,7 +193,7 @@ module _ (node : ℕ) (facts : FactList) (columns : ℕ) (all : List Traced) (w 
       class_step exchange call calls d (decided_calls cs first columns (next_exchange exchange call.class d) calls) refl e (one_class (next_exchange exchange call.class d) calls)
 
   -- where each call has a rule, the rules are not refused
-  pub window_passes : all_by (decided_calls cs first columns None w.calls) ≡ true → window_refusal node facts columns all w (rules_in (decided_calls cs first columns None w.calls)) ≡ None
+  pub window_passes : all_by (decided_calls cs first columns None w.calls) ≡ true → window_refusal (evidence node facts all) columns w (rules_in (decided_calls cs first columns None w.calls)) ≡ None
   window_passes e =
       let calls = calls_pass None w.calls e in
       let one = one_class None w.calls e in

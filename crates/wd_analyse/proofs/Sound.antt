@@ -14,7 +14,7 @@ use Rattle.wd_rules.specs.Rules.{is_whole_or_ties}
 use Rattle.wd_analyse.specs.declared.analysis.Mark.{Mark}
 use Rattle.wd_analyse.specs.declared.analysis.Reason.{Reason}
 use Rattle.wd_analyse.specs.Entry.{entry_by}
-use Rattle.wd_analyse.specs.Findings.{AreFindings, Finding, IsBare, IsFinding, IsOfLimit, IsSaid, OverOne, OverTwo, entries_in, entry_by_keys, facts_kept, lacking, limit_reason, marks_in, reasons_by_keys, reasons_in}
+use Rattle.wd_analyse.specs.Findings.{AreFindings, Finding, IsBare, IsFinding, IsFoundOver, IsOfLimit, IsSaid, PlanFindings, entries_in, entry_by_keys, facts_kept, in_postorder, lacking, limit_reason, marks_in, reasons_by_keys, reasons_in}
 use Rattle.wd_analyse.specs.Sources.{sources}
 use Rattle.wd_analyse.specs.Steps.{is_without_rules}
 use Rattle.wd_analyse.proofs.Claims.{are_claims, sources_low}
@@ -87,61 +87,64 @@ module _ (tables : List TableRule) where
 
   -- ---- a plan
 
-  abbrev Analysed : PlanTree → List NodeRecord → List Reason → List Finding → Finding → Type 0
-  Analysed plan old r before top = IsAnalysed tables plan old (old ++ entries_in (before ++ top ∷ [])) r (r ++ reasons_in (before ++ top ∷ [])) (facts_kept plan top)
+  abbrev Analysed : PlanTree → List NodeRecord → List Reason → PlanFindings → Type 0
+  Analysed plan old r found = IsAnalysed tables plan old (old ++ entries_in (in_postorder found)) r (r ++ reasons_in (in_postorder found)) (facts_kept plan found.top)
 
   module _ (old : List NodeRecord) (r : List Reason) (before : List Finding) (top : Finding) where
     -- behind the findings of the inputs
-    behind : (plan : PlanTree) → IsAnalysed tables plan old ((old ++ entries_in before) ++ top.entry ∷ []) r ((r ++ reasons_in before) ++ top.reasons) (facts_kept plan top) → Analysed plan old r before top
-    behind plan a =
-        subst (λ n. IsAnalysed tables plan old n r (r ++ reasons_in (before ++ top ∷ [])) (facts_kept plan top)) (sym (entries_more old before top))
-        (subst (λ m. IsAnalysed tables plan old ((old ++ entries_in before) ++ top.entry ∷ []) r m (facts_kept plan top)) (sym (reasons_more r before top)) a)
+    behind : (plan : PlanTree) (below : List Finding) → below ≡ before → IsAnalysed tables plan old ((old ++ entries_in before) ++ top.entry ∷ []) r ((r ++ reasons_in before) ++ top.reasons) (facts_kept plan top) → Analysed plan old r (record { below = below; top = top })
+    behind plan below is a =
+        subst (λ b. Analysed plan old r (record { below = b; top = top })) (sym is)
+        (subst (λ n. IsAnalysed tables plan old n r (r ++ reasons_in (before ++ top ∷ [])) (facts_kept plan top)) (sym (entries_more old before top))
+        (subst (λ m. IsAnalysed tables plan old ((old ++ entries_in before) ++ top.entry ∷ []) r m (facts_kept plan top)) (sym (reasons_more r before top)) a))
 
-  none_below : (old : List NodeRecord) (r : List Reason) (before : List Finding) (top : Finding) (table columns : ℕ) → before ≡ [] → IsFinding tables (Scan table columns) [] [] (length old) top → Analysed (Scan table columns) old r before top
-  none_below old r before top table columns none is =
-      subst (λ b. Analysed (Scan table columns) old r b top) (sym none)
+  none_below : (old : List NodeRecord) (r : List Reason) (found : PlanFindings) (table columns : ℕ) → found.below ≡ [] → IsFinding tables (Scan table columns) [] [] (length old) found.top → Analysed (Scan table columns) old r found
+  none_below old r found table columns none is =
+      let top = found.top in
+      subst (λ b. Analysed (Scan table columns) old r (record { below = b; top = top })) (sym none)
       (subst (λ m. IsAnalysed tables (Scan table columns) old (old ++ top.entry ∷ []) r (r ++ m) (facts_kept (Scan table columns) top)) (sym (append-nil top.reasons))
       (scan_found tables (Scan table columns) table columns [] [] old (old ++ top.entry ∷ []) r (r ++ top.reasons) (facts_kept (Scan table columns) top) refl refl refl
       (top_is (Scan table columns) [] [] (length old) top old r tt refl is)))
 
-  one_below : (old : List NodeRecord) (r : List Reason) (before : List Finding) (top : Finding) (plan input : PlanTree) → child plan ≡ input → is_over_one plan ≡ true → ((kept : List Fact) → ArePlain (width input) kept → AreOfChildren plan kept [])
-      → (o : OverOne tables plan input (length old) (AreFindings tables input (length old)) before top) → Analysed input old r o.deeper o.child → Analysed plan old r before top
-  one_below old r before top plan input is one children o a =
-      let all = o.deeper ++ o.child ∷ [] in
-      let number : length old + length before ≡ length (old ++ entries_in all) = ap (λ l. length old + length l) o.are ∙ sym (entries_long old all) in
-      subst (λ b. Analysed plan old r b top) (sym o.are)
-      (behind old r all top plan
-      (one_found tables plan input (facts_kept input o.child) [] (facts_kept input o.child) old (old ++ entries_in all) ((old ++ entries_in all) ++ top.entry ∷ []) r (r ++ reasons_in all) ((r ++ reasons_in all) ++ top.reasons) (facts_kept plan top) is one refl refl a
-      (top_is plan (facts_kept input o.child) [] (length old + length before) top (old ++ entries_in all) (r ++ reasons_in all) (children (facts_kept input o.child) a.plain) number o.finding)))
+  one_below : (old : List NodeRecord) (r : List Reason) (found inner : PlanFindings) (plan input : PlanTree) → child plan ≡ input → is_over_one plan ≡ true → ((kept : List Fact) → ArePlain (width input) kept → AreOfChildren plan kept [])
+      → IsFoundOver tables plan (length old) (in_postorder inner) (facts_kept input inner.top) [] found → Analysed input old r inner → Analysed plan old r found
+  one_below old r found inner plan input is one children o a =
+      let top = found.top in
+      let all = in_postorder inner in
+      let kept = facts_kept input inner.top in
+      behind old r all top plan found.below o.before
+      (one_found tables plan input kept [] kept old (old ++ entries_in all) ((old ++ entries_in all) ++ top.entry ∷ []) r (r ++ reasons_in all) ((r ++ reasons_in all) ++ top.reasons) (facts_kept plan top) is one refl refl a
+      (top_is plan kept [] (length old + length all) top (old ++ entries_in all) (r ++ reasons_in all) (children kept a.plain) (sym (entries_long old all)) o.finding))
 
-  two_below : (old : List NodeRecord) (r : List Reason) (before : List Finding) (top : Finding) (condition : Option Expression) (left right : PlanTree)
-      → (o : OverTwo tables (Join condition left right) left right (length old) (AreFindings tables left (length old)) (λ n. AreFindings tables right n) before top)
-      → Analysed left old r o.deeper o.child → Analysed right (old ++ entries_in (o.deeper ++ o.child ∷ [])) (r ++ reasons_in (o.deeper ++ o.child ∷ [])) o.beside o.other → Analysed (Join condition left right) old r before top
-  two_below old r before top condition left right o a b =
+  two_below : (old : List NodeRecord) (r : List Reason) (found on_left on_right : PlanFindings) (condition : Option Expression) (left right : PlanTree)
+      → IsFoundOver tables (Join condition left right) (length old) (in_postorder on_left ++ in_postorder on_right) (facts_kept left on_left.top) (facts_kept right on_right.top) found
+      → Analysed left old r on_left → Analysed right (old ++ entries_in (in_postorder on_left)) (r ++ reasons_in (in_postorder on_left)) on_right → Analysed (Join condition left right) old r found
+  two_below old r found on_left on_right condition left right o a b =
       let plan = Join condition left right in
-      let first = o.deeper ++ o.child ∷ [] in
-      let second = o.beside ++ o.other ∷ [] in
+      let top = found.top in
+      let first = in_postorder on_left in
+      let second = in_postorder on_right in
+      let kept = facts_kept left on_left.top in
+      let more = facts_kept right on_right.top in
       let mid = old ++ entries_in first in
       let r1 = r ++ reasons_in first in
       let late : mid ++ entries_in second ≡ old ++ entries_in (first ++ second) = append_assoc old (entries_in first) (entries_in second) ∙ ap (λ l. old ++ l) (sym (map-append (λ (f : Finding). f.entry) first second)) in
       let r2 : r1 ++ reasons_in second ≡ r ++ reasons_in (first ++ second) = append_assoc r (reasons_in first) (reasons_in second) ∙ ap (λ l. r ++ l) (sym (flat_map-append (λ (f : Finding). f.reasons) first second)) in
-      let c : IsAnalysed tables right mid (old ++ entries_in (first ++ second)) r1 (r ++ reasons_in (first ++ second)) (facts_kept right o.other) =
-      subst (λ n. IsAnalysed tables right mid n r1 (r ++ reasons_in (first ++ second)) (facts_kept right o.other)) late (subst (λ m. IsAnalysed tables right mid (mid ++ entries_in second) r1 m (facts_kept right o.other)) r2 b) in
-      let number : length old + length before ≡ length (old ++ entries_in (first ++ second)) = ap (λ l. length old + length l) o.are ∙ sym (entries_long old (first ++ second)) in
-      subst (λ b. Analysed plan old r b top) (sym o.are)
-      (behind old r (first ++ second) top plan
-      (both_found tables plan left right condition (facts_kept left o.child) (facts_kept right o.other) (facts_kept left o.child) (facts_kept right o.other) old mid (old ++ entries_in (first ++ second)) ((old ++ entries_in (first ++ second)) ++ top.entry ∷ []) r r1 (r ++ reasons_in (first ++ second)) ((r ++ reasons_in (first ++ second)) ++ top.reasons) (facts_kept plan top) refl refl refl a c
-      (top_is plan (facts_kept left o.child) (facts_kept right o.other) (length old + length before) top (old ++ entries_in (first ++ second)) (r ++ reasons_in (first ++ second)) (a.plain, b.plain) number o.finding)))
+      let c : IsAnalysed tables right mid (old ++ entries_in (first ++ second)) r1 (r ++ reasons_in (first ++ second)) more =
+      subst (λ n. IsAnalysed tables right mid n r1 (r ++ reasons_in (first ++ second)) more) late (subst (λ m. IsAnalysed tables right mid (mid ++ entries_in second) r1 m more) r2 b) in
+      behind old r (first ++ second) top plan found.below o.before
+      (both_found tables plan left right condition kept more kept more old mid (old ++ entries_in (first ++ second)) ((old ++ entries_in (first ++ second)) ++ top.entry ∷ []) r r1 (r ++ reasons_in (first ++ second)) ((r ++ reasons_in (first ++ second)) ++ top.reasons) (facts_kept plan top) refl refl refl a c
+      (top_is plan kept more (length old + length (first ++ second)) top (old ++ entries_in (first ++ second)) (r ++ reasons_in (first ++ second)) (a.plain, b.plain) (sym (entries_long old (first ++ second))) o.finding))
 
-  pub are_analysed : (plan : PlanTree) (old : List NodeRecord) (r : List Reason) (before : List Finding) (top : Finding) → AreFindings tables plan (length old) before top → Analysed plan old r before top
-  are_analysed (Scan table columns) old r before top a = none_below old r before top table columns a.0 a.1
-  are_analysed (Join condition left right) old r before top o =
-      let first = o.deeper ++ o.child ∷ [] in
-      two_below old r before top condition left right o (are_analysed left old r o.deeper o.child o.on_left)
-      (are_analysed right (old ++ entries_in first) (r ++ reasons_in first) o.beside o.other (subst (λ n. AreFindings tables right n o.beside o.other) (sym (entries_long old first)) o.on_right))
-  are_analysed (Filter condition input) old r before top o = one_below old r before top (Filter condition input) input refl refl (λ kept p. p) o (are_analysed input old r o.deeper o.child o.below)
-  are_analysed (Map outputs input) old r before top o = one_below old r before top (Map outputs input) input refl refl (λ kept p. p) o (are_analysed input old r o.deeper o.child o.below)
-  are_analysed (Window w input) old r before top o = one_below old r before top (Window w input) input refl refl (λ kept p. p) o (are_analysed input old r o.deeper o.child o.below)
-  are_analysed (Group g input) old r before top o = one_below old r before top (Group g input) input refl refl (λ kept p. p) o (are_analysed input old r o.deeper o.child o.below)
-  are_analysed (Distinct input) old r before top o = one_below old r before top (Distinct input) input refl refl (λ kept p. p) o (are_analysed input old r o.deeper o.child o.below)
-  are_analysed (Limit limit input) old r before top o = one_below old r before top (Limit limit input) input refl refl (λ kept p. p) o (are_analysed input old r o.deeper o.child o.below)
+  pub are_analysed : (plan : PlanTree) (old : List NodeRecord) (r : List Reason) (found : PlanFindings) → AreFindings tables plan (length old) found → Analysed plan old r found
+  are_analysed (Scan table columns) old r found a = none_below old r found table columns a.0 a.1
+  are_analysed (Join condition left right) old r found a =
+      let first = in_postorder a.0 in
+      two_below old r found a.0 a.1 condition left right a.4 (are_analysed left old r a.0 a.2)
+      (are_analysed right (old ++ entries_in first) (r ++ reasons_in first) a.1 (subst (λ n. AreFindings tables right n a.1) (sym (entries_long old first)) a.3))
+  are_analysed (Filter condition input) old r found a = one_below old r found a.0 (Filter condition input) input refl refl (λ kept p. p) a.2 (are_analysed input old r a.0 a.1)
+  are_analysed (Map outputs input) old r found a = one_below old r found a.0 (Map outputs input) input refl refl (λ kept p. p) a.2 (are_analysed input old r a.0 a.1)
+  are_analysed (Window w input) old r found a = one_below old r found a.0 (Window w input) input refl refl (λ kept p. p) a.2 (are_analysed input old r a.0 a.1)
+  are_analysed (Group g input) old r found a = one_below old r found a.0 (Group g input) input refl refl (λ kept p. p) a.2 (are_analysed input old r a.0 a.1)
+  are_analysed (Distinct input) old r found a = one_below old r found a.0 (Distinct input) input refl refl (λ kept p. p) a.2 (are_analysed input old r a.0 a.1)
+  are_analysed (Limit limit input) old r found a = one_below old r found a.0 (Limit limit input) input refl refl (λ kept p. p) a.2 (are_analysed input old r a.0 a.1)

@@ -19,7 +19,7 @@ use Rattle.wd_analyse.specs.Analysis.{Tells}
 use Rattle.wd_analyse.specs.Decisions.{decide_of, decided_calls, next_exchange, rules_in}
 use Rattle.wd_analyse.specs.Entry.{entry_by}
 use Rattle.wd_analyse.specs.Evidence.{Closing, IsClosing, trace_by}
-use Rattle.wd_analyse.specs.Findings.{AreFindings, Finding, IsBare, IsFinding, IsOfLimit, IsOfWindow, IsSaid, OverOne, decided_at, entries_in, entry_by_keys, facts_kept, lacking, marks_by_keys, marks_in, marks_of, reasons_by_keys, reasons_in, reasons_of}
+use Rattle.wd_analyse.specs.Findings.{AreFindings, Finding, IsBare, IsFinding, IsFoundOver, IsOfLimit, IsOfWindow, IsSaid, PlanFindings, decided_at, entries_in, entry_by_keys, facts_kept, in_postorder, lacking, marks_by_keys, marks_in, marks_of, reasons_by_keys, reasons_in, reasons_of}
 use Rattle.wd_analyse.specs.Kept.{keep_by, kept_fact}
 use Rattle.wd_analyse.specs.Sources.{AreClosings, Keeps, gives_some, sources, starts}
 
@@ -215,34 +215,45 @@ module _ (tables : List TableRule) where
       let facts = given tables plan kept more in
       said_same facts node f g (claims_same facts (width plan) (sources plan facts.list kept more) f.claims g.claims p.keeps r.keeps) plan p.said r.said
 
-  abbrev pub Same : PlanTree → ℕ → Type 0
-  Same plan first = (fs gs : List Finding) (f g : Finding) → AreFindings tables plan first fs f → AreFindings tables plan first gs g → (map told fs ≡ map told gs) × (told f ≡ told g)
+  abbrev pub Same : PlanFindings → PlanFindings → Type 0
+  Same f g = (map told f.below ≡ map told g.below) × (told f.top ≡ told g.top)
 
-  over_one : (plan input : PlanTree) (first : ℕ) (fs gs : List Finding) (f g : Finding) → Same input first → OverOne tables plan input first (AreFindings tables input first) fs f → OverOne tables plan input first (AreFindings tables input first) gs g → (map told fs ≡ map told gs) × (told f ≡ told g)
-  over_one plan input first fs gs f g below a b =
-      let under = below a.deeper b.deeper a.child b.child a.below b.below in
-      let before : map told fs ≡ map told gs = ap (map told) a.are ∙ more_told a.deeper b.deeper a.child b.child under.0 under.1 ∙ ap (map told) (sym b.are) in
-      (before, finding_same plan (facts_kept input a.child) [] (facts_kept input b.child) [] (first + length fs) (first + length gs) f g (told_facts input a.child b.child under.1) refl (ap (λ n. first + n) (told_long fs gs before)) a.finding b.finding)
+  same_listed : (f g : PlanFindings) → Same f g → map told (in_postorder f) ≡ map told (in_postorder g)
+  same_listed f g s = more_told f.below g.below f.top g.top s.0 s.1
 
-  pub are_same : (plan : PlanTree) (first : ℕ) → Same plan first
-  are_same (Scan table columns) first fs gs f g a b = (ap (map told) (a.0 ∙ sym b.0), finding_same (Scan table columns) [] [] [] [] first first f g refl refl refl a.1 b.1)
-  are_same (Join condition left right) first fs gs f g a b =
-      let under = are_same left first a.deeper b.deeper a.child b.child a.on_left b.on_left in
-      let front = more_told a.deeper b.deeper a.child b.child under.0 under.1 in
-      let next : first + length (b.deeper ++ b.child ∷ []) ≡ first + length (a.deeper ++ a.child ∷ []) = ap (λ n. first + n) (sym (told_long (a.deeper ++ a.child ∷ []) (b.deeper ++ b.child ∷ []) front)) in
-      let beside = are_same right (first + length (a.deeper ++ a.child ∷ [])) a.beside b.beside a.other b.other a.on_right (subst (λ n. AreFindings tables right n b.beside b.other) next b.on_right) in
-      let back = more_told a.beside b.beside a.other b.other beside.0 beside.1 in
-      let before : map told fs ≡ map told gs =
-      ap (map told) a.are ∙ map-append told (a.deeper ++ a.child ∷ []) (a.beside ++ a.other ∷ []) ∙ (λ i. front i ++ back i) ∙ sym (map-append told (b.deeper ++ b.child ∷ []) (b.beside ++ b.other ∷ [])) ∙ ap (map told) (sym b.are) in (
-        before,
-        finding_same (Join condition left right) (facts_kept left a.child) (facts_kept right a.other) (facts_kept left b.child) (facts_kept right b.other) (first + length fs) (first + length gs) f g (told_facts left a.child b.child under.1) (told_facts right a.other b.other beside.1) (ap (λ n. first + n) (told_long fs gs before)) a.finding b.finding,
-      )
-  are_same (Filter condition input) first fs gs f g a b = over_one (Filter condition input) input first fs gs f g (are_same input first) a b
-  are_same (Map outputs input) first fs gs f g a b = over_one (Map outputs input) input first fs gs f g (are_same input first) a b
-  are_same (Window w input) first fs gs f g a b = over_one (Window w input) input first fs gs f g (are_same input first) a b
-  are_same (Group rule input) first fs gs f g a b = over_one (Group rule input) input first fs gs f g (are_same input first) a b
-  are_same (Distinct input) first fs gs f g a b = over_one (Distinct input) input first fs gs f g (are_same input first) a b
-  are_same (Limit limit input) first fs gs f g a b = over_one (Limit limit input) input first fs gs f g (are_same input first) a b
+  -- over findings that are the same
+  over_same : (plan : PlanTree) (first : ℕ) (fs gs : List Finding) (kept more kept' more' : List Fact) (f g : PlanFindings) → map told fs ≡ map told gs → kept ≡ kept' → more ≡ more'
+      → IsFoundOver tables plan first fs kept more f → IsFoundOver tables plan first gs kept' more' g → Same f g
+  over_same plan first fs gs kept more kept' more' f g e k m a b = (
+    ap (map told) a.before ∙ e ∙ ap (map told) (sym b.before),
+    finding_same plan kept more kept' more' (first + length fs) (first + length gs) f.top g.top k m (ap (λ n. first + n) (told_long fs gs e)) a.finding b.finding,
+  )
+
+  abbrev IsOne : PlanTree → ℕ → Type 0
+  IsOne plan first = (f g : PlanFindings) → AreFindings tables plan first f → AreFindings tables plan first g → Same f g
+
+  over_one : (plan input : PlanTree) (first : ℕ) (inner other f g : PlanFindings) → Same inner other
+      → IsFoundOver tables plan first (in_postorder inner) (facts_kept input inner.top) [] f → IsFoundOver tables plan first (in_postorder other) (facts_kept input other.top) [] g → Same f g
+  over_one plan input first inner other f g s a b =
+      over_same plan first (in_postorder inner) (in_postorder other) (facts_kept input inner.top) [] (facts_kept input other.top) [] f g (same_listed inner other s) (told_facts input inner.top other.top s.1) refl a b
+
+  pub are_same : (plan : PlanTree) (first : ℕ) → IsOne plan first
+  are_same (Scan table columns) first f g a b = (ap (map told) (a.0 ∙ sym b.0), finding_same (Scan table columns) [] [] [] [] first first f.top g.top refl refl refl a.1 b.1)
+  are_same (Join condition left right) first f g a b =
+      let under = are_same left first a.0 b.0 a.2 b.2 in
+      let front = same_listed a.0 b.0 under in
+      let next : first + length (in_postorder b.0) ≡ first + length (in_postorder a.0) = ap (λ n. first + n) (sym (told_long (in_postorder a.0) (in_postorder b.0) front)) in
+      let beside = are_same right (first + length (in_postorder a.0)) a.1 b.1 a.3 (subst (λ n. AreFindings tables right n b.1) next b.3) in
+      let back = same_listed a.1 b.1 beside in
+      let all = map-append told (in_postorder a.0) (in_postorder a.1) ∙ (λ i. front i ++ back i) ∙ sym (map-append told (in_postorder b.0) (in_postorder b.1)) in
+      over_same (Join condition left right) first (in_postorder a.0 ++ in_postorder a.1) (in_postorder b.0 ++ in_postorder b.1) (facts_kept left a.0.top) (facts_kept right a.1.top) (facts_kept left b.0.top) (facts_kept right b.1.top) f g
+      all (told_facts left a.0.top b.0.top under.1) (told_facts right a.1.top b.1.top beside.1) a.4 b.4
+  are_same (Filter condition input) first f g a b = over_one (Filter condition input) input first a.0 b.0 f g (are_same input first a.0 b.0 a.1 b.1) a.2 b.2
+  are_same (Map outputs input) first f g a b = over_one (Map outputs input) input first a.0 b.0 f g (are_same input first a.0 b.0 a.1 b.1) a.2 b.2
+  are_same (Window w input) first f g a b = over_one (Window w input) input first a.0 b.0 f g (are_same input first a.0 b.0 a.1 b.1) a.2 b.2
+  are_same (Group rule input) first f g a b = over_one (Group rule input) input first a.0 b.0 f g (are_same input first a.0 b.0 a.1 b.1) a.2 b.2
+  are_same (Distinct input) first f g a b = over_one (Distinct input) input first a.0 b.0 f g (are_same input first a.0 b.0 a.1 b.1) a.2 b.2
+  are_same (Limit limit input) first f g a b = over_one (Limit limit input) input first a.0 b.0 f g (are_same input first a.0 b.0 a.1 b.1) a.2 b.2
 
 -- ---- answers
 
@@ -276,5 +287,5 @@ alike plan (Open reasons marks) (Open others other_marks) fs gs e p q = (p.1 ∙
 
 pub answers_alike : AnswersAreAlike
 answers_alike tables plan a b p q =
-    let same = are_same tables plan 0 p.exact.before q.exact.before p.exact.top q.exact.top p.exact.are q.exact.are in
-    alike plan a b (p.exact.before ++ p.exact.top ∷ []) (q.exact.before ++ q.exact.top ∷ []) (more_told p.exact.before q.exact.before p.exact.top q.exact.top same.0 same.1) p.exact.tells q.exact.tells
+    let same = are_same tables plan 0 p.exact.found q.exact.found p.exact.are q.exact.are in
+    alike plan a b (in_postorder p.exact.found) (in_postorder q.exact.found) (same_listed tables p.exact.found q.exact.found same) p.exact.tells q.exact.tells

@@ -1,12 +1,12 @@
 -- What the analysis of a plan answers.
-use Rattle.std.specs.Prelude.{◌≡◌, ◌≢◌, [], ◌∷◌, ◌++◌, List}
+use Rattle.std.specs.Prelude.{◌≡◌, ◌≢◌, [], List}
 use Rattle.wd_schema.specs.Tables.{TableRule}
 use Rattle.wd_plan.specs.Plans.{PlanTree}
 use Rattle.wd_certificate.specs.Certificates.{certificate_of, nodes_of}
 use Rattle.wd_rules.specs.Validity.{IsValidCertificate, version_needed}
 use Rattle.wd_analyse.specs.declared.analysis.Analysis.{Analysis}
 use Rattle.wd_analyse.specs.declared.analysis.Analysis.TheVariants.{Certified, Open}
-use Rattle.wd_analyse.specs.Findings.{AreFindings, Finding, entries_in, marks_in, reasons_in}
+use Rattle.wd_analyse.specs.Findings.{AreFindings, Finding, PlanFindings, entries_in, in_postorder, marks_in, reasons_in}
 
 -- a certificate that is valid, or at least one reason
 abbrev pub IsSound : List TableRule → PlanTree → Analysis → Type 0
@@ -20,10 +20,9 @@ Tells plan fs (Open reasons marks) = (reasons.items ≢ []) × (reasons.items �
 
 -- the analysis tells what is found at the plan's nodes
 pub record IsExact (tables : List TableRule) (plan : PlanTree) (analysis : Analysis) : Type 0 where
-  pub before : List Finding
-  pub top : Finding
-  pub are : AreFindings tables plan 0 before top
-  pub tells : Tells plan (before ++ top ∷ []) analysis
+  pub found : PlanFindings
+  pub are : AreFindings tables plan 0 found
+  pub tells : Tells plan (in_postorder found) analysis
 
 pub record IsAnswer (tables : List TableRule) (plan : PlanTree) (analysis : Analysis) : Type 0 where
   pub sound : IsSound tables plan analysis

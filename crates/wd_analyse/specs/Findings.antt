@@ -136,36 +136,39 @@ pub record IsFinding (tables : List TableRule) (plan : PlanTree) (kept more : Li
 abbrev pub facts_kept : PlanTree → Finding → List Fact
 facts_kept plan f = map (kept_fact (width plan)) f.claims
 
--- the findings of a plan over an input: those of the input come before
-pub record OverOne (tables : List TableRule) (plan input : PlanTree) (first : ℕ) (Below : List Finding → Finding → Type 0) (before : List Finding) (top : Finding) : Type 0 where
-  pub deeper : List Finding
-  pub child : Finding
-  pub below : Below deeper child
-  pub are : before ≡ deeper ++ child ∷ []
-  pub finding : IsFinding tables plan (facts_kept input child) [] (first + length before) top
+-- what is found at a plan's nodes in postorder: at those below its top node, and there
+pub record PlanFindings : Type 0 where
+  pub below : List Finding
+  pub top : Finding
 
--- the findings of a Join: those of the left side, then those of the right one, then its own
-pub record OverTwo (tables : List TableRule) (plan left right : PlanTree) (first : ℕ) (OfLeft : List Finding → Finding → Type 0) (OfRight : ℕ → List Finding → Finding → Type 0) (before : List Finding) (top : Finding) : Type 0 where
-  pub deeper : List Finding
-  pub child : Finding
-  pub beside : List Finding
-  pub other : Finding
-  pub on_left : OfLeft deeper child
-  pub on_right : OfRight (first + length (deeper ++ child ∷ [])) beside other
-  pub are : before ≡ (deeper ++ child ∷ []) ++ (beside ++ other ∷ [])
-  pub finding : IsFinding tables plan (facts_kept left child) (facts_kept right other) (first + length before) top
+abbrev pub in_postorder : PlanFindings → List Finding
+in_postorder found = found.below ++ found.top ∷ []
 
--- what is found at a plan's nodes in postorder, where the first has this number
-abbrev pub AreFindings : List TableRule → PlanTree → ℕ → List Finding → Finding → Type 0
-AreFindings tables (Scan table columns) first before top = (before ≡ []) × IsFinding tables (Scan table columns) [] [] first top
-AreFindings tables (Join condition left right) first before top =
-    OverTwo tables (Join condition left right) left right first (AreFindings tables left first) (λ n. AreFindings tables right n) before top
-AreFindings tables (Filter condition input) first before top = OverOne tables (Filter condition input) input first (AreFindings tables input first) before top
-AreFindings tables (Map outputs input) first before top = OverOne tables (Map outputs input) input first (AreFindings tables input first) before top
-AreFindings tables (Window w input) first before top = OverOne tables (Window w input) input first (AreFindings tables input first) before top
-AreFindings tables (Group g input) first before top = OverOne tables (Group g input) input first (AreFindings tables input first) before top
-AreFindings tables (Distinct input) first before top = OverOne tables (Distinct input) input first (AreFindings tables input first) before top
-AreFindings tables (Limit limit input) first before top = OverOne tables (Limit limit input) input first (AreFindings tables input first) before top
+-- these are found below a plan's top node, and then what is found there, over what its children keep
+pub record IsFoundOver (tables : List TableRule) (plan : PlanTree) (first : ℕ) (below : List Finding) (kept more : List Fact) (found : PlanFindings) : Type 0 where
+  pub before : found.below ≡ below
+  pub finding : IsFinding tables plan kept more (first + length below) found.top
+
+-- what is found at a plan's nodes, where the first has this number: at those of its inputs, the left one first, then at its top node
+abbrev pub AreFindings : List TableRule → PlanTree → ℕ → PlanFindings → Type 0
+AreFindings tables (Scan table columns) first found = (found.below ≡ []) × IsFinding tables (Scan table columns) [] [] first found.top
+AreFindings tables (Join condition left right) first found =
+    (on_left on_right : PlanFindings)
+    × AreFindings tables left first on_left
+    × AreFindings tables right (first + length (in_postorder on_left)) on_right
+    × IsFoundOver tables (Join condition left right) first (in_postorder on_left ++ in_postorder on_right) (facts_kept left on_left.top) (facts_kept right on_right.top) found
+AreFindings tables (Filter condition input) first found =
+    (inner : PlanFindings) × AreFindings tables input first inner × IsFoundOver tables (Filter condition input) first (in_postorder inner) (facts_kept input inner.top) [] found
+AreFindings tables (Map outputs input) first found =
+    (inner : PlanFindings) × AreFindings tables input first inner × IsFoundOver tables (Map outputs input) first (in_postorder inner) (facts_kept input inner.top) [] found
+AreFindings tables (Window w input) first found =
+    (inner : PlanFindings) × AreFindings tables input first inner × IsFoundOver tables (Window w input) first (in_postorder inner) (facts_kept input inner.top) [] found
+AreFindings tables (Group g input) first found =
+    (inner : PlanFindings) × AreFindings tables input first inner × IsFoundOver tables (Group g input) first (in_postorder inner) (facts_kept input inner.top) [] found
+AreFindings tables (Distinct input) first found =
+    (inner : PlanFindings) × AreFindings tables input first inner × IsFoundOver tables (Distinct input) first (in_postorder inner) (facts_kept input inner.top) [] found
+AreFindings tables (Limit limit input) first found =
+    (inner : PlanFindings) × AreFindings tables input first inner × IsFoundOver tables (Limit limit input) first (in_postorder inner) (facts_kept input inner.top) [] found
 
 abbrev pub entries_in : List Finding → List NodeRecord
 entries_in fs = map (λ (f : Finding). f.entry) fs

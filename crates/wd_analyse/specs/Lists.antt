@@ -3,7 +3,7 @@ use Rattle.std.specs.Prelude.{◌≡◌, ℕ, true, not, List, [], Option, None,
 use Rattle.wd_value.specs.Keys.{key_columns}
 use Rattle.wd_schema.specs.Tables.{TableRule}
 use Rattle.wd_plan.specs.Fits.{width}
-use Rattle.wd_plan.specs.Plans.{LimitRule, PlanTree, Scan, Join, Filter, Map, Window, Distinct, Group, Limit}
+use Rattle.wd_plan.specs.Plans.{LimitRule, PlanTree, Map, Limit}
 use Rattle.wd_certificate.specs.Certificates.{nodes_of}
 use Rattle.wd_certificate.specs.declared.certificate.Certificate.{Certificate}
 use Rattle.wd_facts.specs.Given.{given}
@@ -11,28 +11,22 @@ use Rattle.wd_rules.specs.Lists.{final_limit, goes_by_keys}
 use Rattle.wd_analyse.specs.declared.analysis.Analysis.TheVariants.{Certified}
 use Rattle.wd_analyse.specs.Analysis.{IsAnswer}
 use Rattle.wd_analyse.specs.Evidence.{Closing, IsClosing}
-use Rattle.wd_analyse.specs.Findings.{AreFindings, Finding, facts_kept, lacking}
+use Rattle.wd_analyse.specs.Findings.{AreFindings, PlanFindings, facts_kept, lacking}
 
 -- the least column that the sort keys of a Limit do not determine, by the facts that its input keeps; none where they determine all
 pub record IsLackOf (tables : List TableRule) (limit : LimitRule) (input : PlanTree) (lack : Option ℕ) : Type 0 where
-  pub before : List Finding
-  pub child : Finding
-  pub below : AreFindings tables input 0 before child
+  pub found : PlanFindings
+  pub are : AreFindings tables input 0 found
   pub keys : Closing
-  pub closing : IsClosing (given tables (Limit limit input) (facts_kept input child) []) keys
+  pub closing : IsClosing (given tables (Limit limit input) (facts_kept input found.top) []) keys
   pub columns : keys.from ≡ key_columns limit.keys
   pub is : lacking (width input) keys ≡ lack
 
 -- what the sort keys of a plan's last Limit lack, the Limit that `final_limit` numbers; none where there is no such Limit
 abbrev pub IsLack : List TableRule → PlanTree → Option ℕ → Type 0
-IsLack tables (Scan table columns) lack = lack ≡ None
-IsLack tables (Join condition left right) lack = lack ≡ None
-IsLack tables (Filter condition input) lack = lack ≡ None
 IsLack tables (Map outputs input) lack = IsLack tables input lack
-IsLack tables (Window w input) lack = lack ≡ None
-IsLack tables (Distinct input) lack = lack ≡ None
-IsLack tables (Group g input) lack = lack ≡ None
 IsLack tables (Limit limit input) lack = IsLackOf tables limit input lack
+IsLack tables plan lack = lack ≡ None
 
 -- `keys` comes first: by the certificate of an analysis the last Limit goes by `keys` exactly where its sort keys lack no column
 abbrev pub KeysComeFirst : Type 0

@@ -15,7 +15,7 @@ use Rattle.wd_analyse.specs.declared.entry.Findings.{Findings}
 use Rattle.wd_analyse.specs.declared.nodes.Found.{Found}
 use Rattle.wd_close.specs.Closure.{are_named, is_split_within}
 use Rattle.wd_analyse.specs.Evidence.{Closing, IsClosing}
-use Rattle.wd_analyse.specs.Findings.{AreFindings, Finding, IsFinding, IsSaid, entries_in, facts_kept, marks_in, reasons_in}
+use Rattle.wd_analyse.specs.Findings.{AreFindings, Finding, IsFinding, IsSaid, PlanFindings, entries_in, facts_kept, in_postorder, marks_in, reasons_in}
 use Rattle.wd_analyse.specs.declared.copies.Copies.{Copies}
 use Rattle.wd_analyse.specs.declared.tried.Tried.{Tried}
 use Rattle.wd_analyse.specs.Sources.{Keeps, columns_in, gives_some, is_tried, starts}
@@ -128,11 +128,10 @@ pub record FindsTop (tables : List TableRule) (plan : PlanTree) (kept more : Lis
 
 -- what is found at a plan's nodes is appended to what was found before; the top node keeps these facts
 pub record Finds (tables : List TableRule) (plan : PlanTree) (old new : Found) (facts : List Fact) : Type 0 where
-  pub before : List Finding
-  pub top : Finding
-  pub are : AreFindings tables plan (length (entries_of old)) before top
-  pub entries : entries_of new ≡ entries_of old ++ entries_in (before ++ top ∷ [])
-  pub reasons : new.findings.reasons.items ≡ old.findings.reasons.items ++ reasons_in (before ++ top ∷ [])
-  pub marks : new.findings.marks.items ≡ old.findings.marks.items ++ marks_in (before ++ top ∷ [])
-  pub keeps : facts ≡ facts_kept plan top
+  pub found : PlanFindings
+  pub are : AreFindings tables plan (length (entries_of old)) found
+  pub entries : entries_of new ≡ entries_of old ++ entries_in (in_postorder found)
+  pub reasons : new.findings.reasons.items ≡ old.findings.reasons.items ++ reasons_in (in_postorder found)
+  pub marks : new.findings.marks.items ≡ old.findings.marks.items ++ marks_in (in_postorder found)
+  pub keeps : facts ≡ facts_kept plan found.top
   pub plain : ArePlain (width plan) facts

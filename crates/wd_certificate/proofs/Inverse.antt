@@ -110,14 +110,8 @@ refused_not bytes certificate spelled error.Shape r = absurd (r.2 (version_numbe
 refused_not bytes certificate spelled error.Version r =
     let same : r.0 ≡ version_number certificate.version = (spells_one bytes r.0 (version_number certificate.version) r.1 certificate.nodes r.2 spelled).0 in
     absurd (read_version certificate.version (λ e. r.3 (same ∙ e)) (λ e. r.4 (same ∙ e)))
-refused_not bytes certificate spelled error.Count r = absurd r
-refused_not bytes certificate spelled (error.UnreachedUse node) r = absurd r
-refused_not bytes certificate spelled (error.UnreachedClaim node) r = absurd r
-refused_not bytes certificate spelled (error.UnjustifiedCall node) r = absurd r
-refused_not bytes certificate spelled (error.SecondExchange node) r = absurd r
-refused_not bytes certificate spelled (error.UnjustifiedLimit node) r = absurd r
-refused_not bytes certificate spelled (error.OutOfRange node) r = absurd r
 refused_not bytes certificate spelled error.OutOfMemory r = refl
+refused_not bytes certificate spelled _ r = absurd r
 
 pub is_read_back : IsReadBack
 is_read_back bytes certificate spelled = (λ other h. one_record bytes other certificate h spelled, refused_not bytes certificate spelled)

@@ -41,11 +41,5 @@ abbrev pub HasCause : CertError → List ℕ → Type 0
 HasCause NotJson bytes = (d : Data) → ¬ IsJsonOf d bytes
 HasCause Shape bytes = (d : Data) × IsJsonOf d bytes × ((version : ℕ) (nodes : List NodeRecord) → d ≢ certificate_json version nodes)
 HasCause Version bytes = (version : ℕ) × (nodes : List NodeRecord) × SpellsVersion version nodes bytes × (version ≢ 1) × (version ≢ 2)
-HasCause Count bytes = ⊥
-HasCause (UnreachedUse node) bytes = ⊥
-HasCause (UnreachedClaim node) bytes = ⊥
-HasCause (UnjustifiedCall node) bytes = ⊥
-HasCause (SecondExchange node) bytes = ⊥
-HasCause (UnjustifiedLimit node) bytes = ⊥
-HasCause (OutOfRange node) bytes = ⊥
 HasCause OutOfMemory bytes = ⊤
+HasCause _ bytes = ⊥

@@ -156,12 +156,12 @@ pub open_shows_two : OpenShowsTwo
 open_shows_two tables p (Certified certificate) over answer is = absurd is
 open_shows_two tables p (Open reasons marks) over answer is =
     let x = answer.exact in
-    let o = left_open tables p x.before x.top x.are (some_reason reasons.items _ x.tells.1 x.tells.0) in
+    let o = left_open tables p x.found x.are (some_reason reasons.items _ x.tells.1 x.tells.0) in
     true_witness tables p over o.lacking
 
 pub open_is_found : OpenIsFound
 open_is_found tables p (Certified certificate) end over answer is sought = absurd is
 open_is_found tables p (Open reasons marks) end over answer is sought =
     let x = answer.exact in
-    let o = left_open tables p x.before x.top x.are (some_reason reasons.items _ x.tells.1 x.tells.0) in
+    let o = left_open tables p x.found x.are (some_reason reasons.items _ x.tells.1 x.tells.0) in
     finds tables p over o.lacking end (subst (λ rs. FindsNothing Reversed (plan_by p) (to_try tables (plan_by p) rs) 0 end) (x.tells.1 ∙ o.one) sought)

@@ -16,7 +16,7 @@ use Rattle.wd_analyse.specs.declared.analysis.Reason.{Reason}
 use Rattle.wd_analyse.specs.declared.decided.Lack.TheVariants as lack
 use Rattle.wd_analyse.specs.Decisions.{decide, gives_all, lack_of, missing_of}
 use Rattle.wd_analyse.specs.Evidence.{Closing, IsClosing}
-use Rattle.wd_analyse.specs.Findings.{AreFindings, Finding, IsFinding, IsOfWindow, decided_at, facts_kept, reasons_in, reasons_of}
+use Rattle.wd_analyse.specs.Findings.{AreFindings, Finding, IsFinding, IsOfWindow, PlanFindings, decided_at, facts_kept, in_postorder, reasons_in, reasons_of}
 use Rattle.wd_analyse.specs.Sources.{AreClosings, starts}
 use Rattle.wd_complete.specs.Plain.{PlainPlan, input_of, number_call, plan_by, window_rule}
 use Rattle.wd_complete.proofs.Reached.{scan, window_facts}
@@ -123,20 +123,24 @@ module _ (tables : List TableRule) (p : PlainPlan) (f g h : Finding) (scan_is : 
   opened_at : IsOfWindow facts (window_rule p) (input_of p) 2 h → h.reasons ≢ [] → IsLeftOpen tables p h.reasons
   opened_at w some = opened_by w.classes w.closings w.columns w.reasons some
 
-pub left_open : (tables : List TableRule) (p : PlainPlan) (before : List Finding) (top : Finding) → AreFindings tables (plan_by p) 0 before top → reasons_in (before ++ top ∷ []) ≢ [] → IsLeftOpen tables p (reasons_in (before ++ top ∷ []))
-left_open tables p before top over some =
-    let a2 = over.below in
-    let a1 = a2.below in
-    let a0 = a1.below in
-    let d1 : a2.deeper ≡ a1.child ∷ [] = a1.are ∙ ap (λ l. l ++ a1.child ∷ []) a0.0 in
-    let d2 : over.deeper ≡ a1.child ∷ a2.child ∷ [] = a2.are ∙ ap (λ l. l ++ a2.child ∷ []) d1 in
-    let d3 : before ≡ a1.child ∷ a2.child ∷ over.child ∷ [] = over.are ∙ ap (λ l. l ++ over.child ∷ []) d2 in
-    let n1 : 0 + length a2.deeper ≡ 1 = (let e : length a2.deeper ≡ 1 = ap length d1 in omega (arith, e)) in
-    let n2 : 0 + length over.deeper ≡ 2 = (let e : length over.deeper ≡ 2 = ap length d2 in omega (arith, e)) in
-    let b1 : a1.child.reasons ≡ [] = a0.1.said.reasons in
-    let b2 : a2.child.reasons ≡ [] = a1.finding.said.reasons in
-    let b3 : top.reasons ≡ [] = over.finding.said.reasons in
-    let all : reasons_in (before ++ top ∷ []) ≡ over.child.reasons = ap (λ l. reasons_in (l ++ top ∷ [])) d3 ∙ (λ i. b1 i ++ (b2 i ++ (over.child.reasons ++ (b3 i ++ [])))) ∙ append-nil over.child.reasons in
-    let map_is = subst (λ n. IsFinding tables (input_of p) (facts_kept (scan tables p) a1.child) [] n a2.child) n1 a1.finding in
-    let said = subst (λ n. IsOfWindow (window_facts tables p a2.child) (window_rule p) (input_of p) n over.child) n2 a2.finding.said in
-    subst (IsLeftOpen tables p) (sym all) (opened_at tables p a1.child a2.child over.child a0.1 map_is said (λ e. some (all ∙ e)))
+pub left_open : (tables : List TableRule) (p : PlainPlan) (found : PlanFindings) → AreFindings tables (plan_by p) 0 found → reasons_in (in_postorder found) ≢ [] → IsLeftOpen tables p (reasons_in (in_postorder found))
+left_open tables p found over some =
+    let a2 = over.1 in
+    let a1 = a2.1 in
+    let a0 = a1.1 in
+    let top = found.top in
+    let at_window = over.0.top in
+    let at_map = a2.0.top in
+    let at_scan = a1.0.top in
+    let d1 : a2.0.below ≡ at_scan ∷ [] = a1.2.before ∙ ap (λ l. l ++ at_scan ∷ []) a0.0 in
+    let d2 : over.0.below ≡ at_scan ∷ at_map ∷ [] = a2.2.before ∙ ap (λ l. l ++ at_map ∷ []) d1 in
+    let d3 : found.below ≡ at_scan ∷ at_map ∷ at_window ∷ [] = over.2.before ∙ ap (λ l. l ++ at_window ∷ []) d2 in
+    let n1 : 0 + length (in_postorder a1.0) ≡ 1 = (let e : length (in_postorder a1.0) ≡ 1 = ap length (ap (λ l. l ++ at_scan ∷ []) a0.0) in omega (arith, e)) in
+    let n2 : 0 + length (in_postorder a2.0) ≡ 2 = (let e : length (in_postorder a2.0) ≡ 2 = ap length (ap (λ l. l ++ at_map ∷ []) d1) in omega (arith, e)) in
+    let b1 : at_scan.reasons ≡ [] = a0.1.said.reasons in
+    let b2 : at_map.reasons ≡ [] = a1.2.finding.said.reasons in
+    let b3 : top.reasons ≡ [] = over.2.finding.said.reasons in
+    let all : reasons_in (in_postorder found) ≡ at_window.reasons = ap (λ l. reasons_in (l ++ top ∷ [])) d3 ∙ (λ i. b1 i ++ (b2 i ++ (at_window.reasons ++ (b3 i ++ [])))) ∙ append-nil at_window.reasons in
+    let map_is = subst (λ n. IsFinding tables (input_of p) (facts_kept (scan tables p) at_scan) [] n at_map) n1 a1.2.finding in
+    let said = subst (λ n. IsOfWindow (window_facts tables p at_map) (window_rule p) (input_of p) n at_window) n2 a2.2.finding.said in
+    subst (IsLeftOpen tables p) (sym all) (opened_at tables p at_scan at_map at_window a0.1 map_is said (λ e. some (all ∙ e)))

@@ -39,16 +39,9 @@ reason_of (Some node) (Some column) = reason.Column node column
 abbrev pub IsOfVerdict : List TableRule → Answer → Verdict → ListVerdict → Type 0
 IsOfVerdict tables read (Deterministic certificate) (list.Listed reported) = (certificate ≡ reported) × (goes_by_keys (nodes_of reported) (answer_limit read) ≡ true)
 IsOfVerdict tables read (Deterministic certificate) (list.Unlisted r) = IsListReason tables read r
-IsOfVerdict tables read (Deterministic certificate) (list.Depends witness) = ⊥
-IsOfVerdict tables read (Deterministic certificate) (list.Unknown reasons) = ⊥
-IsOfVerdict tables read (Depends found) (list.Listed reported) = ⊥
-IsOfVerdict tables read (Depends found) (list.Unlisted r) = ⊥
 IsOfVerdict tables read (Depends found) (list.Depends witness) = found ≡ witness
-IsOfVerdict tables read (Depends found) (list.Unknown reasons) = ⊥
-IsOfVerdict tables read (Unknown found) (list.Listed reported) = ⊥
-IsOfVerdict tables read (Unknown found) (list.Unlisted r) = ⊥
-IsOfVerdict tables read (Unknown found) (list.Depends witness) = ⊥
 IsOfVerdict tables read (Unknown found) (list.Unknown reasons) = found ≡ reasons
+IsOfVerdict tables read verdict listed = ⊥
 
 -- an analysis of the plan gives a verdict, and the verdict gives the verdict on the list
 pub record IsListVerdictOf (tables : List TableRule) (read : Answer) (listed : ListVerdict) : Type 0 where

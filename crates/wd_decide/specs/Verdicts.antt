@@ -35,11 +35,9 @@ EndsWith tables plan reasons found = (n : ℕ) × IsSought Reversed tables plan 
 -- the verdict that an analysis gives: its certificate; else the witness that is found against the plan, or the reasons where none is
 abbrev pub IsVerdictOf : List TableRule → PlanTree → Analysis → Verdict → Type 0
 IsVerdictOf tables plan (Certified certificate) (Deterministic reported) = certificate ≡ reported
-IsVerdictOf tables plan (Certified certificate) (Depends witness) = ⊥
-IsVerdictOf tables plan (Certified certificate) (Unknown reasons) = ⊥
-IsVerdictOf tables plan (Open found marks) (Deterministic reported) = ⊥
 IsVerdictOf tables plan (Open found marks) (Depends witness) = EndsWith tables plan found.items (Some witness)
 IsVerdictOf tables plan (Open found marks) (Unknown reasons) = (found ≡ reasons) × EndsWith tables plan found.items None
+IsVerdictOf tables plan analysis verdict = ⊥
 
 -- the verdict is that of the analysis of the plan that reads the two texts
 abbrev pub IsVerdict : List ℕ → List ℕ → Verdict → Type 0

@@ -21,9 +21,7 @@ pub record IsOutcomeUnder (plan : PlanTree) (instance : Instance) (choice : List
 
 -- why there is no outcome under a choice
 abbrev pub RefusesChoice : Refusal → PlanTree → Instance → List (List ℕ) → Type 0
-RefusesChoice (refusal.Text e) plan instance choice = ⊥
-RefusesChoice refusal.NotMet plan instance choice = ⊥
 RefusesChoice refusal.NotValid plan instance choice = ¬ IsValidChoice plan instance choice
-RefusesChoice refusal.OneAnswer plan instance choice = ⊥
 RefusesChoice refusal.TooManyRows plan instance choice = has_large_step plan instance choice ≡ true
 RefusesChoice refusal.OutOfMemory plan instance choice = ⊤
+RefusesChoice _ plan instance choice = ⊥

@@ -55,12 +55,11 @@ pub record IsOneAnswer (plan : PlanTree) (instance : Instance) (first second : L
 -- why the two choices of a witness over an instance are refused: one is not valid, or a step is too large under one, or both are valid
 -- and their outcomes agree
 abbrev pub RefusesChoices : Refusal → PlanTree → Instance → List (List ℕ) → List (List ℕ) → Type 0
-RefusesChoices (refusal.Text e) plan instance first second = ⊥
-RefusesChoices refusal.NotMet plan instance first second = ⊥
 RefusesChoices refusal.NotValid plan instance first second = ¬ IsValidChoice plan instance first ⊎ ¬ IsValidChoice plan instance second
 RefusesChoices refusal.OneAnswer plan instance first second = IsOneAnswer plan instance first second
 RefusesChoices refusal.TooManyRows plan instance first second = (has_large_step plan instance first ≡ true) ⊎ (has_large_step plan instance second ≡ true)
 RefusesChoices refusal.OutOfMemory plan instance first second = ⊤
+RefusesChoices _ plan instance first second = ⊥
 
 -- the tables of a witness meet the schema, and its choices are refused over them
 pub record MeetsAndRefuses (r : Refusal) (tables : List TableRule) (plan : PlanTree) (w : WitnessRecord) : Type 0 where

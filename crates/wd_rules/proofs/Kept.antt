@@ -13,7 +13,7 @@ use Rattle.wd_step_facts.specs.Facts.{columns_named, FactList, Paired, Same, Hol
 use Rattle.wd_facts.specs.Laws.{AreKept, ArePlain}
 use Rattle.wd_facts.proofs.Nodes.{unpaired_hold}
 use Rattle.wd_facts.proofs.Sides.{HasSides}
-use Rattle.wd_rules.specs.Rules.{claims_refusal, entry_refusal, is_target, keep_refusal, kept_fact, kept_facts, kept_refusal, member_of, refuse_unless, rules_refusal}
+use Rattle.wd_rules.specs.Rules.{EvidenceRecord, claims_refusal, entry_refusal, is_target, keep_refusal, kept_fact, kept_facts, kept_refusal, member_of, refuse_unless, rules_refusal}
 use Rattle.wd_sets.specs.Reaches.{reaches_each}
 use Rattle.wd_rules.specs.Traces.{Traced, each_traced}
 use Rattle.wd_rules.proofs.Refused.{each_passed, first_passed, later_passed, passed}
@@ -58,6 +58,9 @@ at_number P (x ∷ list) (suc i) t a e = at_number P list i t a.1 e
 -- ---- what is kept names columns of the node and the row
 
 module _ (node : ℕ) (facts : FactList) (columns : ℕ) (traces : List TraceRecord) (shown : List Traced) (are : each_traced node facts traces ≡ Ok shown) where
+  abbrev pub evidence : EvidenceRecord
+  evidence = record { node = node; facts = facts; shown = shown }
+
   pub is_plain_kept : (kept : KeptRecord) → kept_refusal node facts columns kept.to (slice_get shown kept.trace) ≡ None → is_plain_fact columns (kept_fact traces kept) ≡ true
   is_plain_kept kept e =
       let is = is_shown node facts columns kept.to (slice_get shown kept.trace) e in
@@ -65,11 +68,11 @@ module _ (node : ℕ) (facts : FactList) (columns : ℕ) (traces : List TraceRec
       let from_columns = subst (λ X. list_all (is_plain columns) (columns_named X) ≡ true) (sym from) (columns_plain columns is.trace.from is.columns_from) in
       λ i. from_columns i && targets_plain columns kept.to is.targets i
 
-  pub keeps_plain : (keep : List KeptRecord) → keep_refusal node facts columns shown keep ≡ None → ArePlain columns (map (kept_fact traces) keep)
+  pub keeps_plain : (keep : List KeptRecord) → keep_refusal evidence columns keep ≡ None → ArePlain columns (map (kept_fact traces) keep)
   keeps_plain [] e = tt
   keeps_plain (kept ∷ keep) e =
       let own = kept_refusal node facts columns kept.to (slice_get shown kept.trace) in
-      let later = keep_refusal node facts columns shown keep in
+      let later = keep_refusal evidence columns keep in
       (is_plain_kept kept (first_passed own later e), keeps_plain keep (later_passed own later e))
 
 -- what an entry that is not refused keeps
@@ -77,7 +80,9 @@ pub entry_plain : (node : ℕ) (facts : FactList) (plan : PlanTree) (entry : Nod
 entry_plain node facts plan entry e = by (each_traced node facts entry.traces) refl e
   where
     by : (shown : Result (List Traced) CertError) → each_traced node facts entry.traces ≡ shown → claims_refusal node facts plan entry shown ≡ None → ArePlain (width plan) (kept_facts entry)
-    by (Ok shown) are f = keeps_plain node facts (width plan) entry.traces shown are entry.keep (first_passed (keep_refusal node facts (width plan) shown entry.keep) (rules_refusal node facts shown plan entry) f)
+    by (Ok shown) are f =
+        let grounds = evidence node facts (width plan) entry.traces shown are in
+        keeps_plain node facts (width plan) entry.traces shown are entry.keep (first_passed (keep_refusal grounds (width plan) entry.keep) (rules_refusal grounds plan entry) f)
     by (Err refusal) are f = cc
 
 -- ---- and holds
@@ -101,7 +106,7 @@ module _ (n : Paired) (facts : FactList) (sides : HasSides n facts.split facts.c
   both (kept ∷ keep) a = let rest = both keep a.1 in ((a.0.0, rest.0), (a.0.1, rest.1))
 
   -- what is kept holds, in the positions and so in the rows
-  pub keeps : (keep : List KeptRecord) → keep_refusal node facts columns shown keep ≡ None → AreKept columns (map (kept_fact traces) keep) n.rows × AllByRecursion (Holds n) (map (kept_fact traces) keep)
+  pub keeps : (keep : List KeptRecord) → keep_refusal (evidence node facts columns traces shown are) columns keep ≡ None → AreKept columns (map (kept_fact traces) keep) n.rows × AllByRecursion (Holds n) (map (kept_fact traces) keep)
   keeps keep e =
       let is = both keep (each_passed (λ (kept : KeptRecord). kept_refusal node facts columns kept.to (slice_get shown kept.trace)) IsKept is_kept keep e) in
       (record { named = is.0; hold = unpaired_hold n columns (map (kept_fact traces) keep) is.0 is.1 }, is.1)

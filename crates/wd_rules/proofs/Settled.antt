@@ -30,7 +30,7 @@ use Rattle.wd_facts.proofs.Lists.{range_pick}
 use Rattle.wd_facts.proofs.Sides.{HasSides}
 use Rattle.wd_facts.proofs.Windows.{input_column, inputs_shown, shown_long, shown_rows}
 use Rattle.wd_sets.specs.Sets.{is_in}
-use Rattle.wd_rules.specs.Rules.{call_refusal, calls_refusal, exchange_class, exchange_only, has_one_exchange, is_exchange, is_whole_or_ties, limit_refusal, refuse_unless, refuse_unless_shown, shows, shows_column, shows_value, taken_column, window_refusal}
+use Rattle.wd_rules.specs.Rules.{EvidenceRecord, call_refusal, calls_refusal, exchange_class, exchange_only, has_one_exchange, is_exchange, is_whole_or_ties, limit_refusal, refuse_unless, refuse_unless_shown, shows, shows_column, shows_value, taken_column, window_refusal}
 use Rattle.wd_sets.specs.Reaches.{reaches_each}
 use Rattle.wd_rules.specs.Traces.{Traced}
 use Rattle.wd_rules.proofs.Kept.{at_number}
@@ -58,7 +58,7 @@ count_none (Some n) e = absurd (false≢true e)
 
 module _ (rows : List RowValues) (facts : FactList) (sides : HasSides (unpaired rows) facts.split facts.columns) (shown : List Traced) (hold : AllByRecursion (IsTrue (unpaired rows)) shown) where
   -- a trace of it shows that its sort keys give every column
-  pub keys_give : (node width : ℕ) (limit : LimitRule) (trace : Option ℕ) → is_some trace ≡ true → limit_refusal node facts width shown limit trace ≡ None → DeterminesAll rows width (order_columns (limit_class limit))
+  pub keys_give : (node width : ℕ) (limit : LimitRule) (trace : Option ℕ) → is_some trace ≡ true → limit_refusal (record { node = node; facts = facts; shown = shown }) width limit trace ≡ None → DeterminesAll rows width (order_columns (limit_class limit))
   keys_give node width limit None t e = absurd (false≢true t)
   keys_give node width limit (Some i) t e =
       let keys = order_columns (limit_class limit) in
@@ -66,7 +66,7 @@ module _ (rows : List RowValues) (facts : FactList) (sides : HasSides (unpaired 
       let there = shown_there (λ fact. Gives (unpaired rows) facts sides shown hold keys all) node (UnjustifiedLimit node) (shows facts (is_in keys) all) (slice_get shown i) e (gives (unpaired rows) facts sides shown hold keys all i) in
       λ c l p q k m same. range_pick (Same (unpaired rows) p q) 0 width c (there.1 p q k m (named_same (unpaired rows) p q keys same)) (omega arith) (omega arith)
 
-  pub limit_settled : (node width : ℕ) (limit : LimitRule) (trace : Option ℕ) → limit_refusal node facts width shown limit trace ≡ None → IsSettledLimit limit width rows
+  pub limit_settled : (node width : ℕ) (limit : LimitRule) (trace : Option ℕ) → limit_refusal (record { node = node; facts = facts; shown = shown }) width limit trace ≡ None → IsSettledLimit limit width rows
   limit_settled node width limit None e =
       let parts = and_parts (nat_eq limit.offset 0) (not (is_some limit.count) || limit.ties) (passed (is_whole_or_ties limit) (UnjustifiedLimit node) e) in
       by (eqb-true limit.offset 0 parts.0) (or_cases (not (is_some limit.count)) limit.ties parts.1)
@@ -115,6 +115,9 @@ module _ (w : WindowRule) (rows : List RowValues) (os : List (List ℕ)) (width 
   abbrev n : Paired
   n = unpaired (shown_rows w rows os)
 
+  abbrev evidence : EvidenceRecord
+  evidence = record { node = node; facts = facts; shown = shown }
+
   -- what the class's columns of the input give
   abbrev ClassGives : List ℕ → List Member → Type 0
   ClassGives within members = (p q : ℕ) → p < length rows → q < length rows → columns_of within (row_at rows p) ≡ columns_of within (row_at rows q) → AllByRecursion (Same n p q) members
@@ -146,7 +149,7 @@ module _ (w : WindowRule) (rows : List RowValues) (os : List (List ℕ)) (width 
       (let t = is_taken facts (is_in within) call fact f in
       (t.column, taken_is call.frame call.function t.column t.stable t.takes, class_gives within (member.Column t.column ∷ []) range (gives n facts sides shown hold within (member.Column t.column ∷ []) i fact at t.shown))))).1
 
-  call_settled : (exchange : ℕ) (call : Call) (r : Rule) → AreBelow width (class_columns (class_at w call.class)) → call_refusal node facts width shown (is_in (class_columns (class_at w call.class))) call r ≡ None → (not (is_exchange r) || nat_eq call.class exchange) ≡ true → IsSettledCall w exchange width rows call
+  call_settled : (exchange : ℕ) (call : Call) (r : Rule) → AreBelow width (class_columns (class_at w call.class)) → call_refusal evidence width (is_in (class_columns (class_at w call.class))) call r ≡ None → (not (is_exchange r) || nat_eq call.class exchange) ≡ true → IsSettledCall w exchange width rows call
   call_settled exchange call rule.Peers range e f = inl (inl (passed (is_by_peers call.frame call.function) (UnjustifiedCall node) e))
   call_settled exchange call (rule.Unique i) range e f = inl (inr (inl (λ p q k l same. (by_trace (class_columns (class_at w call.class)) (member.Row ∷ []) i range e p q k l same).0)))
   call_settled exchange call (rule.Values i) range e f =
@@ -159,18 +162,18 @@ module _ (w : WindowRule) (rows : List RowValues) (os : List (List ℕ)) (width 
   abbrev HasRange : Call → Type 0
   HasRange call = AreBelow width (class_columns (class_at w call.class))
 
-  calls_settled : (exchange : ℕ) (calls : List Call) (rules : List Rule) → AllByRecursion HasRange calls → calls_refusal node facts width shown w calls rules ≡ None → exchange_only exchange calls rules ≡ true → AllByRecursion (IsSettledCall w exchange width rows) calls
+  calls_settled : (exchange : ℕ) (calls : List Call) (rules : List Rule) → AllByRecursion HasRange calls → calls_refusal evidence width w calls rules ≡ None → exchange_only exchange calls rules ≡ true → AllByRecursion (IsSettledCall w exchange width rows) calls
   calls_settled exchange [] rules range e f = tt
   calls_settled exchange (call ∷ calls) [] range e f = cc
   calls_settled exchange (call ∷ calls) (r ∷ rules) range e f =
-      let own = call_refusal node facts width shown (is_in (class_columns (class_at w call.class))) call r in
-      let later = calls_refusal node facts width shown w calls rules in
+      let own = call_refusal evidence width (is_in (class_columns (class_at w call.class))) call r in
+      let later = calls_refusal evidence width w calls rules in
       let only = and_parts (not (is_exchange r) || nat_eq call.class exchange) (exchange_only exchange calls rules) f in
       (call_settled exchange call r range.0 (first_passed own later e) only.0, calls_settled exchange calls rules range.1 (later_passed own later e) only.1)
 
-  pub window_settled : (rules : List Rule) → AllByRecursion HasRange w.calls → window_refusal node facts width shown w rules ≡ None → AllByRecursion (IsSettledCall w (exchange_class w.calls rules) width rows) w.calls
+  pub window_settled : (rules : List Rule) → AllByRecursion HasRange w.calls → window_refusal evidence width w rules ≡ None → AllByRecursion (IsSettledCall w (exchange_class w.calls rules) width rows) w.calls
   window_settled rules range e =
-      let own = calls_refusal node facts width shown w w.calls rules in
+      let own = calls_refusal evidence width w w.calls rules in
       let one = refuse_unless (has_one_exchange w.calls rules) (SecondExchange node) in
       calls_settled (exchange_class w.calls rules) w.calls rules range (first_passed own one e) (passed (has_one_exchange w.calls rules) (SecondExchange node) (later_passed own one e))
 

@@ -30,7 +30,7 @@ use Rattle.wd_facts.proofs.Pairs.{sides}
 use Rattle.wd_facts.proofs.Sides.{AreSides, HasSides}
 use Rattle.wd_facts.proofs.Windows.{IsWell, calls_hold, shown_carries, shown_rows}
 use Rattle.wd_rules.specs.Laws.{FactsHold, GivenHoldAt, KeptHold, NeverBoth, ValidHasOne, ValidShows}
-use Rattle.wd_rules.specs.Rules.{claims_refusal, entry_refusal, keep_refusal, kept_facts, or_else, refuse_unless, rules_refusal}
+use Rattle.wd_rules.specs.Rules.{EvidenceRecord, claims_refusal, entry_refusal, keep_refusal, kept_facts, or_else, refuse_unless, rules_refusal}
 use Rattle.wd_rules.specs.Traces.{Traced, each_traced}
 use Rattle.wd_rules.specs.Validity.{IsValidCertificate, entries_refusal, form_refusal, given_at, is_read_for, kept_below, kept_right, nodes_refusal, top_at, top_number, top_refusal}
 use Rattle.wd_rules.proofs.Kept.{keeps}
@@ -62,16 +62,17 @@ at_map (Err f) P Q h g = tt
 pub record IsGood (node : ℕ) (facts : FactList) (plan : PlanTree) (entry : NodeRecord) : Type 0 where
   pub shown : List Traced
   pub traced : each_traced node facts entry.traces ≡ Ok shown
-  pub keep : keep_refusal node facts (width plan) shown entry.keep ≡ None
-  pub rules : rules_refusal node facts shown plan entry ≡ None
+  pub keep : keep_refusal (record { node = node; facts = facts; shown = shown }) (width plan) entry.keep ≡ None
+  pub rules : rules_refusal (record { node = node; facts = facts; shown = shown }) plan entry ≡ None
 
 is_good : (node : ℕ) (facts : FactList) (plan : PlanTree) (entry : NodeRecord) → entry_refusal node facts plan entry ≡ None → IsGood node facts plan entry
 is_good node facts plan entry e = by (each_traced node facts entry.traces) refl e
   where
     by : (o : Result (List Traced) CertError) → each_traced node facts entry.traces ≡ o → claims_refusal node facts plan entry o ≡ None → IsGood node facts plan entry
     by (Ok shown) h f =
-        let keep = keep_refusal node facts (width plan) shown entry.keep in
-        let rules = rules_refusal node facts shown plan entry in
+        let evidence : EvidenceRecord = record { node = node; facts = facts; shown = shown } in
+        let keep = keep_refusal evidence (width plan) entry.keep in
+        let rules = rules_refusal evidence plan entry in
         record { shown = shown; traced = h; keep = first_passed keep rules f; rules = later_passed keep rules f }
     by (Err refusal) h f = cc
 

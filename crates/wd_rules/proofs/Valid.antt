@@ -24,7 +24,7 @@ use Rattle.wd_sets.specs.Reaches.{also, reaches_each}
 use Rattle.wd_sets.specs.Sets.{is_in, stands_in}
 use Rattle.wd_rules.specs.Justified.{AreGood, AreJustified, Gives, HasOneExchange, HasRules, IsGoodTrace, IsJustified, IsJustifiedLimit, IsKept, after_uses, right_side, trace_has}
 use Rattle.wd_rules.specs.Laws.{ValidIsNotRefused}
-use Rattle.wd_rules.specs.Rules.{call_refusal, calls_refusal, claims_refusal, entry_refusal, exchange_class, exchange_only, has_one_exchange, is_exchange, is_target, is_whole_or_ties, keep_refusal, kept_refusal, limit_refusal, member_of, or_else, refuse_unless, refuse_unless_shown, rules_refusal, shows, shows_column, shows_value, taken_column}
+use Rattle.wd_rules.specs.Rules.{EvidenceRecord, call_refusal, calls_refusal, claims_refusal, entry_refusal, exchange_class, exchange_only, has_one_exchange, is_exchange, is_target, is_whole_or_ties, keep_refusal, kept_refusal, limit_refusal, member_of, or_else, refuse_unless, refuse_unless_shown, rules_refusal, shows, shows_column, shows_value, taken_column}
 use Rattle.wd_rules.specs.Traces.{Traced, and_then, each_traced, traced, with_use, with_uses}
 use Rattle.wd_rules.specs.Validity.{EachNode, IsValidCertificate, IsValidEntry, IsValidTop, all_entries, call_count, entries_refusal, first_refusal, form_refusal, given_at, has_its_calls, has_its_limit, is_read_for, nodes_refusal, top_at, top_number, top_refusal}
 use Rattle.wd_rules.proofs.Refused.{first_passed, later_passed, ok_parts, passed}
@@ -101,6 +101,9 @@ module _ (node : ℕ) (facts : FactList) where
       λ i. and_then (good_trace trace g.0 i) (λ has. and_then (good_each traces g.1 i) (λ shown. Ok (record { from = trace.from; has = has } ∷ shown)))
 
   module _ (traces : List TraceRecord) where
+    abbrev evidence : EvidenceRecord
+    evidence = record { node = node; facts = facts; shown = map shown_of traces }
+
     -- a trace that is asked for is there and passes the test
     there : (refusal : CertError) (test : Traced → Bool) (n : ℕ) → refuse_unless_shown node refusal test (slice_get (map shown_of traces) n) ≡ None → (trace : TraceRecord) × (slice_get traces n ≡ Some trace) × (test (shown_of trace) ≡ true)
     there refusal test n e = by (slice_get traces n) refl (subst (λ o. refuse_unless_shown node refusal test o ≡ None) (slice_get-map shown_of traces n) e)
@@ -150,17 +153,17 @@ module _ (node : ℕ) (facts : FactList) where
         (passes (list_all (is_target columns) kept.to) (refused.OutOfRange node) k.targets)
         (passes (within && reached) (refused.UnreachedClaim node) (both_true within reached g.within g.reached))
 
-    keep_good : (columns : ℕ) (keep : List KeptRecord) → keep_refusal node facts columns (map shown_of traces) keep ≡ None → AllByRecursion (IsKept facts columns traces) keep
+    keep_good : (columns : ℕ) (keep : List KeptRecord) → keep_refusal evidence columns keep ≡ None → AllByRecursion (IsKept facts columns traces) keep
     keep_good columns [] e = tt
     keep_good columns (kept ∷ keep) e =
         let own = kept_refusal node facts columns kept.to (slice_get (map shown_of traces) kept.trace) in
-        let later = keep_refusal node facts columns (map shown_of traces) keep in
+        let later = keep_refusal evidence columns keep in
         (kept_good columns kept (first_passed own later e), keep_good columns keep (later_passed own later e))
 
-    good_keep : (columns : ℕ) (keep : List KeptRecord) → AllByRecursion (IsKept facts columns traces) keep → keep_refusal node facts columns (map shown_of traces) keep ≡ None
+    good_keep : (columns : ℕ) (keep : List KeptRecord) → AllByRecursion (IsKept facts columns traces) keep → keep_refusal evidence columns keep ≡ None
     good_keep columns [] k = refl
     good_keep columns (kept ∷ keep) k =
-        both_passed (kept_refusal node facts columns kept.to (slice_get (map shown_of traces) kept.trace)) (keep_refusal node facts columns (map shown_of traces) keep)
+        both_passed (kept_refusal node facts columns kept.to (slice_get (map shown_of traces) kept.trace)) (keep_refusal evidence columns keep)
         (good_kept columns kept k.0) (good_keep columns keep k.1)
 
     -- ---- calls
@@ -180,13 +183,13 @@ module _ (node : ℕ) (facts : FactList) where
             (stable, c, is, record { trace = trace; named = at; within = parts.0; reached = parts.1 })
 
     module _ (columns : ℕ) where
-      call_good : (among : ℕ → Bool) (call : Call) (r : Rule) → call_refusal node facts columns (map shown_of traces) among call r ≡ None → IsJustified facts columns traces among call r
+      call_good : (among : ℕ → Bool) (call : Call) (r : Rule) → call_refusal evidence columns among call r ≡ None → IsJustified facts columns traces among call r
       call_good among call rule.Peers e = passed (is_by_peers call.frame call.function) (refused.UnjustifiedCall node) e
       call_good among call (rule.Unique n) e = gives_there (refused.UnjustifiedCall node) among (member.Row ∷ []) n e
       call_good among call (rule.Values n) e = value_there among call n e
       call_good among call (rule.Exchange n) e = gives_there (refused.UnjustifiedCall node) among (columns_named (all_columns columns)) n e
 
-      good_call : (among : ℕ → Bool) (call : Call) (r : Rule) → IsJustified facts columns traces among call r → call_refusal node facts columns (map shown_of traces) among call r ≡ None
+      good_call : (among : ℕ → Bool) (call : Call) (r : Rule) → IsJustified facts columns traces among call r → call_refusal evidence columns among call r ≡ None
       good_call among call rule.Peers j = passes (is_by_peers call.frame call.function) (refused.UnjustifiedCall node) j
       good_call among call (rule.Unique n) j = gives_back (refused.UnjustifiedCall node) among (member.Row ∷ []) n j
       good_call among call (rule.Values n) j =
@@ -199,32 +202,32 @@ module _ (node : ℕ) (facts : FactList) where
         abbrev Own : Call → Rule → Type 0
         Own call r = IsJustified facts columns traces (is_in (class_columns (class_at w call.class))) call r
 
-        calls_good : (calls : List Call) (rules : List Rule) → calls_refusal node facts columns (map shown_of traces) w calls rules ≡ None → AreJustified facts columns traces w calls rules
+        calls_good : (calls : List Call) (rules : List Rule) → calls_refusal evidence columns w calls rules ≡ None → AreJustified facts columns traces w calls rules
         calls_good [] rules e i call r at by_rule = cc
         calls_good (first ∷ calls) [] e i call r at by_rule = cc
         calls_good (first ∷ calls) (own ∷ rules) e zero call r at by_rule =
-            let here = call_refusal node facts columns (map shown_of traces) (is_in (class_columns (class_at w first.class))) first own in
-            let good = call_good (is_in (class_columns (class_at w first.class))) first own (first_passed here (calls_refusal node facts columns (map shown_of traces) w calls rules) e) in
+            let here = call_refusal evidence columns (is_in (class_columns (class_at w first.class))) first own in
+            let good = call_good (is_in (class_columns (class_at w first.class))) first own (first_passed here (calls_refusal evidence columns w calls rules) e) in
             let same_call : first ≡ call = cc in
             let same_rule : own ≡ r = cc in
             subst (λ k. Own k r) same_call (subst (Own first) same_rule good)
         calls_good (first ∷ calls) (own ∷ rules) e (suc i) call r at by_rule =
-            let here = call_refusal node facts columns (map shown_of traces) (is_in (class_columns (class_at w first.class))) first own in
-            calls_good calls rules (later_passed here (calls_refusal node facts columns (map shown_of traces) w calls rules) e) i call r at by_rule
+            let here = call_refusal evidence columns (is_in (class_columns (class_at w first.class))) first own in
+            calls_good calls rules (later_passed here (calls_refusal evidence columns w calls rules) e) i call r at by_rule
 
-        good_calls : (calls : List Call) (rules : List Rule) → length rules ≡ length calls → AreJustified facts columns traces w calls rules → calls_refusal node facts columns (map shown_of traces) w calls rules ≡ None
+        good_calls : (calls : List Call) (rules : List Rule) → length rules ≡ length calls → AreJustified facts columns traces w calls rules → calls_refusal evidence columns w calls rules ≡ None
         good_calls [] [] l j = refl
         good_calls [] (r ∷ rules) l j = absurd (omega (arith, l))
         good_calls (call ∷ calls) [] l j = absurd (omega (arith, l))
         good_calls (call ∷ calls) (r ∷ rules) l j =
-            both_passed (call_refusal node facts columns (map shown_of traces) (is_in (class_columns (class_at w call.class))) call r) (calls_refusal node facts columns (map shown_of traces) w calls rules)
+            both_passed (call_refusal evidence columns (is_in (class_columns (class_at w call.class))) call r) (calls_refusal evidence columns w calls rules)
             (good_call (is_in (class_columns (class_at w call.class))) call r (j zero call r refl refl)) (good_calls calls rules (omega (arith, l)) (λ i. j (suc i)))
 
-      limit_good : (limit : LimitRule) (n : Option ℕ) → limit_refusal node facts columns (map shown_of traces) limit n ≡ None → IsJustifiedLimit facts columns traces limit n
+      limit_good : (limit : LimitRule) (n : Option ℕ) → limit_refusal evidence columns limit n ≡ None → IsJustifiedLimit facts columns traces limit n
       limit_good limit None e = passed (is_whole_or_ties limit) (refused.UnjustifiedLimit node) e
       limit_good limit (Some n) e = gives_there (refused.UnjustifiedLimit node) (is_in (order_columns (limit_class limit))) (columns_named (all_columns columns)) n e
 
-      good_limit : (limit : LimitRule) (n : Option ℕ) → IsJustifiedLimit facts columns traces limit n → limit_refusal node facts columns (map shown_of traces) limit n ≡ None
+      good_limit : (limit : LimitRule) (n : Option ℕ) → IsJustifiedLimit facts columns traces limit n → limit_refusal evidence columns limit n ≡ None
       good_limit limit None j = passes (is_whole_or_ties limit) (refused.UnjustifiedLimit node) j
       good_limit limit (Some n) j = gives_back (refused.UnjustifiedLimit node) (is_in (order_columns (limit_class limit))) (columns_named (all_columns columns)) n j
 
@@ -266,27 +269,27 @@ good_one (call ∷ calls) (rule.Exchange n ∷ rules) h =
 -- ---- entries
 
 module _ (node : ℕ) (facts : FactList) where
-  rules_good : (plan : PlanTree) (entry : NodeRecord) → rules_refusal node facts (map (shown_of node facts) entry.traces) plan entry ≡ None → HasRules facts plan entry
+  rules_good : (plan : PlanTree) (entry : NodeRecord) → rules_refusal (evidence node facts entry.traces) plan entry ≡ None → HasRules facts plan entry
   rules_good (Scan table columns) entry e = tt
   rules_good (Join condition left right) entry e = tt
   rules_good (Filter condition input) entry e = tt
   rules_good (Map outputs input) entry e = tt
   rules_good (Group g input) entry e = tt
   rules_good (Window w input) entry e =
-      let own = calls_refusal node facts (width input) (map (shown_of node facts) entry.traces) w w.calls entry.calls in
+      let own = calls_refusal (evidence node facts entry.traces) (width input) w w.calls entry.calls in
       let one = refuse_unless (has_one_exchange w.calls entry.calls) (refused.SecondExchange node) in
       (calls_good node facts entry.traces (width input) w w.calls entry.calls (first_passed own one e), one_good w.calls entry.calls (passed (has_one_exchange w.calls entry.calls) (refused.SecondExchange node) (later_passed own one e)))
   rules_good (Distinct input) entry e = tt
   rules_good (Limit limit input) entry e = limit_good node facts entry.traces (width input) limit entry.limit e
 
-  good_rules : (plan : PlanTree) (entry : NodeRecord) → length entry.calls ≡ call_count plan → HasRules facts plan entry → rules_refusal node facts (map (shown_of node facts) entry.traces) plan entry ≡ None
+  good_rules : (plan : PlanTree) (entry : NodeRecord) → length entry.calls ≡ call_count plan → HasRules facts plan entry → rules_refusal (evidence node facts entry.traces) plan entry ≡ None
   good_rules (Scan table columns) entry l h = refl
   good_rules (Join condition left right) entry l h = refl
   good_rules (Filter condition input) entry l h = refl
   good_rules (Map outputs input) entry l h = refl
   good_rules (Group g input) entry l h = refl
   good_rules (Window w input) entry l h =
-      both_passed (calls_refusal node facts (width input) (map (shown_of node facts) entry.traces) w w.calls entry.calls) (refuse_unless (has_one_exchange w.calls entry.calls) (refused.SecondExchange node))
+      both_passed (calls_refusal (evidence node facts entry.traces) (width input) w w.calls entry.calls) (refuse_unless (has_one_exchange w.calls entry.calls) (refused.SecondExchange node))
       (good_calls node facts entry.traces (width input) w w.calls entry.calls l h.0) (passes (has_one_exchange w.calls entry.calls) (refused.SecondExchange node) (good_one w.calls entry.calls h.1))
   good_rules (Distinct input) entry l h = refl
   good_rules (Limit limit input) entry l h = good_limit node facts entry.traces (width input) limit entry.limit h
@@ -297,9 +300,9 @@ module _ (node : ℕ) (facts : FactList) where
       by : (o : Result (List Traced) CertError) → each_traced node facts entry.traces ≡ o → claims_refusal node facts plan entry o ≡ None → IsValidEntry facts plan entry
       by (Ok shown) are f =
           let good = each_good node facts entry.traces shown are in
-          let traces = map (shown_of node facts) entry.traces in
-          let keep = keep_refusal node facts (width plan) traces entry.keep in
-          let rules = rules_refusal node facts traces plan entry in
+          let grounds = evidence node facts entry.traces in
+          let keep = keep_refusal grounds (width plan) entry.keep in
+          let rules = rules_refusal grounds plan entry in
           let g : or_else keep rules ≡ None = subst (λ s. claims_refusal node facts plan entry (Ok s) ≡ None) good.1 f in
           record {
             traces = good.0;
@@ -312,9 +315,9 @@ module _ (node : ℕ) (facts : FactList) where
 
   good_entry : (plan : PlanTree) (entry : NodeRecord) → IsValidEntry facts plan entry → entry_refusal node facts plan entry ≡ None
   good_entry plan entry v =
-      let traces = map (shown_of node facts) entry.traces in
+      let grounds = evidence node facts entry.traces in
       ap (claims_refusal node facts plan entry) (good_each node facts entry.traces v.traces)
-      ∙ both_passed (keep_refusal node facts (width plan) traces entry.keep) (rules_refusal node facts traces plan entry) (good_keep node facts entry.traces (width plan) entry.keep v.kept) (good_rules plan entry v.calls v.rules)
+      ∙ both_passed (keep_refusal grounds (width plan) entry.keep) (rules_refusal grounds plan entry) (good_keep node facts entry.traces (width plan) entry.keep v.kept) (good_rules plan entry v.calls v.rules)
 
 -- ---- plans
 

@@ -7,7 +7,7 @@ use Rattle.wd_plan.specs.Choices.{AtRows, IsValidChoice}
 use Rattle.wd_plan.specs.Facts.{DeterminesAll, HasWidth}
 use Rattle.wd_plan.specs.Fits.{fits}
 use Rattle.wd_plan.specs.Outcomes.{RowsOrFault, outcome}
-use Rattle.wd_plan.specs.Plans.{PlanTree, Scan, Join, Filter, Map, Window, Distinct, Group, Limit}
+use Rattle.wd_plan.specs.Plans.{PlanTree, Map, Limit}
 use Rattle.wd_plan.specs.Settled.{IsSettledPlan}
 use Rattle.wd_plan.specs.Sorting.{limit_class, order_columns}
 use Rattle.wd_laws.specs.Laws.{SameTables}
@@ -25,14 +25,9 @@ AgreeAsLists (Err f) (Err g) = f ≡ g
 -- the top that is no Map, since a Map keeps the order. None where that node is no Limit. The plan's nodes are numbered from the given
 -- number on.
 abbrev pub final_limit : PlanTree → ℕ → Option ℕ
-final_limit (Scan table columns) first = None
-final_limit (Join condition left right) first = None
-final_limit (Filter condition input) first = None
 final_limit (Map outputs input) first = final_limit input first
-final_limit (Window w input) first = None
-final_limit (Distinct input) first = None
-final_limit (Group g input) first = None
 final_limit (Limit limit input) first = Some (top_number (Limit limit input) first)
+final_limit plan first = None
 
 -- there is such a Limit, and its entry names a trace, so it goes by `keys`
 abbrev pub goes_by_keys : List NodeRecord → Option ℕ → Bool
@@ -41,14 +36,9 @@ goes_by_keys nodes (Some n) = is_some (entry_at nodes n).limit
 
 -- the sort keys of that Limit determine every column of the rows that it reads
 abbrev pub IsListedPlan : PlanTree → Instance → List (List ℕ) → Type 0
-IsListedPlan (Scan table columns) instance choice = ⊥
-IsListedPlan (Join condition left right) instance choice = ⊥
-IsListedPlan (Filter condition input) instance choice = ⊥
 IsListedPlan (Map outputs input) instance choice = IsListedPlan input instance choice
-IsListedPlan (Window w input) instance choice = ⊥
-IsListedPlan (Distinct input) instance choice = ⊥
-IsListedPlan (Group g input) instance choice = ⊥
 IsListedPlan (Limit limit input) instance choice = AtRows (outcome input instance choice) (λ rows. (width : ℕ) × HasWidth width rows × DeterminesAll rows width (order_columns (limit_class limit))) ⊤
+IsListedPlan plan instance choice = ⊥
 
 -- The list law: a plan that is settled under one valid choice, and whose last Limit has sort keys that determine every column, has
 -- outcomes that agree as lists under every valid choice, over the same tables in any row order, faults included.

@@ -43,6 +43,13 @@ abbrev pub refuse_unless : Bool → CertError → Option CertError
 refuse_unless true refusal = None
 refuse_unless false refusal = Some refusal
 
+-- What the claims of an entry are judged by: the number and the given facts of its node, and what its traces show. They are claims of
+-- rows with a number of columns: what is kept, of the node's own rows; calls and limits, of those of its input.
+pub record EvidenceRecord : Type 0 where
+  pub node : ℕ
+  pub facts : FactList
+  pub shown : List Traced
+
 -- ---- kept facts
 
 abbrev pub member_of : Target → Member
@@ -76,8 +83,9 @@ kept_refusal node facts columns to (Some trace) =
     or_else (refuse_unless (list_all (is_target columns) to) (OutOfRange node))
     (refuse_unless (list_all (λ c. nat_lt c columns) trace.from && reaches_each facts trace.has (map member_of to)) (UnreachedClaim node))
 
-abbrev pub keep_refusal : ℕ → FactList → ℕ → List Traced → List KeptRecord → Option CertError
-keep_refusal node facts columns shown keep = first_of (λ (kept : KeptRecord). kept_refusal node facts columns kept.to (slice_get shown kept.trace)) keep
+-- kept facts, in order
+abbrev pub keep_refusal : EvidenceRecord → ℕ → List KeptRecord → Option CertError
+keep_refusal evidence columns keep = first_of (λ (kept : KeptRecord). kept_refusal evidence.node evidence.facts columns kept.to (slice_get evidence.shown kept.trace)) keep
 
 -- ---- calls and limits
 
@@ -108,20 +116,24 @@ shows_column facts among (Some c) trace = shows facts among (member.Column c ∷
 abbrev pub shows_value : FactList → (ℕ → Bool) → Call → Traced → Bool
 shows_value facts among call trace = is_stable call.frame && shows_column facts among (taken_column call.function) trace
 
+-- a call by the trace with this number, which passes a test
+abbrev pub call_by_trace : EvidenceRecord → ℕ → (Traced → Bool) → Option CertError
+call_by_trace evidence n test = refuse_unless_shown evidence.node (UnjustifiedCall evidence.node) test (slice_get evidence.shown n)
+
 -- a call by its rule, where a test tells the columns of its class, over an input with the given number of columns
-abbrev pub call_refusal : ℕ → FactList → ℕ → List Traced → (ℕ → Bool) → Call → Rule → Option CertError
-call_refusal node facts columns shown among call rule.Peers = refuse_unless (is_by_peers call.frame call.function) (UnjustifiedCall node)
-call_refusal node facts columns shown among call (rule.Unique n) = refuse_unless_shown node (UnjustifiedCall node) (shows facts among (member.Row ∷ [])) (slice_get shown n)
-call_refusal node facts columns shown among call (rule.Values n) = refuse_unless_shown node (UnjustifiedCall node) (shows_value facts among call) (slice_get shown n)
-call_refusal node facts columns shown among call (rule.Exchange n) = refuse_unless_shown node (UnjustifiedCall node) (shows facts among (columns_named (all_columns columns))) (slice_get shown n)
+abbrev pub call_refusal : EvidenceRecord → ℕ → (ℕ → Bool) → Call → Rule → Option CertError
+call_refusal evidence columns among call rule.Peers = refuse_unless (is_by_peers call.frame call.function) (UnjustifiedCall evidence.node)
+call_refusal evidence columns among call (rule.Unique n) = call_by_trace evidence n (shows evidence.facts among (member.Row ∷ []))
+call_refusal evidence columns among call (rule.Values n) = call_by_trace evidence n (shows_value evidence.facts among call)
+call_refusal evidence columns among call (rule.Exchange n) = call_by_trace evidence n (shows evidence.facts among (columns_named (all_columns columns)))
 
 -- calls, each by its own rule; there are as many rules as calls
-abbrev pub calls_refusal : ℕ → FactList → ℕ → List Traced → WindowRule → List Call → List Rule → Option CertError
-calls_refusal node facts columns shown w [] [] = None
-calls_refusal node facts columns shown w [] (r ∷ rules) = Some Count
-calls_refusal node facts columns shown w (call ∷ calls) [] = Some Count
-calls_refusal node facts columns shown w (call ∷ calls) (r ∷ rules) =
-    or_else (call_refusal node facts columns shown (is_in (class_columns (class_at w call.class))) call r) (calls_refusal node facts columns shown w calls rules)
+abbrev pub calls_refusal : EvidenceRecord → ℕ → WindowRule → List Call → List Rule → Option CertError
+calls_refusal evidence columns w [] [] = None
+calls_refusal evidence columns w [] (r ∷ rules) = Some Count
+calls_refusal evidence columns w (call ∷ calls) [] = Some Count
+calls_refusal evidence columns w (call ∷ calls) (r ∷ rules) =
+    or_else (call_refusal evidence columns (is_in (class_columns (class_at w call.class))) call r) (calls_refusal evidence columns w calls rules)
 
 abbrev pub is_exchange : Rule → Bool
 is_exchange rule.Peers = false
@@ -146,36 +158,39 @@ abbrev pub has_one_exchange : List Call → List Rule → Bool
 has_one_exchange calls rules = exchange_only (exchange_class calls rules) calls rules
 
 -- the rules of a Window: of each call, and of its exchange class
-abbrev pub window_refusal : ℕ → FactList → ℕ → List Traced → WindowRule → List Rule → Option CertError
-window_refusal node facts columns shown w rules =
-    or_else (calls_refusal node facts columns shown w w.calls rules) (refuse_unless (has_one_exchange w.calls rules) (SecondExchange node))
+abbrev pub window_refusal : EvidenceRecord → ℕ → WindowRule → List Rule → Option CertError
+window_refusal evidence columns w rules =
+    or_else (calls_refusal evidence columns w w.calls rules) (refuse_unless (has_one_exchange w.calls rules) (SecondExchange evidence.node))
 
 -- a limit without a trace takes all rows, or ties, and has no offset
 abbrev pub is_whole_or_ties : LimitRule → Bool
 is_whole_or_ties limit = nat_eq limit.offset 0 && (not (is_some limit.count) || limit.ties)
 
 -- a limit; with a trace, its sort keys determine every column
-abbrev pub limit_refusal : ℕ → FactList → ℕ → List Traced → LimitRule → Option ℕ → Option CertError
-limit_refusal node facts columns shown limit None = refuse_unless (is_whole_or_ties limit) (UnjustifiedLimit node)
-limit_refusal node facts columns shown limit (Some n) =
-    refuse_unless_shown node (UnjustifiedLimit node) (shows facts (is_in (order_columns (limit_class limit))) (columns_named (all_columns columns))) (slice_get shown n)
+abbrev pub limit_refusal : EvidenceRecord → ℕ → LimitRule → Option ℕ → Option CertError
+limit_refusal evidence columns limit None = refuse_unless (is_whole_or_ties limit) (UnjustifiedLimit evidence.node)
+limit_refusal evidence columns limit (Some n) =
+    let shows_all = shows evidence.facts (is_in (order_columns (limit_class limit))) (columns_named (all_columns columns)) in
+    refuse_unless_shown evidence.node (UnjustifiedLimit evidence.node) shows_all (slice_get evidence.shown n)
 
 -- ---- the entry of a plan's top node
 
-abbrev pub rules_refusal : ℕ → FactList → List Traced → PlanTree → NodeRecord → Option CertError
-rules_refusal node facts shown (Scan table columns) entry = None
-rules_refusal node facts shown (Join condition left right) entry = None
-rules_refusal node facts shown (Filter condition input) entry = None
-rules_refusal node facts shown (Map outputs input) entry = None
-rules_refusal node facts shown (Group g input) entry = None
-rules_refusal node facts shown (Window w input) entry = window_refusal node facts (width input) shown w entry.calls
-rules_refusal node facts shown (Distinct input) entry = None
-rules_refusal node facts shown (Limit limit input) entry = limit_refusal node facts (width input) shown limit entry.limit
+abbrev pub rules_refusal : EvidenceRecord → PlanTree → NodeRecord → Option CertError
+rules_refusal evidence (Scan table columns) entry = None
+rules_refusal evidence (Join condition left right) entry = None
+rules_refusal evidence (Filter condition input) entry = None
+rules_refusal evidence (Map outputs input) entry = None
+rules_refusal evidence (Group g input) entry = None
+rules_refusal evidence (Window w input) entry = window_refusal evidence (width input) w entry.calls
+rules_refusal evidence (Distinct input) entry = None
+rules_refusal evidence (Limit limit input) entry = limit_refusal evidence (width input) limit entry.limit
 
 -- the claims of an entry, by its traces
 abbrev pub claims_refusal : ℕ → FactList → PlanTree → NodeRecord → Result (List Traced) CertError → Option CertError
 claims_refusal node facts plan entry (Err refusal) = Some refusal
-claims_refusal node facts plan entry (Ok shown) = or_else (keep_refusal node facts (width plan) shown entry.keep) (rules_refusal node facts shown plan entry)
+claims_refusal node facts plan entry (Ok shown) =
+    let evidence : EvidenceRecord = record { node = node; facts = facts; shown = shown } in
+    or_else (keep_refusal evidence (width plan) entry.keep) (rules_refusal evidence plan entry)
 
 -- traces, then kept facts, then calls or the limit
 abbrev pub entry_refusal : ℕ → FactList → PlanTree → NodeRecord → Option CertError

@@ -170,8 +170,7 @@ module _ (tables : List TableRule) (earlier behind : List (List ℕ × List ℕ)
       subst (λ n. HasDataCause tables whole n error) (sym same)
       (record { number = found.0; named = found.1; text = text; there = any_here (λ g. g ≡ (name, text)) earlier (name, text) behind refl; cause = found.2 })
   RefusesData-from_text run.OutOfMemory h = tt
-  RefusesData-from_text (run.Texts error) h = absurd h
-  RefusesData-from_text (run.Evaluation error) h = absurd h
+  RefusesData-from_text _ h = absurd h
 
 get_or_any : {X : Type 0} (xs : List X) (i : ℕ) (d e : X) → i < length xs → get_or xs i d ≡ get_or xs i e
 get_or_any [] i d e within = absurd (omega (arith, within))
@@ -191,9 +190,7 @@ pub RefusesText-from_name : (tables : List TableRule) (earlier : List (List ℕ 
     → ((n : ℕ) → IsNamed tables name n → ⊥) ⊎ IsGiven earlier name → RefusesName name (Unit {0}) e → RefusesText tables earlier name text e
 RefusesText-from_name tables earlier name text (run.Given refused) why h = (h.0, why)
 RefusesText-from_name tables earlier name text run.OutOfMemory why h = tt
-RefusesText-from_name tables earlier name text (run.Texts error) why h = absurd h
-RefusesText-from_name tables earlier name text (run.Data refused error) why h = absurd h
-RefusesText-from_name tables earlier name text (run.Evaluation error) why h = absurd h
+RefusesText-from_name tables earlier name text _ why h = absurd h
 
 -- where the rows of the name's table are refused, its text is
 pub RefusesText-from_rows : (tables : List TableRule) (earlier : List (List ℕ × List ℕ)) (name text : List ℕ) (n : ℕ) (table : TableRule) (e : RunError)
@@ -201,9 +198,7 @@ pub RefusesText-from_rows : (tables : List TableRule) (earlier : List (List ℕ 
 RefusesText-from_rows tables earlier name text n table (run.Data refused error) found same h =
     (h.0 ∙ same, (n, record { table = table; found = found; name_is = same }, h.1))
 RefusesText-from_rows tables earlier name text n table run.OutOfMemory found same h = tt
-RefusesText-from_rows tables earlier name text n table (run.Given refused) found same h = absurd h
-RefusesText-from_rows tables earlier name text n table (run.Texts error) found same h = absurd h
-RefusesText-from_rows tables earlier name text n table (run.Evaluation error) found same h = absurd h
+RefusesText-from_rows tables earlier name text n table _ found same h = absurd h
 
 -- where the name of a scanned table without data is refused, the plan is
 pub RefusesPlan-from_name : (tables : List TableRule) (given : List (List ℕ × List ℕ)) (plan : PlanTree) (n : ℕ) (table : TableRule) (e : RunError)
@@ -212,6 +207,4 @@ RefusesPlan-from_name tables given plan n table (run.Given refused) found scanne
     subst (LacksData tables given plan) (sym h.0)
     (record { number = n; named = record { table = table; found = found; name_is = refl }; scanned = scanned; none = none })
 RefusesPlan-from_name tables given plan n table run.OutOfMemory found scanned none h = tt
-RefusesPlan-from_name tables given plan n table (run.Texts error) found scanned none h = absurd h
-RefusesPlan-from_name tables given plan n table (run.Data refused error) found scanned none h = absurd h
-RefusesPlan-from_name tables given plan n table (run.Evaluation error) found scanned none h = absurd h
+RefusesPlan-from_name tables given plan n table _ found scanned none h = absurd h

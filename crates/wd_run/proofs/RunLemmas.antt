@@ -41,12 +41,9 @@ module _ (tables : List TableRule) (given : List (List ℕ × List ℕ)) (plan :
   RefusesOutcome-from_data (run.Given name) (inr twice) = inr (inl twice)
   RefusesOutcome-from_data (run.Data name error) cause = cause
   RefusesOutcome-from_data run.OutOfMemory h = tt
-  RefusesOutcome-from_data (run.Texts error) h = absurd h
-  RefusesOutcome-from_data (run.Evaluation error) h = absurd h
+  RefusesOutcome-from_data _ h = absurd h
 
   pub RefusesOutcome-from_plan : (e : RunError) → RefusesPlan tables given plan e → RefusesOutcome tables given plan e
   RefusesOutcome-from_plan (run.Given name) lacks = inr (inr lacks)
   RefusesOutcome-from_plan run.OutOfMemory h = tt
-  RefusesOutcome-from_plan (run.Texts error) h = absurd h
-  RefusesOutcome-from_plan (run.Data name error) h = absurd h
-  RefusesOutcome-from_plan (run.Evaluation error) h = absurd h
+  RefusesOutcome-from_plan _ h = absurd h

@@ -15,41 +15,33 @@ use Rattle.wd_run.specs.declared.error.RunError.TheVariants as run
 abbrev pub RefusesName : List ℕ → Type 0 → RunError → Type 0
 RefusesName name P (run.Given refused) = (refused ≡ name) × P
 RefusesName name P run.OutOfMemory = ⊤
-RefusesName name P (run.Texts error) = ⊥
-RefusesName name P (run.Data refused error) = ⊥
-RefusesName name P (run.Evaluation error) = ⊥
+RefusesName name P _ = ⊥
 
 -- a text is refused under its name, after the texts given before it
 abbrev pub RefusesText : List TableRule → List (List ℕ × List ℕ) → List ℕ → List ℕ → RunError → Type 0
 RefusesText tables earlier name text (run.Given refused) = (refused ≡ name) × (((n : ℕ) → IsNamed tables name n → ⊥) ⊎ IsGiven earlier name)
 RefusesText tables earlier name text (run.Data refused error) = (refused ≡ name) × ((n : ℕ) × (named : IsNamed tables name n) × records.HasCause named.table text error)
 RefusesText tables earlier name text run.OutOfMemory = ⊤
-RefusesText tables earlier name text (run.Texts error) = ⊥
-RefusesText tables earlier name text (run.Evaluation error) = ⊥
+RefusesText tables earlier name text _ = ⊥
 
 -- the rows of a table are refused under its name
 abbrev pub RefusesRows : TableRule → List ℕ → RunError → Type 0
 RefusesRows table text (run.Data refused error) = (refused ≡ table.name) × records.HasCause table text error
 RefusesRows table text run.OutOfMemory = ⊤
-RefusesRows table text (run.Given refused) = ⊥
-RefusesRows table text (run.Texts error) = ⊥
-RefusesRows table text (run.Evaluation error) = ⊥
+RefusesRows table text _ = ⊥
 
 -- why the given data is refused, whatever the plan
 abbrev pub RefusesData : List TableRule → List (List ℕ × List ℕ) → RunError → Type 0
 RefusesData tables given (run.Given name) = IsNoTable tables given name ⊎ IsGivenTwice given name
 RefusesData tables given (run.Data name error) = HasDataCause tables given name error
 RefusesData tables given run.OutOfMemory = ⊤
-RefusesData tables given (run.Texts error) = ⊥
-RefusesData tables given (run.Evaluation error) = ⊥
+RefusesData tables given _ = ⊥
 
 -- a table that the plan scans has no data
 abbrev pub RefusesPlan : List TableRule → List (List ℕ × List ℕ) → PlanTree → RunError → Type 0
 RefusesPlan tables given plan (run.Given name) = LacksData tables given plan name
 RefusesPlan tables given plan run.OutOfMemory = ⊤
-RefusesPlan tables given plan (run.Texts error) = ⊥
-RefusesPlan tables given plan (run.Data name error) = ⊥
-RefusesPlan tables given plan (run.Evaluation error) = ⊥
+RefusesPlan tables given plan _ = ⊥
 
 -- the outcome of a plan over the data given: each table that the plan scans has data
 pub record GivesOutcome (tables : List TableRule) (given : List (List ℕ × List ℕ)) (plan : PlanTree) (o : RowsOrFault) : Type 0 where

@@ -29,8 +29,7 @@ RefusesAt table text n Header = IsWellFormed text n × (n ≡ 0) × ¬ (NamesEac
 RefusesAt table text n TooManyRecords = IsWellFormed text n × (n ≡ most_records + 1)
 RefusesAt table text n (Value m) = IsWellFormed text n × (0 < n) × (n ≤ most_records) × RefusesRecord table.columns (header_of text) (record_at text n) n (Value m)
 RefusesAt table text n (NullValue m) = IsWellFormed text n × (0 < n) × (n ≤ most_records) × RefusesRecord table.columns (header_of text) (record_at text n) n (NullValue m)
-RefusesAt table text n (Key m) = ⊥
-RefusesAt table text n OutOfMemory = ⊥
+RefusesAt table text n _ = ⊥
 
 -- the first record that is not accepted has this refusal
 pub record IsFirstRefused (table : TableRule) (text : List ℕ) (e : DataError) : Type 0 where

@@ -9,7 +9,7 @@ use Rattle.csv.specs.declared.reader.Trim.TheVariants as trim
 use Rattle.csv.specs.declared.error.ErrorKind.{ErrorKind}
 use Rattle.csv.specs.declared.error.ErrorKind.TheVariants as kind
 use Rattle.wd_tables.specs.declared.error.DataError.{DataError}
-use Rattle.wd_tables.specs.declared.error.DataError.TheVariants.{Header, Value, Null as NullValue, Key, Malformed, TooManyRecords, OutOfMemory}
+use Rattle.wd_tables.specs.declared.error.DataError.TheVariants.{Malformed, OutOfMemory}
 use Rattle.wd_tables.specs.Causes.{IsWellFormed}
 use Rattle.wd_value.specs.Rows.{Row, row_at}
 use Rattle.wd_schema.specs.declared.table.Column.{Column}
@@ -54,11 +54,7 @@ refusal_of (kind.Deserialize pos err) = OutOfMemory
 abbrev pub RefusesRead : List ℕ → ℕ → DataError → Type 0
 RefusesRead text n Malformed = (n < length (records_of text)) × ¬ (IsWellFormed text n)
 RefusesRead text n OutOfMemory = ⊤
-RefusesRead text n Header = ⊥
-RefusesRead text n (Value m) = ⊥
-RefusesRead text n (NullValue m) = ⊥
-RefusesRead text n (Key m) = ⊥
-RefusesRead text n TooManyRecords = ⊥
+RefusesRead text n _ = ⊥
 
 -- where a number is given, the record with that number is malformed
 abbrev pub IsMalformedAt : List ℕ → Option ℕ → Type 0

@@ -5,27 +5,20 @@ use Rattle.wd_schema.specs.declared.table.Column.{Column}
 use Rattle.wd_tables.specs.Fields.{field_value}
 use Rattle.wd_tables.specs.Data.{NamesEachOnce, field_place, value_in}
 use Rattle.wd_tables.specs.declared.error.DataError.{DataError}
-use Rattle.wd_tables.specs.declared.error.DataError.TheVariants.{Header, Value, Null as NullValue, Key, Malformed, TooManyRecords, OutOfMemory}
+use Rattle.wd_tables.specs.declared.error.DataError.TheVariants.{Header, Value, Null as NullValue, OutOfMemory}
 
 -- why a header is refused
 abbrev pub RefusesHeader : List Column → List (List ℕ) → DataError → Type 0
 RefusesHeader columns header Header = ¬ (NamesEachOnce columns header)
 RefusesHeader columns header OutOfMemory = ⊤
-RefusesHeader columns header (Value n) = ⊥
-RefusesHeader columns header (NullValue n) = ⊥
-RefusesHeader columns header (Key n) = ⊥
-RefusesHeader columns header Malformed = ⊥
-RefusesHeader columns header TooManyRecords = ⊥
+RefusesHeader columns header _ = ⊥
 
 -- why a field is refused in a column
 abbrev pub RefusesField : Column → List ℕ → ℕ → DataError → Type 0
 RefusesField column bytes number (Value n) = (n ≡ number) × (field_value column bytes ≡ None)
 RefusesField column bytes number (NullValue n) = (n ≡ number) × (column.not_null ≡ true) × (field_value column bytes ≡ Some Null)
 RefusesField column bytes number OutOfMemory = ⊤
-RefusesField column bytes number Header = ⊥
-RefusesField column bytes number (Key n) = ⊥
-RefusesField column bytes number Malformed = ⊥
-RefusesField column bytes number TooManyRecords = ⊥
+RefusesField column bytes number _ = ⊥
 
 -- the field of a record under the column's name is no value of the column
 abbrev pub LacksValue : List (List ℕ) → List (List ℕ) → Column → Type 0
@@ -48,7 +41,4 @@ abbrev pub RefusesRecord : List Column → List (List ℕ) → List (List ℕ) �
 RefusesRecord columns header fields number (Value n) = (n ≡ number) × Any (λ column. LacksValue header fields column × IsFirstIn columns header fields column) columns
 RefusesRecord columns header fields number (NullValue n) = (n ≡ number) × Any (λ column. HasNull header fields column × IsFirstIn columns header fields column) columns
 RefusesRecord columns header fields number OutOfMemory = ⊤
-RefusesRecord columns header fields number Header = ⊥
-RefusesRecord columns header fields number (Key n) = ⊥
-RefusesRecord columns header fields number Malformed = ⊥
-RefusesRecord columns header fields number TooManyRecords = ⊥
+RefusesRecord columns header fields number _ = ⊥

@@ -20,7 +20,7 @@ use Rattle.wd_step_facts.specs.Facts.{Fact, FactList, columns_named}
 use Rattle.wd_step_facts.specs.Steps.{all_columns}
 use Rattle.wd_sets.specs.Sets.{is_in, stands_in}
 use Rattle.wd_sets.specs.Reaches.{also, reaches, reaches_each}
-use Rattle.wd_rules.specs.Rules.{call_refusal, calls_refusal, claims_refusal, entry_refusal, has_one_exchange, is_target, keep_refusal, kept_refusal, limit_refusal, member_of, or_else, refuse_unless, refuse_unless_shown, rules_refusal, shows, shows_column, shows_value, taken_column}
+use Rattle.wd_rules.specs.Rules.{EvidenceRecord, call_refusal, calls_refusal, claims_refusal, entry_refusal, has_one_exchange, is_target, keep_refusal, kept_refusal, limit_refusal, member_of, or_else, refuse_unless, refuse_unless_shown, rules_refusal, shows, shows_column, shows_value, taken_column}
 use Rattle.wd_rules.specs.Traces.{Traced, and_then, each_traced, traced, with_use, with_uses}
 use Rattle.wd_verify.specs.Lean.{columns_once, lean_entry, lean_kept, lean_trace, lean_traced, once}
 use Rattle.wd_verify.proofs.Once.{IsAlike, alike_stand, columns_all, columns_alike, targets_all, targets_alike}
@@ -42,6 +42,12 @@ lean_more trace (Err refusal) = refl
 module _ (node : ℕ) (facts : FactList) (list : List Fact) where
   abbrev Other : FactList
   Other = with_list facts list
+
+  abbrev evidence : List Traced → EvidenceRecord
+  evidence shown = record { node = node; facts = facts; shown = shown }
+
+  abbrev lean_evidence : List Traced → EvidenceRecord
+  lean_evidence shown = record { node = node; facts = Other; shown = map lean_traced shown }
 
   -- ---- what is reached
 
@@ -104,7 +110,7 @@ module _ (node : ℕ) (facts : FactList) (list : List Fact) where
       let reached = each_alike trace.has (map member_of to) (map member_of (once member_of to)) (targets_alike to) in
       λ i. or_else (refuse_unless (targets i) (OutOfRange node)) (refuse_unless (from i && reached i) (UnreachedClaim node))
 
-  keep_alike : (columns : ℕ) (shown : List Traced) (keep : List KeptRecord) → keep_refusal node facts columns shown keep ≡ keep_refusal node Other columns (map lean_traced shown) (map lean_kept keep)
+  keep_alike : (columns : ℕ) (shown : List Traced) (keep : List KeptRecord) → keep_refusal (evidence shown) columns keep ≡ keep_refusal (lean_evidence shown) columns (map lean_kept keep)
   keep_alike columns shown [] = refl
   keep_alike columns shown (kept ∷ keep) =
       let own = one_kept columns kept.to (slice_get shown kept.trace) ∙ ap (kept_refusal node Other columns (once member_of kept.to)) (sym (slice_get-map lean_traced shown kept.trace)) in
@@ -132,13 +138,13 @@ module _ (node : ℕ) (facts : FactList) (list : List Fact) where
       by None = refl
       by (Some c) = shows_alike among (member.Column c ∷ []) trace
 
-  call_alike : (columns : ℕ) (shown : List Traced) (among : ℕ → Bool) (call : Call) (r : Rule) → call_refusal node facts columns shown among call r ≡ call_refusal node Other columns (map lean_traced shown) among call r
+  call_alike : (columns : ℕ) (shown : List Traced) (among : ℕ → Bool) (call : Call) (r : Rule) → call_refusal (evidence shown) columns among call r ≡ call_refusal (lean_evidence shown) columns among call r
   call_alike columns shown among call rule.Peers = refl
   call_alike columns shown among call (rule.Unique n) = at_alike (UnjustifiedCall node) _ _ (shows_alike among (member.Row ∷ [])) shown n
   call_alike columns shown among call (rule.Values n) = at_alike (UnjustifiedCall node) _ _ (value_alike among call) shown n
   call_alike columns shown among call (rule.Exchange n) = at_alike (UnjustifiedCall node) _ _ (shows_alike among (columns_named (all_columns columns))) shown n
 
-  calls_alike : (columns : ℕ) (shown : List Traced) (w : WindowRule) (calls : List Call) (rules : List Rule) → calls_refusal node facts columns shown w calls rules ≡ calls_refusal node Other columns (map lean_traced shown) w calls rules
+  calls_alike : (columns : ℕ) (shown : List Traced) (w : WindowRule) (calls : List Call) (rules : List Rule) → calls_refusal (evidence shown) columns w calls rules ≡ calls_refusal (lean_evidence shown) columns w calls rules
   calls_alike columns shown w [] [] = refl
   calls_alike columns shown w [] (r ∷ rules) = refl
   calls_alike columns shown w (call ∷ calls) [] = refl
@@ -146,11 +152,11 @@ module _ (node : ℕ) (facts : FactList) (list : List Fact) where
       let own = call_alike columns shown (is_in (class_columns (class_at w call.class))) call r in
       λ i. or_else (own i) (calls_alike columns shown w calls rules i)
 
-  limit_alike : (columns : ℕ) (shown : List Traced) (limit : LimitRule) (o : Option ℕ) → limit_refusal node facts columns shown limit o ≡ limit_refusal node Other columns (map lean_traced shown) limit o
+  limit_alike : (columns : ℕ) (shown : List Traced) (limit : LimitRule) (o : Option ℕ) → limit_refusal (evidence shown) columns limit o ≡ limit_refusal (lean_evidence shown) columns limit o
   limit_alike columns shown limit None = refl
   limit_alike columns shown limit (Some n) = at_alike (UnjustifiedLimit node) _ _ (shows_alike (is_in (order_columns (limit_class limit))) (columns_named (all_columns columns))) shown n
 
-  rules_alike : (shown : List Traced) (plan : PlanTree) (entry : NodeRecord) → rules_refusal node facts shown plan entry ≡ rules_refusal node Other (map lean_traced shown) plan (lean_entry entry)
+  rules_alike : (shown : List Traced) (plan : PlanTree) (entry : NodeRecord) → rules_refusal (evidence shown) plan entry ≡ rules_refusal (lean_evidence shown) plan (lean_entry entry)
   rules_alike shown (Scan table columns) entry = refl
   rules_alike shown (Join condition left right) entry = refl
   rules_alike shown (Filter condition input) entry = refl

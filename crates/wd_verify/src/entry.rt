@@ -10,7 +10,7 @@ ghost use Rattle.wd_rules.specs.Rules as rules;
 ghost use Rattle.wd_rules.specs.Traces as spec;
 ghost use Rattle.wd_verify.specs.Lean.{lean_of};
 ghost use Rattle.wd_node_facts.specs.Seen.{AreNarrow, HasNoOther, facts_kept, seen_of, traced_of};
-ghost use Rattle.wd_verify.specs.Shown.{shown_by};
+ghost use Rattle.wd_verify.specs.Shown.{evidence_of, shown_by};
 
 use crate::evidence::{Evidence, follow_each};
 use crate::kept::{check_keep, keeps_of};
@@ -39,8 +39,8 @@ fn check_rules(
     entry: &Node,
 ) -> Result<(), CertError>
     requires { fitting.fits (schema_of schema.now) (plan_of plan.now) ≡ true }
-    ensures passed { IfOk result (λ _. rules.rules_refusal evidence.now.node (seen_of evidence.now.facts) (shown_by evidence.now) (plan_of plan.now) (lean_of entry.now) ≡ None) }
-    ensures refused { IfErr result (λ e. e ≢ CertError.OutOfMemory → rules.rules_refusal evidence.now.node (seen_of evidence.now.facts) (shown_by evidence.now) (plan_of plan.now) (lean_of entry.now) ≡ Some e) }
+    ensures passed { IfOk result (λ _. rules.rules_refusal (evidence_of evidence.now) (plan_of plan.now) (lean_of entry.now) ≡ None) }
+    ensures refused { IfErr result (λ e. e ≢ CertError.OutOfMemory → rules.rules_refusal (evidence_of evidence.now) (plan_of plan.now) (lean_of entry.now) ≡ Some e) }
 {
     match plan {
         Plan::Window { input, window } => {

@@ -11,7 +11,7 @@ ghost use Rattle.wd_sets.specs.Sets.{has};
 ghost use Rattle.wd_rules.specs.Rules as rules;
 ghost use Rattle.wd_verify.specs.Lean.{lean_kept, lean_of, lean_trace, once, once_after};
 ghost use Rattle.wd_node_facts.specs.Seen.{fact_by, facts_kept, seen_of, traced_of};
-ghost use Rattle.wd_verify.specs.Shown.{HaveColumns, refusal_of, shown_by};
+ghost use Rattle.wd_verify.specs.Shown.{HaveColumns, evidence_of, refusal_of, shown_by};
 
 use crate::evidence::Evidence;
 use crate::trace::reaches;
@@ -97,7 +97,7 @@ fn check_claim(evidence: &Evidence, columns: u16, kept: &Kept) -> Result<(), Cer
 
 /// Checks the facts that an entry keeps, in order.
 pub(crate) fn check_keep(evidence: &Evidence, columns: u16, keep: &[Kept]) -> Result<(), CertError>
-    ensures { refusal_of result ≡ rules.keep_refusal evidence.now.node (seen_of evidence.now.facts) columns (shown_by evidence.now) (map lean_kept (map kept_of keep.now)) }
+    ensures { refusal_of result ≡ rules.keep_refusal (evidence_of evidence.now) columns (map lean_kept (map kept_of keep.now)) }
 {
     for kept in keep {
         check_claim(evidence, columns, kept)?;

@@ -13,7 +13,7 @@ ghost use Rattle.wd_sets.specs.Reaches as reaching;
 ghost use Rattle.wd_sets.specs.Sets.{has, has_column, is_in};
 ghost use Rattle.wd_rules.specs.Rules as spec;
 ghost use Rattle.wd_node_facts.specs.Seen.{seen_of, traced_of};
-ghost use Rattle.wd_verify.specs.Shown.{refusal_of, shown_by};
+ghost use Rattle.wd_verify.specs.Shown.{evidence_of, refusal_of};
 
 use crate::evidence::{Evidence, refuse_unless};
 use crate::trace::{reaches, reaches_each};
@@ -137,7 +137,7 @@ fn check_call(
     call: &Call,
     rule: Rule,
 ) -> Result<(), CertError>
-    ensures { refusal_of result ≡ spec.call_refusal evidence.now.node (seen_of evidence.now.facts) columns (shown_by evidence.now) (has_column among.now) call.now rule }
+    ensures { refusal_of result ≡ spec.call_refusal (evidence_of evidence.now) columns (has_column among.now) call.now rule }
 {
     let facts = &evidence.facts;
     let holds = match rule {
@@ -161,7 +161,7 @@ fn check_call_of(
 ) -> Result<(), CertError>
     requires class { call.now.class < length (window_of window.now).classes }
     requires sets { map has_column sets.now ≡ map (λ class. is_in (class_columns class)) (window_of window.now).classes }
-    ensures { refusal_of result ≡ spec.call_refusal evidence.now.node (seen_of evidence.now.facts) columns (shown_by evidence.now) (is_in (class_columns (class_at (window_of window.now) call.now.class))) call.now rule }
+    ensures { refusal_of result ≡ spec.call_refusal (evidence_of evidence.now) columns (is_in (class_columns (class_at (window_of window.now) call.now.class))) call.now rule }
 {
     let among = &sets[usize::from(call.class)];
     check_call(evidence, columns, among, call, rule)
@@ -177,7 +177,7 @@ fn check_calls(
 ) -> Result<(), CertError>
     requires named { NamesClasses (window_of window.now) }
     requires sets { map has_column sets.now ≡ map (λ class. is_in (class_columns class)) (window_of window.now).classes }
-    ensures { refusal_of result ≡ spec.calls_refusal evidence.now.node (seen_of evidence.now.facts) columns (shown_by evidence.now) (window_of window.now) (window_of window.now).calls rules.now }
+    ensures { refusal_of result ≡ spec.calls_refusal (evidence_of evidence.now) columns (window_of window.now) (window_of window.now).calls rules.now }
 {
     let mut later = rules.iter();
     for call in &window.calls {
@@ -250,8 +250,8 @@ pub(crate) fn check_window(
     rules: &[Rule],
 ) -> Result<(), CertError>
     requires { NamesClasses (window_of window.now) }
-    ensures passed { IfOk result (λ _. spec.window_refusal evidence.now.node (seen_of evidence.now.facts) columns (shown_by evidence.now) (window_of window.now) rules.now ≡ None) }
-    ensures refused { IfErr result (λ e. e ≢ CertError.OutOfMemory → spec.window_refusal evidence.now.node (seen_of evidence.now.facts) columns (shown_by evidence.now) (window_of window.now) rules.now ≡ Some e) }
+    ensures passed { IfOk result (λ _. spec.window_refusal (evidence_of evidence.now) columns (window_of window.now) rules.now ≡ None) }
+    ensures refused { IfErr result (λ e. e ≢ CertError.OutOfMemory → spec.window_refusal (evidence_of evidence.now) columns (window_of window.now) rules.now ≡ Some e) }
 {
     let sets = class_sets(alloc, &window.classes)?;
     check_calls(evidence, columns, window, &sets, rules)?;
@@ -289,8 +289,8 @@ pub(crate) fn check_limit(
     limit: &Limit,
     number: Option<u64>,
 ) -> Result<(), CertError>
-    ensures passed { IfOk result (λ _. spec.limit_refusal evidence.now.node (seen_of evidence.now.facts) columns (shown_by evidence.now) (limit_of limit.now) number ≡ None) }
-    ensures refused { IfErr result (λ e. e ≢ CertError.OutOfMemory → spec.limit_refusal evidence.now.node (seen_of evidence.now.facts) columns (shown_by evidence.now) (limit_of limit.now) number ≡ Some e) }
+    ensures passed { IfOk result (λ _. spec.limit_refusal (evidence_of evidence.now) columns (limit_of limit.now) number ≡ None) }
+    ensures refused { IfErr result (λ e. e ≢ CertError.OutOfMemory → spec.limit_refusal (evidence_of evidence.now) columns (limit_of limit.now) number ≡ Some e) }
 {
     let node = evidence.node;
     let refusal = CertError::UnjustifiedLimit { node };

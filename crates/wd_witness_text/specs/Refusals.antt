@@ -27,9 +27,7 @@ abbrev pub RefusesTable : List TableRule → WitnessTextError → TableRows → 
 RefusesTable schema UnknownTable t = table_named t.name schema ≡ None
 RefusesTable schema TooManyRows t = 64 < length t.rows
 RefusesTable schema RowLength t = (table : TableRule) × (table_named t.name schema ≡ Some table) × ¬ All (λ row. length row ≡ length table.columns) t.rows
-RefusesTable schema NotJson t = ⊥
-RefusesTable schema Shape t = ⊥
-RefusesTable schema OutOfMemory t = ⊥
+RefusesTable schema _ t = ⊥
 
 -- the text spells a witness of which a table is refused
 abbrev pub SpellsRefused : List TableRule → WitnessTextError → List ℕ → Type 0

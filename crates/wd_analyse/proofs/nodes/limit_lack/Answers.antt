@@ -33,9 +33,8 @@ returns c =
     let keys : Closing = closing_of c.in_ok-closed.closed in
     let kept = ap (map fact_of) c.deref.ensures.value ∙ f.keeps in
     record {
-      before = f.before;
-      child = f.top;
-      below = subst (λ n. AreFindings tables (plan_of c.args.input.now) n f.before f.top) (ap (λ l. length (map node_of l)) c.nothing-found.ensures.nodes) f.are;
+      found = f.found;
+      are = subst (λ n. AreFindings tables (plan_of c.args.input.now) n f.found) (ap (λ l. length (map node_of l)) c.nothing-found.ensures.nodes) f.are;
       keys = keys;
       closing = subst (λ facts. IsClosing facts keys) (c.in_ok-prepared.ensures ∙ c.in_ok-facts.ensures ∙ (λ i. given tables (c.requires.is i) (kept i) [])) c.in_ok-closed.ensures.closing;
       columns = c.in_ok-closed.ensures.from ∙ c.deref-3.ensures.value ∙ c.in_ok-columns.ensures ∙ ap key_columns c.deref-2.ensures.value;
