@@ -6,7 +6,8 @@
 
 First come the searches, by `check`: eight tables joined to all their pairs of rows, 65,536 where each has four rows. A limit that
 takes nothing stands on top, so that no two outcomes differ and the search goes on to its end. In the first the limit alone is
-open, which is 18 evaluations; in the second there are calls enough for 2,000, a third of them over four rows in each table. Then
+open, which is 18 evaluations; in the second there are calls enough for 2,000, a third of them over four rows in each table; in the
+third, of some 400 bytes, seven tables are joined below eight calls, each with an order of its own, whose values are not shown. Then
 come the witnesses, by `refute`: three tables of 64 rows, joined to 262,144 rows, in which two rows differ, and four, the fourth
 of 38 rows, joined to 9,961,472, near the most that a step may have. Of these the last choices are 170 MB of text; in the others, of
 3 and 4 KB, the rows of one table are numbered before they are joined, and the answer has 5 and 17 columns. Prints the seconds and the most memory of one run each.
@@ -30,6 +31,15 @@ def search_texts(calls):
     tables = ", ".join("t AS %s" % name for name in JOINED)
     items = "".join(", NTILE(%d) OVER (ORDER BY a.v)" % (n + 1) for n in range(calls))
     return {"schema.sql": SCHEMA, "query.sql": "SELECT a.id%s FROM %s ORDER BY a.v LIMIT 0\n" % (items, tables)}
+
+
+def unused_texts():
+    """A query with calls, each with an order of its own, whose values are not shown."""
+    names = JOINED[:7]
+    orders = ["%s.v" % name for name in names] + ["a.v, b.v"]
+    items = "".join(", ROW_NUMBER() OVER (ORDER BY %s) AS n%d" % (order, n) for n, order in enumerate(orders))
+    inner = "SELECT a.id%s FROM %s" % (items, ", ".join("t AS %s" % name for name in names))
+    return {"schema.sql": SCHEMA, "query.sql": "SELECT s.id FROM (%s) AS s\n" % inner}
 
 
 def witness_texts(sizes):
@@ -65,6 +75,7 @@ def all_texts():
     """What is run: a title, the command, the statuses allowed, and the texts."""
     yield "18 evaluations", "check", (2,), search_texts(0)
     yield "2,000 evaluations", "check", (2,), search_texts(CALLS)
+    yield "calls not shown", "check", (0, 2), unused_texts()
     yield "262,144 rows", "refute", (1,), witness_texts([ROWS] * 3)
     yield "9,961,472 rows", "refute", (1,), witness_texts([ROWS] * 3 + [LAST_ROWS])
     yield "9,961,472 rows of 5 columns", "refute", (1,), numbered_texts([ROWS] * 3 + [LAST_ROWS], 1)

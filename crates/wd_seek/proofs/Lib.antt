@@ -6,4 +6,5 @@ pub mod Building
 pub mod Meeting
 pub mod Over
 pub mod Trying
+pub mod Kept
 pub mod Shown

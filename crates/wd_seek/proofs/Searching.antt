@@ -31,7 +31,7 @@ show_both : (turn : Turn) (plan : PlanTree) (xs ys : List Instance) (a b : ℕ) 
 show_both turn plan [] ys a b h g = subst (ShowNothing turn plan ys) (omega (arith, h)) g
 show_both turn plan (x ∷ xs) ys a b h g = (h.0, h.1 + b, (let e = h.2 in omega arith), h.3, show_both turn plan xs ys h.1 b h.4 g)
 
-begun_end : (turn : Turn) (plan : PlanTree) (rest : List Instance) (n : ℕ) → rest ≡ [] → Begun turn plan rest n → n ≡ 0
+pub begun_end : (turn : Turn) (plan : PlanTree) (rest : List Instance) (n : ℕ) → rest ≡ [] → Begun turn plan rest n → n ≡ 0
 begun_end turn plan [] n e h = h
 begun_end turn plan (i ∷ is) n e h = absurd cc
 

@@ -1,13 +1,15 @@
 //! The search for a witness: two answers of a plan, over the small candidate instances in which rows tie. Each candidate is evaluated
 //! under the choice that keeps tied rows in their order, and under those that reverse them in one ordering.
 //!
-//! `search` goes through the candidates for each reason of an analysis, and `tried` skips those that do not meet the schema. `probed`
+//! `search` goes through the candidates for each reason of an analysis; `passed` leaves out those that were tried for an earlier one,
+//! and `tried` those that do not meet the schema. `probed`
 //! evaluates a candidate under one choice after another until two outcomes differ, by `evaluated`, and `witness` makes the witness of
 //! them. The number of evaluations is bounded.
 #![tactic(auto)]
 
 mod evaluated;
 pub mod laws;
+mod passed;
 mod probed;
 mod search;
 mod tried;

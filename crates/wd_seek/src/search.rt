@@ -1,20 +1,21 @@
 //! The search through all candidates.
 
-ghost use Rattle.std.specs.Prelude.{◌≡◌, ◌≤◌, true, filter, IfNone, IfOk, IfSome};
+ghost use Rattle.std.specs.Prelude.{◌≡◌, ◌≤◌, true, filter, IfNone, IfOk, IfSome, OnOk};
 ghost use Rattle.wd_candidates.specs.Candidates.{candidates};
 ghost use Rattle.wd_candidates.specs.Outlines.{IsOutline};
 ghost use Rattle.wd_plan.specs.Fits.{fits};
 ghost use Rattle.wd_partition.specs.declared.turn.Turn.TheVariants.{Reversed};
 ghost use Rattle.wd_plan.specs.Plans.{plan_of};
 ghost use Rattle.wd_seek.specs.Evaluations.{most_evaluations};
+ghost use Rattle.wd_seek.specs.Passed.{ArePassed};
 ghost use Rattle.wd_seek.specs.Search.{FirstShowNothing};
 ghost use Rattle.wd_refute.specs.Laws.{IsShown};
 ghost use Rattle.wd_schema.specs.Schemas.{schema_of};
 ghost use Rattle.wd_seek.specs.Sought.{IsSought, is_meeting, reasons_of, to_try};
 ghost use Rattle.wd_witness_text.specs.Witnesses.{witness_of};
 
+use crate::passed::{Passed, try_tied};
 use crate::probed::MOST_EVALUATIONS;
-use crate::tried::try_shapes;
 use std::alloc::Global;
 use wd_analyse::{Analysis, Reason};
 use wd_candidates::{Outline, outline_of, tied_columns};
@@ -65,8 +66,9 @@ fn try_reasons(
     ensures sought { IfOk result (λ r. IsSought Reversed (schema_of schema.now) (plan_of plan.now) (to_try (schema_of schema.now) (plan_of plan.now) reasons.now) 0 r.0 r.1) }
 {
     let mut spent = 0;
+    let mut passed = Vec::new(alloc);
     for reason in reasons {
-        let (found, made) = try_reason(alloc, schema, plan, outline, *reason, spent)?;
+        let (found, made) = try_reason(alloc, schema, plan, outline, *reason, spent, &mut passed)?;
         if let Some(witness) = found {
             return Ok((Some(witness), made));
         }
@@ -75,7 +77,7 @@ fn try_reasons(
     Ok((None, spent))
 }
 
-/// Tries the candidates for one reason.
+/// Tries the candidates for one reason. Those of columns whose candidates passed before are not evaluated again.
 fn try_reason(
     alloc: Global,
     schema: &Schema,
@@ -83,10 +85,13 @@ fn try_reason(
     outline: &Outline,
     reason: Reason,
     spent: u32,
+    passed: &mut Vec<Passed>,
 ) -> Result<(Option<Witness>, u32), OutOfMemory>
     requires fitting { fits (schema_of schema.now) (plan_of plan.now) ≡ true }
     requires outline { IsOutline (schema_of schema.now) (plan_of plan.now) outline.now }
     requires few { spent ≤ most_evaluations }
+    requires passed { ArePassed (schema_of schema.now) (plan_of plan.now) passed.old.items }
+    ensures passed { OnOk result (ArePassed (schema_of schema.now) (plan_of plan.now) passed.new.items) }
     ensures few { IfOk result (λ r. r.1 ≤ most_evaluations) }
     ensures sought { IfOk result (λ r. IsSought Reversed (schema_of schema.now) (plan_of plan.now) (filter (is_meeting (schema_of schema.now)) (candidates (schema_of schema.now) (plan_of plan.now) reason.node reason.call)) spent r.0 r.1) }
 {
@@ -95,6 +100,6 @@ fn try_reason(
     }
     match tied_columns(alloc, schema, plan, reason.node, reason.call)? {
         None => Ok((None, spent)),
-        Some(tied) => try_shapes(alloc, schema, plan, outline, &tied, spent),
+        Some(tied) => try_tied(alloc, schema, plan, outline, tied, spent, passed),
     }
 }

@@ -29,4 +29,4 @@ returns-in-Some-clause-sought c =
     let plan = plan_of c.args.plan.now in
     let tables = schema_of c.args.schema.now in
     let o = some_ordered tables (ordered_by plan c.args.reason.node c.args.reason.call) c.in_ok-tied_columns.field-0 c.in-Some.tied c.in-Some.is c.in_ok-tied_columns.ensures in
-    rw o.1 (IfOk-weaker c.try_shapes.result _ (λ r. IsSought Reversed tables plan (filter (is_meeting tables) (map (candidate tables plan o.0) shapes)) c.args.spent r.0 r.1) (λ r h. h o.0 o.2) c.try_shapes.ensures.sought)
+    rw o.1 (IfOk-weaker c.try_tied.result _ (λ r. IsSought Reversed tables plan (filter (is_meeting tables) (map (candidate tables plan o.0) shapes)) c.args.spent r.0 r.1) (λ r h. h o.0 o.2) c.try_tied.ensures.sought)

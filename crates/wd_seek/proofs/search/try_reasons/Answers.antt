@@ -18,6 +18,7 @@ loop-reason-preserved c =
       c.in_ok-found.ensures.few,
       nothing_in_one_more Reversed tables plan (λ (reason : Reason). candidates tables plan reason.node reason.call) c.args.reasons.now l.reason-index none 0 l.spent c.in_ok-found.made c.in_ok-found.ensures.few c.loop-reason-test.true l.invariant.1
           (subst (λ found. IsSought Reversed tables plan (filter (is_meeting tables) (candidates tables plan (get_or c.args.reasons.now l.reason-index none).node (get_or c.args.reasons.now l.reason-index none).call)) l.spent found c.in_ok-found.made) c.in_default.is c.in_ok-found.ensures.sought),
+      c.in_ok-found.ensures.passed,
     )
 
 pub returns-in-Some-clause-sought : goal.returns-in-Some-clause-sought
