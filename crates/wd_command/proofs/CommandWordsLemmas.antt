@@ -10,8 +10,8 @@ use Rattle.clap.specs.Kinds.{Kinds, or_else, range_kinds}
 use Rattle.clap.specs.Faults.{check_fault, defaults_fault, step_fault, turn_fault, values_fault}
 use Rattle.clap.specs.declared.parser.matches.ValueSource.TheVariants.{CommandLine}
 use Rattle.clap.proofs.OnLiterals.{clap_on_literals}
-use Rattle.wd_command.specs.CommandLine.{any_number, asked_after, check_of, file_command, flag, paths_command, tables_command, tables_in, two_paths, verify_of, wanted, with_list}
-use Rattle.wd_command.specs.Words.{Asked, Explain, Refute, Run, IsPlain}
+use Rattle.wd_command.specs.CommandLine.{any_number, file_command, flag, line_after, paths_command, tables_command, tables_in, two_paths, wanted, with_list}
+use Rattle.wd_command.specs.Words.{IsPlain, run_words}
 use Rattle.wd_command.proofs.CommandLineLemmas.{Follows, Takes, between, end_fault, fault_follows, level, next_turn, none_left, plain_first, plain_rest, rest_fault, shape, start, taken, value_turn, walk_follows}
 
 -- a positional with its number, as it is built, and what a parse finds for it
@@ -180,10 +180,10 @@ unfolding clap_on_literals
 list_fine name true s q = refl
 list_fine name false s q = refl
 
-pub explain_found : (s q : Text) → asked_after (codes "explain") (finished (paths_shape (codes "explain")).rules (after_paths false s q).held) ≡ Some (Explain s q)
+pub explain_found : (s q : Text) → line_after (codes "explain") (finished (paths_shape (codes "explain")).rules (after_paths false s q).held) ≡ Some (codes "explain" ∷ s ∷ q ∷ [])
 explain_found s q = refl
 
-pub check_found : (given : Bool) (s q : Text) → asked_after (codes "check") (finished (list_shape (codes "check")).rules (after_paths given s q).held) ≡ Some (check_of given (s, q))
+pub check_found : (given : Bool) (s q : Text) → line_after (codes "check") (finished (list_shape (codes "check")).rules (after_paths given s q).held) ≡ Some (codes "check" ∷ flagged given (s ∷ q ∷ []))
 check_found true s q = refl
 check_found false s q = refl
 
@@ -269,10 +269,10 @@ unfolding clap_on_literals
 list_file_fine name true s q f = refl
 list_file_fine name false s q f = refl
 
-pub refute_found : (s q f : Text) → asked_after (codes "refute") (finished (file_shape (codes "refute")).rules (after_file false s q f).held) ≡ Some (Refute s q f)
+pub refute_found : (s q f : Text) → line_after (codes "refute") (finished (file_shape (codes "refute")).rules (after_file false s q f).held) ≡ Some (codes "refute" ∷ s ∷ q ∷ f ∷ [])
 refute_found s q f = refl
 
-pub verify_found : (given : Bool) (s q f : Text) → asked_after (codes "verify") (finished (list_file_shape (codes "verify")).rules (after_file given s q f).held) ≡ Some (verify_of given (s, q, f))
+pub verify_found : (given : Bool) (s q f : Text) → line_after (codes "verify") (finished (list_file_shape (codes "verify")).rules (after_file given s q f).held) ≡ Some (codes "verify" ∷ flagged given (s ∷ q ∷ f ∷ []))
 verify_found true s q f = refl
 verify_found false s q f = refl
 
@@ -348,10 +348,10 @@ module _ (name : Text) where
       (or_else (defaults_fault (settled tables_shape.rules h).rows tables_shape.rules) (check_fault tables_shape (finished tables_shape.rules h) false)))
       (below_most (length (t ∷ tables)) below) (any_text (t ∷ tables))
 
-  abbrev asked_by_run : List Row → Option Asked
-  asked_by_run rows = option_map (λ paths. Run paths.0 paths.1 (tables_in rows)) (two_paths rows)
+  abbrev run_line : List Row → Option (List Text)
+  run_line rows = option_map (λ paths. run_words paths.0 paths.1 (tables_in rows)) (two_paths rows)
 
-  rows_at_end : (s q : Text) (tables : List Text) → asked_by_run (finished tables_shape.rules (after_all s q tables).held) ≡ Some (Run s q tables)
+  rows_at_end : (s q : Text) (tables : List Text) → run_line (finished tables_shape.rules (after_all s q tables).held) ≡ Some (run_words s q tables)
   rows_at_end s q [] = refl
   rows_at_end s q (t ∷ tables) = refl
 
@@ -361,7 +361,7 @@ module _ (name : Text) where
         all_words (rest_fault tables_shape) (fault_follows tables_shape) s q tables plain
         ∙ (none_left tables_shape (after_all s q tables) ∙ tables_end s q tables below)
 
-    pub tables_rows : asked_by_run (rows_after tables_shape.rules [] (s ∷ q ∷ tables)) ≡ Some (Run s q tables)
+    pub tables_rows : run_line (rows_after tables_shape.rules [] (s ∷ q ∷ tables)) ≡ Some (run_words s q tables)
     tables_rows =
-        ap (λ (w : Walk). asked_by_run (finished tables_shape.rules w.held)) (all_words (fold (walked tables_shape.rules [])) (walk_follows tables_shape) s q tables plain)
+        ap (λ (w : Walk). run_line (finished tables_shape.rules w.held)) (all_words (fold (walked tables_shape.rules [])) (walk_follows tables_shape) s q tables plain)
         ∙ rows_at_end s q tables

@@ -1,7 +1,7 @@
 -- What was handed over by several reads.
-use Rattle.std.proofs.Common.{◌≡◌, ◌∙◌, ◌++◌, ℕ, List, [], ◌∷◌, Option, Some, None, ap, append_assoc, append-nil, refl, sym}
-use Rattle.wd_command.specs.Commands.{data_in}
-use Rattle.wd_command.specs.Files.{AllRead, File, HandsOver, Reads, ReadsNothing}
+use Rattle.std.proofs.Common.{◌≡◌, ◌∙◌, ◌++◌, ℕ, List, [], ◌∷◌, Option, Some, None, ap, append_assoc, append-nil, map, refl, sym}
+use Rattle.std.proofs.lemmas.List.{map-append}
+use Rattle.wd_command.specs.Files.{AllRead, File, HandsOver, Reads, ReadsNothing, StandsNext}
 
 pub HandsOver-trans : (before middle after : Option (List File)) (files more : List File) → HandsOver before middle files → HandsOver middle after more
     → HandsOver before after (files ++ more)
@@ -25,7 +25,18 @@ AllRead-trans before middle after files more first second = record {
   none_failed = second.none_failed ∙ first.none_failed;
 }
 
--- tables without files have no data
-pub no_data : (tables : List (List ℕ × List ℕ)) → data_in tables [] ≡ []
-no_data [] = refl
-no_data (t ∷ tables) = refl
+abbrev path_of : File → List ℕ
+path_of file = file.0
+
+-- what comes next among some paths comes next where more follow
+pub StandsNext-before : (paths more : List (List ℕ)) (files : List File) (path : List ℕ) → StandsNext paths files path → StandsNext (paths ++ more) files path
+StandsNext-before paths more files path (rest, is) =
+    (rest ++ more, ap (λ ps. ps ++ more) is ∙ append_assoc (map path_of files) (path ∷ rest) more)
+
+-- and where files were read before
+pub StandsNext-behind : (first : List File) (paths : List (List ℕ)) (files : List File) (path : List ℕ) → StandsNext paths files path
+    → StandsNext (map path_of first ++ paths) (first ++ files) path
+StandsNext-behind first paths files path (rest, is) = (
+  rest,
+  ap (λ ps. map path_of first ++ ps) is ∙ sym (append_assoc (map path_of first) (map path_of files) (path ∷ rest)) ∙ ap (λ front. front ++ path ∷ rest) (sym (map-append path_of first files)),
+)

@@ -1,14 +1,12 @@
 -- The command line: its shape in the words of `clap`, and what words ask for.
-use Rattle.std.specs.Prelude.{◌≡◌, ◌≢◌, ℕ, Bool, List, [], ◌∷◌, map, codes, if◌then◌else◌, Option, Some, None, option_and_then, option_map, fold, false, true, unwrap_or}
+use Rattle.std.specs.Prelude.{◌≡◌, ◌≢◌, ℕ, Bool, List, [], ◌∷◌, codes, if◌then◌else◌, Option, Some, None, option_and_then, option_map, fold, false, true, unwrap_or}
 use Rattle.std.specs.Option.{option_map_or}
 use Rattle.std.specs.Str.{bytes_eq}
 use Rattle.clap.specs.Words.{App, Row, Rule, all_of, fault_of, first_of, new_app, new_rule, one_of, subcommand_of, with_rule, with_subcommand}
 use Rattle.clap.specs.Simple.{on_top}
 use Rattle.clap.specs.Lexer.{usize_max}
 use Rattle.clap.specs.declared.builder.action.ArgAction.TheVariants.{SetTrue}
-use Rattle.wd_command.specs.Words.{Asked, Task, Check, CheckList, Explain, Verify, VerifyList, Refute, Run, IsCut, asked_of}
-use Rattle.wd_command.specs.declared.words.Request.{Request}
-use Rattle.wd_command.specs.declared.words.Request.TheVariants as request
+use Rattle.wd_command.specs.Words.{Task, Usage, Check, Explain, Verify, Refute, IsCut, run_words, words_of}
 
 -- ---- the commands, in the words of `clap`
 
@@ -70,49 +68,37 @@ is_listed rows = option_map_or (λ text. bytes_eq text (codes "true")) (one_of (
 abbrev pub tables_in : List Row → List (List ℕ)
 tables_in rows = unwrap_or (all_of (codes "tables") rows) []
 
--- what `check` and `verify` are asked for, by the flag and the paths
-abbrev pub check_of : Bool → List ℕ × List ℕ → Asked
-check_of listed paths = if listed then CheckList paths.0 paths.1 else Check paths.0 paths.1
-
-abbrev pub verify_of : Bool → List ℕ × List ℕ × List ℕ → Asked
-verify_of listed paths = if listed then VerifyList paths.0 paths.1 paths.2 else Verify paths.0 paths.1 paths.2
-
--- what is asked for by a command's name and what follows it
-abbrev pub asked_after : List ℕ → List Row → Option Asked
-asked_after name rows = if bytes_eq name (codes "check") then option_map (check_of (is_listed rows)) (two_paths rows)
-    else (if bytes_eq name (codes "explain") then option_map (λ paths. Explain paths.0 paths.1) (two_paths rows)
-    else (if bytes_eq name (codes "verify") then option_map (verify_of (is_listed rows)) (three_paths rows)
-    else (if bytes_eq name (codes "refute") then option_map (λ paths. Refute paths.0 paths.1 paths.2) (three_paths rows)
-    else (if bytes_eq name (codes "run") then option_map (λ paths. Run paths.0 paths.1 (tables_in rows)) (two_paths rows)
+-- the command's words in one order: its name, the flag if it was given, the paths, and words NAME=PATH
+abbrev pub line_after : List ℕ → List Row → Option (List (List ℕ))
+line_after name rows = if bytes_eq name (codes "check") then option_map (λ paths. words_of (Check (is_listed rows) paths.0 paths.1)) (two_paths rows)
+    else (if bytes_eq name (codes "explain") then option_map (λ paths. words_of (Explain paths.0 paths.1)) (two_paths rows)
+    else (if bytes_eq name (codes "verify") then option_map (λ paths. words_of (Verify (is_listed rows) paths.0 paths.1 paths.2)) (three_paths rows)
+    else (if bytes_eq name (codes "refute") then option_map (λ paths. words_of (Refute paths.0 paths.1 paths.2)) (three_paths rows)
+    else (if bytes_eq name (codes "run") then option_map (λ paths. run_words paths.0 paths.1 (tables_in rows)) (two_paths rows)
     else None))))
 
--- what is asked for by the command that a parse has met
-abbrev pub asked_in : Option (List ℕ × List Row) → Option Asked
-asked_in met = option_and_then (λ command. asked_after command.0 command.1) met
-
--- what a request of the code asks for
-abbrev pub asked_by : Request → Asked
-asked_by (request.Check schema query) = Check schema.now query.now
-asked_by (request.CheckList schema query) = CheckList schema.now query.now
-asked_by (request.Explain schema query) = Explain schema.now query.now
-asked_by (request.Verify schema query certificate) = Verify schema.now query.now certificate.now
-asked_by (request.VerifyList schema query certificate) = VerifyList schema.now query.now certificate.now
-asked_by (request.Refute schema query witness) = Refute schema.now query.now witness.now
-asked_by (request.Run schema query tables) = Run schema.now query.now (map (λ w. w.now) tables.items)
+-- those of the command that a parse has met
+abbrev pub line_in : Option (List ℕ × List Row) → Option (List (List ℕ))
+line_in met = option_and_then (λ command. line_after command.0 command.1) met
 
 -- ---- what words ask for
 
--- `clap` finds no fault in the words, and what a parse of them finds asks for this
-pub record AreWordsOf (words : List (List ℕ)) (asked : Asked) : Type 0 where
+-- `clap` finds no fault in the words, and what a parse of them finds are these words in one order
+pub record AreReadAs (words line : List (List ℕ)) : Type 0 where
   pub fine : fault_of command_line words ≡ []
-  pub found : asked_in (subcommand_of command_line words) ≡ Some asked
+  pub found : line_in (subcommand_of command_line words) ≡ Some line
 
--- the words ask for the task, each word NAME=PATH of which is cut at its first `=`
-pub record AskFor (words : List (List ℕ)) (task : Task) : Type 0 where
-  pub asked : AreWordsOf words (asked_of task)
+-- the words are those of the task, each word NAME=PATH of which is cut at its first `=`
+pub record AreWordsOf (words : List (List ℕ)) (task : Task) : Type 0 where
+  pub read : AreReadAs words (words_of task)
   pub cut : IsCut task
 
--- there are words, and they ask for nothing
+-- the words ask for the task by the paths of its inputs; without words it is the usage
+abbrev pub AskFor : List (List ℕ) → Task → Type 0
+AskFor [] task = task ≡ Usage
+AskFor (word ∷ words) task = AreWordsOf (word ∷ words) task
+
+-- there are words, and they are those of no command
 pub record AreOtherWords (words : List (List ℕ)) : Type 0 where
   pub some : words ≢ []
-  pub other : (asked : Asked) → AreWordsOf words asked → ⊥
+  pub other : (line : List (List ℕ)) → AreReadAs words line → ⊥

@@ -1,5 +1,5 @@
 -- Why the program ends without its output: the exit status, the line on standard error, and what holds after a failure.
-use Rattle.std.specs.Prelude.{◌≡◌, ◌≢◌, ℕ, ⊤, List, [], ◌++◌, codes, drop, map, Any, Option, Some, None, IfSome}
+use Rattle.std.specs.Prelude.{◌≡◌, ◌≢◌, ℕ, ⊤, true, false, List, [], ◌++◌, codes, Option, Some, None, IfSome}
 use Rattle.std.specs.Fmt.{decimal}
 use Rattle.clap.specs.Values.{kind_of}
 use Rattle.clap.specs.declared.error.Error.{Error}
@@ -23,11 +23,11 @@ use Rattle.wd_decide.specs.Verdicts as verdicts
 use Rattle.wd_decide.specs.declared.error.DecideError.{DecideError}
 use Rattle.wd_decide.specs.declared.error.DecideError.TheVariants as decide
 use Rattle.wd_report.specs.Words.{line}
-use Rattle.wd_command.specs.CommandLine.{AreOtherWords, AreWordsOf, AskFor}
-use Rattle.wd_command.specs.Commands.{HasFault, data_in, text_at}
-use Rattle.wd_command.specs.Files.{AllRead, File, Reads, ReadsNothing, StandsNext, StopsAt}
+use Rattle.wd_command.specs.CommandLine.{AreOtherWords, AreReadAs, AskFor}
+use Rattle.wd_command.specs.Commands.{HasFault}
+use Rattle.wd_command.specs.Files.{AllRead, File, Reads, ReadsNothing, StandsNext, StopsAt, paths_of, texts_of}
 use Rattle.wd_command.specs.Streams.{AppendsPart}
-use Rattle.wd_command.specs.Words.{HasNoEquals, Task, Check, CheckList, Explain, Verify, VerifyList, Refute, Run, paths_of}
+use Rattle.wd_command.specs.Words.{HasUncut, Task, TaskOf, Usage, Check, Explain, Verify, Refute, Run, inputs_of}
 use Rattle.wd_command.specs.declared.failure.Failure.{Failure}
 use Rattle.wd_command.specs.declared.failure.Failure.TheVariants.{CommandLine, NotText, Unassigned, Refused, Fault, CannotRead, CannotWrite, OutOfMemory}
 use Rattle.wd_command.specs.declared.failure.Input.{Input}
@@ -85,13 +85,45 @@ line_of OutOfMemory = Some (line (codes "out of memory"))
 abbrev pub Shows : Option (List ℕ) → Option (List ℕ) → Failure → Type 0
 Shows err err_after failure = IfSome (line_of failure) (AppendsPart err err_after)
 
+-- ---- what a failure is by
+
+-- a cause for each kind of failure; memory may run out at any time
+pub record Causes : Type 1 where
+  pub words : Error → Type 0
+  pub not_text : Type 0
+  pub unassigned : List ℕ → Type 0
+  pub refused : Refusal → Type 0
+  pub fault : QueryFault → Type 0
+  pub unread : List ℕ → Type 0
+  pub unwritten : Type 0
+
+abbrev pub no_cause : Causes
+no_cause = record {
+  words = λ error. ⊥;
+  not_text = ⊥;
+  unassigned = λ word. ⊥;
+  refused = λ refusal. ⊥;
+  fault = λ fault. ⊥;
+  unread = λ path. ⊥;
+  unwritten = ⊥;
+}
+
+-- the failure's cause holds
+abbrev pub IsBy : Causes → Failure → Type 0
+IsBy causes (CommandLine error) = causes.words error
+IsBy causes NotText = causes.not_text
+IsBy causes (Unassigned word) = causes.unassigned word.now
+IsBy causes (Refused refusal) = causes.refused refusal
+IsBy causes (Fault fault) = causes.fault fault
+IsBy causes (CannotRead path) = causes.unread path.now
+IsBy causes CannotWrite = causes.unwritten
+IsBy causes OutOfMemory = ⊤
+
 -- ---- refusals
 
--- what a refusal says: the input that it is about, its number and its place; without a number memory runs out
-abbrev pub Says : Input → Option ℕ → Option ℕ → Failure → Type 0
-Says input number place (Refused refusal) = (refusal.input ≡ input) × (Some refusal.number ≡ number) × (refusal.place ≡ place)
-Says input number place OutOfMemory = ⊤
-Says input number place failure = ⊥
+-- what a refusal says: the input that it is about, its number and its place
+abbrev pub Says : Input → Option ℕ → Option ℕ → Refusal → Type 0
+Says input number place refusal = (refusal.input ≡ input) × (Some refusal.number ≡ number) × (refusal.place ≡ place)
 
 -- the input that a refusal of a schema and a query is about
 abbrev pub text_input : TextError → Input
@@ -123,111 +155,87 @@ abbrev pub decide_input : DecideError → Input
 decide_input (decide.Texts error) = text_input error
 decide_input decide.OutOfMemory = input.Run
 
--- the failure is that of a refusal of a schema and a query
-abbrev pub IsDecideRefusal : DecideError → Failure → Type 0
-IsDecideRefusal error failure = Says (decide_input error) (verdicts.decide_number error) (verdicts.decide_place error) failure
+-- what the refusal of a schema and a query, of a run, of a certificate and of a witness says
+abbrev pub SaysDecide : DecideError → Refusal → Type 0
+SaysDecide error = Says (decide_input error) (verdicts.decide_number error) (verdicts.decide_place error)
 
--- the failure is that of a refusal of a run
-abbrev pub IsRunRefusal : RunError → Failure → Type 0
-IsRunRefusal error failure = Says (run_input error) (runs.run_number error) (runs.run_place error) failure
+abbrev pub SaysRun : RunError → Refusal → Type 0
+SaysRun error = Says (run_input error) (runs.run_number error) (runs.run_place error)
 
--- the failure is that of a refusal of a certificate
-abbrev pub IsVerifyRefusal : VerifyError → Failure → Type 0
-IsVerifyRefusal error failure = Says (verify_input error) (acceptance.verify_number error) (acceptance.verify_place error) failure
+abbrev pub SaysVerify : VerifyError → Refusal → Type 0
+SaysVerify error = Says (verify_input error) (acceptance.verify_number error) (acceptance.verify_place error)
 
--- the failure is that of a refusal of a witness
-abbrev pub IsWitnessRefusal : WitnessError → Failure → Type 0
-IsWitnessRefusal error failure = Says (witness_input error) (refutation.number_of error) (refutation.place_of error) failure
+abbrev pub SaysWitness : WitnessError → Refusal → Type 0
+SaysWitness error = Says (witness_input error) (refutation.number_of error) (refutation.place_of error)
+
+-- the failure is a refusal that says so; memory runs out where there is no number
+abbrev pub IsRefusal : (Refusal → Type 0) → Failure → Type 0
+IsRefusal says failure = IsBy (record no_cause { refused = says }) failure
 
 -- ---- what holds after a failure
 
--- `clap` refuses the words, or memory runs out
+-- `clap` refuses the words
 abbrev pub IsFaultOfWords : Error → Failure → Type 0
-IsFaultOfWords fault (CommandLine error) = kind_of fault ≢ kind.OutOfMemory
-IsFaultOfWords fault OutOfMemory = ⊤
-IsFaultOfWords fault failure = ⊥
+IsFaultOfWords fault failure = IsBy (record no_cause { words = λ error. kind_of fault ≢ kind.OutOfMemory }) failure
 
--- a word is no text, or memory runs out
+-- a word is no text
 abbrev pub IsOfArguments : Failure → Type 0
-IsOfArguments NotText = ⊤
-IsOfArguments OutOfMemory = ⊤
-IsOfArguments failure = ⊥
+IsOfArguments failure = IsBy (record no_cause { not_text = ⊤ }) failure
 
--- one of the words has no `=`, or memory runs out
-abbrev pub IsUncut : List (List ℕ) → Failure → Type 0
-IsUncut words (Unassigned word) = HasNoEquals word.now × Any (λ w. w ≡ word.now) words
-IsUncut words OutOfMemory = ⊤
-IsUncut words failure = ⊥
+-- a word has no `=`
+abbrev pub IsUncut : (List ℕ → Type 0) → Failure → Type 0
+IsUncut IsWord failure = IsBy (record no_cause { unassigned = IsWord }) failure
 
--- one read failed, of a path that comes next after the files that were supplied, or memory runs out
+-- one read failed, of a path that comes next after the files that were supplied
 abbrev pub IsUnread : (List File → List ℕ → Type 0) → Reads → Reads → Failure → Type 0
-IsUnread IsNext before after (CannotRead path) = StopsAt IsNext before after path.now
-IsUnread IsNext before after OutOfMemory = ⊤
-IsUnread IsNext before after failure = ⊥
+IsUnread IsNext before after failure = IsBy (record no_cause { unread = StopsAt IsNext before after }) failure
 
--- there is a refusal, for a cause that the files have, or memory runs out
-abbrev pub IsRefusalBy : {E : Type 0} → (E → Type 0) → (E → Failure → Type 0) → Failure → Type 0
-IsRefusalBy {E = E} HasCause IsRefusal (Refused refusal) = (error : E) × HasCause error × IsRefusal error (Refused refusal)
-IsRefusalBy HasCause IsRefusal OutOfMemory = ⊤
-IsRefusalBy HasCause IsRefusal failure = ⊥
+-- what a refusal says is said of an error for which there is a cause
+abbrev pub IsFor : {E : Type 0} → (E → Type 0) → (E → Refusal → Type 0) → Refusal → Type 0
+IsFor {E = E} HasCause SaysError refusal = (error : E) × HasCause error × SaysError error refusal
 
--- `check`, with the flag or without, and `explain` over the files of a schema and a query are refused
-abbrev pub FailsDecide : List File → Failure → Type 0
-FailsDecide files failure = IsRefusalBy (verdicts.HasCause (text_at files 0) (text_at files 1)) IsDecideRefusal failure
+-- what a task's refusal says, by the texts of its inputs
+abbrev pub IsRefused : Task → Refusal → Type 0
+IsRefused Usage refusal = ⊥
+IsRefused (Check listed schema query) refusal = IsFor (verdicts.HasCause schema query) SaysDecide refusal
+IsRefused (Explain schema query) refusal = IsFor (verdicts.HasCause schema query) SaysDecide refusal
+IsRefused (Verify false schema query certificate) refusal = IsFor (acceptance.HasCause schema query certificate) SaysVerify refusal
+IsRefused (Verify true schema query certificate) refusal = IsFor (lists.HasListCause schema query certificate) SaysVerify refusal
+IsRefused (Refute schema query witness) refusal = IsFor (refutation.HasCause schema query witness) SaysWitness refusal
+IsRefused (Run schema query tables) refusal = IsFor (runs.HasCause schema query tables) SaysRun refusal
 
--- `verify` over the files of a schema, a query and a certificate is refused
-abbrev pub FailsVerify : List File → Failure → Type 0
-FailsVerify files failure = IsRefusalBy (acceptance.HasCause (text_at files 0) (text_at files 1) (text_at files 2)) IsVerifyRefusal failure
+-- a task's query has this fault, by the texts of its inputs
+abbrev pub IsFaulty : Task → QueryFault → Type 0
+IsFaulty (Run schema query tables) fault = HasFault schema query tables fault
+IsFaulty task fault = ⊥
 
--- `verify --list` over these files is refused
-abbrev pub FailsVerifyList : List File → Failure → Type 0
-FailsVerifyList files failure = IsRefusalBy (lists.HasListCause (text_at files 0) (text_at files 1) (text_at files 2)) IsVerifyRefusal failure
+-- a task by the texts of its inputs has no answer
+abbrev pub IsUnanswered : Task → Failure → Type 0
+IsUnanswered task failure = IsBy (record no_cause { refused = IsRefused task; fault = IsFaulty task }) failure
 
--- `refute` over the files of a schema, a query and a witness is refused
-abbrev pub FailsRefute : List File → Failure → Type 0
-FailsRefute files failure = IsRefusalBy (refutation.HasCause (text_at files 0) (text_at files 1) (text_at files 2)) IsWitnessRefusal failure
-
--- `run` over the files of a schema, a query and these tables is refused, or its query faults
-abbrev pub FailsRun : List (List ℕ × List ℕ) → List File → Failure → Type 0
-FailsRun tables files (Fault fault) = HasFault (text_at files 0) (text_at files 1) (data_in tables (drop 2 files)) fault
-FailsRun tables files failure = IsRefusalBy (runs.HasCause (text_at files 0) (text_at files 1) (data_in tables (drop 2 files))) IsRunRefusal failure
-
--- a task over its files has no answer
-abbrev pub IsUnanswered : Task → List File → Failure → Type 0
-IsUnanswered (Check schema query) files failure = FailsDecide files failure
-IsUnanswered (CheckList schema query) files failure = FailsDecide files failure
-IsUnanswered (Explain schema query) files failure = FailsDecide files failure
-IsUnanswered (Verify schema query certificate) files failure = FailsVerify files failure
-IsUnanswered (VerifyList schema query certificate) files failure = FailsVerifyList files failure
-IsUnanswered (Refute schema query witness) files failure = FailsRefute files failure
-IsUnanswered (Run schema query tables) files failure = FailsRun tables files failure
-
--- the files that the words ask for were read, and the failure is about their contents
-pub record ComesOfFiles (words : List (List ℕ)) (before after : Reads) (failure : Failure) : Type 0 where
-  pub task : Task
-  pub files : List File
-  pub asked : AskFor words task
-  pub named : map (λ f. f.0) files ≡ paths_of task
-  pub read : AllRead before after files
-  pub unanswered : IsUnanswered task files failure
+-- the files that the words ask for were read, and this holds of the task by their texts
+pub record ComesOfFiles (words : List (List ℕ)) (before after : Reads) (Holds : Task → Type 0) : Type 0 where
+  pub task : TaskOf File
+  pub asked : AskFor words (paths_of task)
+  pub read : AllRead before after (inputs_of task)
+  pub holds : Holds (texts_of task)
 
 -- the words ask for the paths of these files, in their order, and then for this one
 abbrev pub AskNext : List (List ℕ) → List File → List ℕ → Type 0
-AskNext words files path = (task : Task) × AskFor words task × StandsNext (paths_of task) files path
+AskNext words files path = (task : Task) × AskFor words task × StandsNext (inputs_of task) files path
 
--- the word has the place of NAME=PATH in the words of `run`
-abbrev pub IsTableWord : List (List ℕ) → List ℕ → Type 0
-IsTableWord words word = (schema query : List ℕ) × (tables : List (List ℕ)) × AreWordsOf words (Run schema query tables) × Any (λ w. w ≡ word) tables
+-- the words are those of `run`, and this one has the place of NAME=PATH and no `=`
+abbrev pub IsUncutWord : List (List ℕ) → List ℕ → Type 0
+IsUncutWord words word = (line : List (List ℕ)) × AreReadAs words line × HasUncut line word
 
 -- The reason of a failure to make the output. A fault of the command line and a word without an `=` come before any file is read.
 -- `CannotRead` means that one read failed, of a path that the words ask for, and that exactly the files that the words ask for before
 -- that one were supplied. A refusal or a fault is about the files' contents.
 abbrev pub HasReason : List (List ℕ) → Reads → Reads → Failure → Type 0
-HasReason words before after (CommandLine error) = AreOtherWords words × ReadsNothing before after
-HasReason words before after NotText = ⊥
-HasReason words before after (Unassigned word) = HasNoEquals word.now × IsTableWord words word.now × ReadsNothing before after
-HasReason words before after (Refused refusal) = ComesOfFiles words before after (Refused refusal)
-HasReason words before after (Fault fault) = ComesOfFiles words before after (Fault fault)
-HasReason words before after (CannotRead path) = StopsAt (AskNext words) before after path.now
-HasReason words before after CannotWrite = ⊥
-HasReason words before after OutOfMemory = ⊤
+HasReason words before after failure = IsBy (record no_cause {
+  words = λ error. AreOtherWords words × ReadsNothing before after;
+  unassigned = λ word. IsUncutWord words word × ReadsNothing before after;
+  refused = λ refusal. ComesOfFiles words before after (λ task. IsRefused task refusal);
+  fault = λ fault. ComesOfFiles words before after (λ task. IsFaulty task fault);
+  unread = StopsAt (AskNext words) before after;
+}) failure

@@ -3,12 +3,20 @@ use Rattle.std.specs.Prelude.{◌≡◌, ◌+◌, ℕ, List, [], ◌∷◌, ◌+
 use Rattle.std.specs.IoError.{error_kind, raw_os_error}
 use Rattle.std.specs.declared.io.Error.{Error}
 use Rattle.std.specs.declared.io.ErrorKind.TheVariants as kind
+use Rattle.wd_command.specs.Words.{Task, TaskOf, inputs_of, with_inputs}
 use Rattle.wd_command.specs.declared.files.ReadFault.{ReadFault}
 use Rattle.wd_command.specs.declared.files.ReadFault.TheVariants.{Failed, OutOfMemory}
 
 -- a file: its path and its bytes
 abbrev pub File : Type 0
 File = List ℕ × List ℕ
+
+-- a task of files by the paths of its inputs, and by their texts
+abbrev pub paths_of : TaskOf File → Task
+paths_of task = with_inputs (λ f. f.0) task
+
+abbrev pub texts_of : TaskOf File → Task
+texts_of task = with_inputs (λ f. f.1) task
 
 -- if it is known what was supplied so far: exactly these files were supplied after that
 abbrev pub HandsOver : Option (List File) → Option (List File) → List File → Type 0
@@ -31,6 +39,20 @@ reads handed failures = record { handed = handed; failures = failures }
 pub record AllRead (before after : Reads) (files : List File) : Type 0 where
   pub handed : HandsOver before.handed after.handed files
   pub none_failed : after.failures ≡ before.failures
+
+-- the files of a task by its paths were read, in the order of the words, and these are their texts
+pub record AreTexts (before after : Reads) (paths texts : Task) : Type 0 where
+  pub task : TaskOf File
+  pub named : paths_of task ≡ paths
+  pub read : AllRead before after (inputs_of task)
+  pub are : texts_of task ≡ texts
+
+-- and so of tables alone, each with its name
+pub record AreTableTexts (before after : Reads) (paths texts : List (List ℕ × List ℕ)) : Type 0 where
+  pub tables : List (List ℕ × File)
+  pub named : map (λ t. (t.0, t.1.0)) tables ≡ paths
+  pub read : AllRead before after (map (λ t. t.1) tables)
+  pub are : map (λ t. (t.0, t.1.1)) tables ≡ texts
 
 -- nothing was supplied, and no read failed
 abbrev pub ReadsNothing : Reads → Reads → Type 0

@@ -1,31 +1,30 @@
--- How contracts see what the code has read.
+-- How contracts see the tasks of the code.
 use Rattle.std.specs.Prelude.{ℕ, List, map}
-use Rattle.wd_command.specs.Files.{File}
-use Rattle.wd_command.specs.Words.{Task, Check, CheckList, Explain, Verify, VerifyList, Refute, Run}
-use Rattle.wd_command.specs.declared.inputs.InputFile.{InputFile}
-use Rattle.wd_command.specs.declared.inputs.Inputs.{Inputs}
-use Rattle.wd_command.specs.declared.inputs.Task.{Task as CodeTask}
-use Rattle.wd_command.specs.declared.inputs.Task.TheVariants as code
-use Rattle.wd_command.specs.declared.words.Assignment.{Assignment}
+use Rattle.std.specs.Borrow.{Bor}
+use Rattle.std.specs.declared.alloc.Global.{Global}
+use Rattle.std.specs.declared.vec.Vec.{Vec}
+use Rattle.wd_command.specs.Words.{Task, TaskOf, Usage, Check, Explain, Verify, Refute, Run}
+use Rattle.wd_command.specs.declared.task.Table.{Table}
+use Rattle.wd_command.specs.declared.task.Task.{Task as CodeTask}
+use Rattle.wd_command.specs.declared.task.Task.TheVariants as code
 
--- a file that was read
-abbrev pub file_of : InputFile → File
-file_of file = (file.path.now, file.bytes.items)
+-- a table's name, and what stands for its file by f
+abbrev pub table_by : {I T : Type 0} → (I → T) → Table I → List ℕ × T
+table_by f table = (table.name.now, f table.file)
 
--- the files that were read
-abbrev pub files_of : Inputs → List File
-files_of inputs = map file_of inputs.files.items
+-- the task of the code, for whose inputs f gives what stands
+abbrev pub task_by : {I T : Type 0} → (I → T) → CodeTask I → TaskOf T
+task_by f code.Usage = Usage
+task_by f (code.Check listed schema query) = Check listed (f schema) (f query)
+task_by f (code.Explain schema query) = Explain (f schema) (f query)
+task_by f (code.Verify listed schema query certificate) = Verify listed (f schema) (f query) (f certificate)
+task_by f (code.Refute schema query witness) = Refute (f schema) (f query) (f witness)
+task_by f (code.Run schema query tables) = Run (f schema) (f query) (map (table_by f) tables.items)
 
--- a table's name with its path
-abbrev pub name_of : Assignment → List ℕ × List ℕ
-name_of assignment = (assignment.name.now, assignment.path.now)
+-- by its paths
+abbrev pub task_of_paths : CodeTask (Bor (List ℕ)) → Task
+task_of_paths task = task_by (λ path. path.now) task
 
--- the task of the words
-abbrev pub task_of : CodeTask → Task
-task_of (code.Check schema query) = Check schema.now query.now
-task_of (code.CheckList schema query) = CheckList schema.now query.now
-task_of (code.Explain schema query) = Explain schema.now query.now
-task_of (code.Verify schema query certificate) = Verify schema.now query.now certificate.now
-task_of (code.VerifyList schema query certificate) = VerifyList schema.now query.now certificate.now
-task_of (code.Refute schema query witness) = Refute schema.now query.now witness.now
-task_of (code.Run schema query tables) = Run schema.now query.now (map name_of tables.items)
+-- by its texts
+abbrev pub task_of_texts : CodeTask (Vec ℕ Global) → Task
+task_of_texts task = task_by (λ text. text.items) task

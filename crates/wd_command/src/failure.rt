@@ -3,7 +3,7 @@
 ghost use Rattle.std.specs.Prelude.{◌≡◌, ◌++◌, IfSome, OnOk};
 ghost use Rattle.std.specs.Io.KnownBytes.{Appends};
 ghost use Rattle.wd_command.specs.Failures as spec;
-ghost use Rattle.wd_command.specs.Failures.{IsDecideRefusal, IsFaultOfWords, IsRunRefusal, IsVerifyRefusal, IsWitnessRefusal, Says, Shows, line_of, refusal_line, status_of, where_of};
+ghost use Rattle.wd_command.specs.Failures.{IsFaultOfWords, IsRefusal, Says, SaysDecide, SaysRun, SaysVerify, SaysWitness, Shows, line_of, refusal_line, status_of, where_of};
 ghost use Rattle.wd_command.specs.Streams.{AppendsPart};
 ghost use Rattle.wd_command.specs.declared.failure.Failure.TheVariants as failed;
 
@@ -109,7 +109,7 @@ impl From<clap::Error> for Failure<'_> {
 }
 
 impl From<RunError> for Failure<'_> {
-    ghost from_gives = { λ e failure. IsRunRefusal e failure };
+    ghost from_gives = { λ e failure. IsRefusal (SaysRun e) failure };
 
     fn from(error: RunError) -> Self {
         let (number, place) = (error.number(), error.place());
@@ -118,7 +118,7 @@ impl From<RunError> for Failure<'_> {
 }
 
 impl From<DecideError> for Failure<'_> {
-    ghost from_gives = { λ e failure. IsDecideRefusal e failure };
+    ghost from_gives = { λ e failure. IsRefusal (SaysDecide e) failure };
 
     fn from(error: DecideError) -> Self {
         refused(decide_input(&error), error.number(), error.place())
@@ -126,7 +126,7 @@ impl From<DecideError> for Failure<'_> {
 }
 
 impl From<VerifyError> for Failure<'_> {
-    ghost from_gives = { λ e failure. IsVerifyRefusal e failure };
+    ghost from_gives = { λ e failure. IsRefusal (SaysVerify e) failure };
 
     fn from(error: VerifyError) -> Self {
         refused(verify_input(&error), error.number(), error.place())
@@ -134,7 +134,7 @@ impl From<VerifyError> for Failure<'_> {
 }
 
 impl From<WitnessError> for Failure<'_> {
-    ghost from_gives = { λ e failure. IsWitnessRefusal e failure };
+    ghost from_gives = { λ e failure. IsRefusal (SaysWitness e) failure };
 
     fn from(error: WitnessError) -> Self {
         refused(witness_input(&error), error.number(), error.place())
@@ -143,7 +143,7 @@ impl From<WitnessError> for Failure<'_> {
 
 // A refusal; running out of memory where there is no number.
 fn refused<'a>(input: Input, number: Option<u32>, place: Option<u64>) -> Failure<'a>
-    ensures { Says input number place result }
+    ensures { IsRefusal (Says input number place) result }
 {
     match number {
         Some(number) => Failure::Refused(Refusal {

@@ -1,7 +1,7 @@
 //! The program `wdcheck` over its words, files and streams.
 //!
 //! `machine` takes the process's arguments; `program` makes the whole output before it writes any of it: `words` reads the command line
-//! with `clap`, `inputs` reads the files that the words name, and each command's answer comes from a crate of its own (wd_decide,
+//! with `clap`, `inputs` reads the files of the task that the words ask for, and each command's answer comes from a crate of its own (wd_decide,
 //! wd_accept, wd_refute, wd_run). `files` is the interface to files, `memory` an implementation for tests; `streams` writes, and
 //! `failure` has the exit statuses and the lines on standard error.
 #![tactic(auto)]
@@ -14,6 +14,7 @@ mod machine;
 mod memory;
 mod program;
 mod streams;
+mod task;
 mod words;
 
 pub use failure::{Failure, report};

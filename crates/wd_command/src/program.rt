@@ -1,20 +1,22 @@
 //! The program over its words, files and streams.
 
-ghost use Rattle.std.specs.Prelude.{◌≡◌, ◌≢◌, ◌+◌, ◌-◌, ◌^◌, ◌<◌, ◌≤◌, List, length, map, OnOk, IfOk, IfErr};
+ghost use Rattle.std.specs.Prelude.{◌≡◌, ◌-◌, ◌^◌, ◌<◌, ◌≤◌, codes, map, IfOk, IfErr};
+ghost use Rattle.wd_report.specs.Words.{line};
 ghost use Rattle.wd_run.specs.Runs.{data_of};
-ghost use Rattle.wd_command.specs.Commands.{AnswersCheck, AnswersCheckList, AnswersExplain, AnswersRefute, AnswersRun, AnswersVerify, AnswersVerifyList, HasAnswer, data_in, text_at};
-ghost use Rattle.wd_command.specs.Failures.{FailsDecide, FailsRefute, FailsRun, FailsVerify, FailsVerifyList, HasReason, IsUnanswered};
+ghost use Rattle.wd_command.specs.Commands.{HasAnswer};
+ghost use Rattle.wd_command.specs.Failures.{HasReason, IsUnanswered};
 ghost use Rattle.wd_command.specs.Files.{reads};
-ghost use Rattle.wd_command.specs.Inputs.{file_of, files_of, name_of, task_of};
+ghost use Rattle.wd_command.specs.Inputs.{table_by, task_of_texts};
 ghost use Rattle.wd_command.specs.Outputs.{Makes};
 ghost use Rattle.wd_command.specs.Statuses.{Fails, IsEnding, Succeeds, WritesWhole, world};
-ghost use Rattle.wd_command.specs.Words.{paths_of};
+ghost use Rattle.wd_command.specs.Words.TaskOf.{Check, Explain, Refute, Run, Usage, Verify};
 
 use crate::failure::{Failure, report};
 use crate::files::Files;
-use crate::inputs::{InputFile, Inputs, Task, read_inputs};
+use crate::inputs::read_inputs;
 use crate::streams::write_and_flush;
-use crate::words::Assignment;
+use crate::task::{Table, Task};
+use crate::words::read_words;
 use std::alloc::{AllocError, Global};
 use std::io::Write;
 use wd_accept::{verify, verify_list};
@@ -89,129 +91,162 @@ fn make_output<'a, F: Files>(
     ensures err { IfErr result (HasReason (map (λ w. w.now) words.now)
         (reads (F.handed files.old) (F.failures files.old)) (reads (F.handed files.new) (F.failures files.new))) }
 {
-    if words.is_empty() {
-        let text = Vec::from_slice(alloc, USAGE.as_bytes())?;
-        return Ok(Output { text, status: 0 });
-    }
-    let inputs = read_inputs(alloc, files, words)?;
-    answer(alloc, &inputs)
+    let task = read_words(alloc, words)?;
+    let task = read_inputs(alloc, files, task)?;
+    answer(alloc, &task)
 }
 
-// The answer to a task over its files.
-fn answer<'a>(alloc: Global, inputs: &Inputs<'a>) -> Result<Output, Failure<'a>>
-    requires { map (λ f. f.0) (files_of inputs.now) ≡ paths_of (task_of inputs.now.task) }
+// The answer to a task by the texts of its inputs.
+fn answer<'a>(alloc: Global, task: &Task<'_, Vec<u8>>) -> Result<Output, Failure<'a>>
     ensures small { IfOk result (λ output. output.status < 3) }
-    ensures ok { IfOk result (λ output. HasAnswer (task_of inputs.now.task) (files_of inputs.now) output.text.items output.status) }
-    ensures err { IfErr result (IsUnanswered (task_of inputs.now.task) (files_of inputs.now)) }
+    ensures ok { IfOk result (λ output. HasAnswer (task_of_texts task.now) output.text.items output.status) }
+    ensures err { IfErr result (IsUnanswered (task_of_texts task.now)) }
 {
-    let files = inputs.files.as_slice();
-    match &inputs.task {
-        Task::Check { .. } => check_output(alloc, files),
-        Task::CheckList { .. } => check_list_output(alloc, files),
-        Task::Explain { .. } => explain_output(alloc, files),
-        Task::Verify { .. } => verify_output(alloc, files),
-        Task::VerifyList { .. } => verify_list_output(alloc, files),
-        Task::Refute { .. } => refute_output(alloc, files),
-        Task::Run { tables, .. } => run_output(alloc, tables.as_slice(), files),
+    match task {
+        Task::Usage => usage(alloc),
+        Task::Check {
+            listed,
+            schema,
+            query,
+        } => check_output(alloc, *listed, schema.as_slice(), query.as_slice()),
+        Task::Explain { schema, query } => {
+            explain_output(alloc, schema.as_slice(), query.as_slice())
+        }
+        Task::Verify {
+            listed,
+            schema,
+            query,
+            certificate,
+        } => verify_output(
+            alloc,
+            *listed,
+            schema.as_slice(),
+            query.as_slice(),
+            certificate.as_slice(),
+        ),
+        Task::Refute {
+            schema,
+            query,
+            witness,
+        } => refute_output(
+            alloc,
+            schema.as_slice(),
+            query.as_slice(),
+            witness.as_slice(),
+        ),
+        Task::Run {
+            schema,
+            query,
+            tables,
+        } => run_output(
+            alloc,
+            schema.as_slice(),
+            query.as_slice(),
+            tables.as_slice(),
+        ),
     }
 }
 
-// The text of the file with a number.
-fn text_of<'a>(files: &'a [InputFile<'_>], number: usize) -> &'a [u8]
-    requires { number < length files.now }
-    ensures { result.now ≡ text_at (map file_of files.now) number }
+// The forms of the command line.
+fn usage<'a>(alloc: Global) -> Result<Output, Failure<'a>>
+    ensures small { IfOk result (λ output. output.status < 3) }
+    ensures ok { IfOk result (λ output. HasAnswer Usage output.text.items output.status) }
+    ensures err { IfErr result (IsUnanswered Usage) }
 {
-    files[number].bytes.as_slice()
+    let text = Vec::from_slice(alloc, USAGE.as_bytes())?;
+    Ok(Output { text, status: 0 })
 }
 
-// The answer of `check` over the files of a schema and a query.
-fn check_output<'a>(alloc: Global, files: &[InputFile<'a>]) -> Result<Output, Failure<'a>>
-    requires { length files.now ≡ 2 }
+// The answer of `check`, with the flag or without.
+fn check_output<'a>(
+    alloc: Global,
+    listed: bool,
+    schema: &[u8],
+    query: &[u8],
+) -> Result<Output, Failure<'a>>
     ensures small { IfOk result (λ output. output.status < 3) }
-    ensures ok { IfOk result (λ output. AnswersCheck (map file_of files.now) output.text.items output.status) }
-    ensures err { IfErr result (FailsDecide (map file_of files.now)) }
+    ensures ok { IfOk result (λ output. HasAnswer (Check listed schema.now query.now) output.text.items output.status) }
+    ensures err { IfErr result (IsUnanswered (Check listed schema.now query.now)) }
 {
-    let verdict = decide(alloc, text_of(files, 0), text_of(files, 1))?;
+    if listed {
+        let verdict = decide_list(alloc, schema, query)?;
+        let output = report_list(alloc, &verdict)?;
+        return Ok(output);
+    }
+    let verdict = decide(alloc, schema, query)?;
     let output = wd_report::report(alloc, &verdict)?;
     Ok(output)
 }
 
-// The answer of `check --list` over the files of a schema and a query.
-fn check_list_output<'a>(alloc: Global, files: &[InputFile<'a>]) -> Result<Output, Failure<'a>>
-    requires { length files.now ≡ 2 }
+// The answer of `explain`.
+fn explain_output<'a>(alloc: Global, schema: &[u8], query: &[u8]) -> Result<Output, Failure<'a>>
     ensures small { IfOk result (λ output. output.status < 3) }
-    ensures ok { IfOk result (λ output. AnswersCheckList (map file_of files.now) output.text.items output.status) }
-    ensures err { IfErr result (FailsDecide (map file_of files.now)) }
+    ensures ok { IfOk result (λ output. HasAnswer (Explain schema.now query.now) output.text.items output.status) }
+    ensures err { IfErr result (IsUnanswered (Explain schema.now query.now)) }
 {
-    let verdict = decide_list(alloc, text_of(files, 0), text_of(files, 1))?;
-    let output = report_list(alloc, &verdict)?;
-    Ok(output)
-}
-
-// The answer of `explain` over the files of a schema and a query.
-fn explain_output<'a>(alloc: Global, files: &[InputFile<'a>]) -> Result<Output, Failure<'a>>
-    requires { length files.now ≡ 2 }
-    ensures small { IfOk result (λ output. output.status < 3) }
-    ensures ok { IfOk result (λ output. AnswersExplain (map file_of files.now) output.text.items output.status) }
-    ensures err { IfErr result (FailsDecide (map file_of files.now)) }
-{
-    let examined = examine(alloc, text_of(files, 0), text_of(files, 1))?;
+    let examined = examine(alloc, schema, query)?;
     let output = explain(alloc, examined)?;
     Ok(output)
 }
 
-// The answer of `verify` over the files of a schema, a query and a certificate.
-fn verify_output<'a>(alloc: Global, files: &[InputFile<'a>]) -> Result<Output, Failure<'a>>
-    requires { length files.now ≡ 3 }
+// The answer of `verify`, with the flag or without.
+fn verify_output<'a>(
+    alloc: Global,
+    listed: bool,
+    schema: &[u8],
+    query: &[u8],
+    certificate: &[u8],
+) -> Result<Output, Failure<'a>>
     ensures small { IfOk result (λ output. output.status < 3) }
-    ensures ok { IfOk result (λ output. AnswersVerify (map file_of files.now) output.text.items output.status) }
-    ensures err { IfErr result (FailsVerify (map file_of files.now)) }
+    ensures ok { IfOk result (λ output. HasAnswer (Verify listed schema.now query.now certificate.now) output.text.items output.status) }
+    ensures err { IfErr result (IsUnanswered (Verify listed schema.now query.now certificate.now)) }
 {
-    let certificate = text_of(files, 2);
-    verify(alloc, text_of(files, 0), text_of(files, 1), certificate)?;
+    if listed {
+        verify_list(alloc, schema, query, certificate)?;
+        return Ok(accepted(alloc)?);
+    }
+    verify(alloc, schema, query, certificate)?;
+    Ok(accepted(alloc)?)
+}
+
+// What is printed of a certificate that is accepted.
+fn accepted(alloc: Global) -> Result<Output, AllocError>
+    ensures text { IfOk result (λ output. output.text.items ≡ line (codes "ACCEPTED")) }
+    ensures status { IfOk result (λ output. output.status ≡ 0) }
+{
     let text = Vec::from_slice(alloc, b"ACCEPTED\n")?;
     Ok(Output { text, status: 0 })
 }
 
-// The answer of `verify --list` over these files.
-fn verify_list_output<'a>(alloc: Global, files: &[InputFile<'a>]) -> Result<Output, Failure<'a>>
-    requires { length files.now ≡ 3 }
+// The answer of `refute`.
+fn refute_output<'a>(
+    alloc: Global,
+    schema: &[u8],
+    query: &[u8],
+    witness: &[u8],
+) -> Result<Output, Failure<'a>>
     ensures small { IfOk result (λ output. output.status < 3) }
-    ensures ok { IfOk result (λ output. AnswersVerifyList (map file_of files.now) output.text.items output.status) }
-    ensures err { IfErr result (FailsVerifyList (map file_of files.now)) }
+    ensures ok { IfOk result (λ output. HasAnswer (Refute schema.now query.now witness.now) output.text.items output.status) }
+    ensures err { IfErr result (IsUnanswered (Refute schema.now query.now witness.now)) }
 {
-    let certificate = text_of(files, 2);
-    verify_list(alloc, text_of(files, 0), text_of(files, 1), certificate)?;
-    let text = Vec::from_slice(alloc, b"ACCEPTED\n")?;
-    Ok(Output { text, status: 0 })
-}
-
-// The answer of `refute` over the files of a schema, a query and a witness.
-fn refute_output<'a>(alloc: Global, files: &[InputFile<'a>]) -> Result<Output, Failure<'a>>
-    requires { length files.now ≡ 3 }
-    ensures small { IfOk result (λ output. output.status < 3) }
-    ensures ok { IfOk result (λ output. AnswersRefute (map file_of files.now) output.text.items output.status) }
-    ensures err { IfErr result (FailsRefute (map file_of files.now)) }
-{
-    let witness = text_of(files, 2);
-    refute(alloc, text_of(files, 0), text_of(files, 1), witness)?;
+    refute(alloc, schema, query, witness)?;
     let text = Vec::from_slice(alloc, b"REFUTED\n")?;
     Ok(Output { text, status: 1 })
 }
 
-// The answer of `run` over the files of a schema, a query and these tables.
+// The answer of `run`.
 fn run_output<'a>(
     alloc: Global,
-    tables: &[Assignment<'a>],
-    files: &[InputFile<'a>],
+    schema: &[u8],
+    query: &[u8],
+    tables: &[Table<'_, Vec<u8>>],
 ) -> Result<Output, Failure<'a>>
-    requires { 2 ≤ length files.now }
     ensures small { IfOk result (λ output. output.status < 3) }
-    ensures ok { IfOk result (λ output. AnswersRun (map name_of tables.now) (map file_of files.now) output.text.items output.status) }
-    ensures err { IfErr result (FailsRun (map name_of tables.now) (map file_of files.now)) }
+    ensures ok { IfOk result (λ output. HasAnswer (Run schema.now query.now (map (table_by (λ text. text.items)) tables.now)) output.text.items output.status) }
+    ensures err { IfErr result (IsUnanswered (Run schema.now query.now (map (table_by (λ text. text.items)) tables.now))) }
 {
-    let data = data(alloc, tables, &files[2..])?;
-    let (names, answer) = run_kept(alloc, text_of(files, 0), text_of(files, 1), data.as_slice())?;
+    let data = data(alloc, tables)?;
+    let (names, answer) = run_kept(alloc, schema, query, data.as_slice())?;
     match answer.rows() {
         Ok(rows) => {
             let text = answer_text_from(alloc, names.as_slice(), &rows)?;
@@ -221,21 +256,16 @@ fn run_output<'a>(
     }
 }
 
-// The tables' names with the texts of their files.
+// The tables' names with their texts.
 fn data<'a>(
     alloc: Global,
-    tables: &'a [Assignment<'a>],
-    files: &'a [InputFile<'a>],
+    tables: &'a [Table<'_, Vec<u8>>],
 ) -> Result<Vec<(&'a str, &'a [u8])>, AllocError>
-    ensures { IfOk result (λ v. data_of v.items ≡ data_in (map name_of tables.now) (map file_of files.now)) }
+    ensures { IfOk result (λ v. data_of v.items ≡ map (table_by (λ text. text.items)) tables.now) }
 {
     let mut data = Vec::with_capacity(alloc, tables.len())?;
-    let mut later = files.iter();
     for table in tables {
-        match later.next() {
-            Some(file) => data.push((table.name, file.bytes.as_slice()))?,
-            None => return Ok(data),
-        }
+        data.push((table.name, table.file.as_slice()))?;
     }
     Ok(data)
 }

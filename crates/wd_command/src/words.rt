@@ -1,69 +1,36 @@
 //! What the words of the command line ask for.
 
-ghost use Rattle.std.specs.Prelude.{◌≡◌, ℕ, List, map, codes, option_map, false, IfOk, IfErr, IfSome, IfNone};
-ghost use Rattle.clap.specs.Values.{kind_of};
+ghost use Rattle.std.specs.Prelude.{◌≡◌, ℕ, List, map, codes, option_map, false, Any, Some, IfOk, IfErr, IfSome, IfNone};
 ghost use Rattle.clap.specs.Words.{app_of, found_of, rows_of, rule_of, subcommand_rows_of};
 ghost use Rattle.clap.specs.declared.builder.command.Command.TheViews.{out-Command as fields_of};
-ghost use Rattle.clap.specs.declared.error.kind.ErrorKind.TheVariants as kind;
 ghost use Rattle.wd_command.specs.CommandLine as spec;
-ghost use Rattle.wd_command.specs.CommandLine.{AreWordsOf, asked_after, asked_by, asked_in};
-ghost use Rattle.wd_command.specs.Failures.{IsUncut};
-ghost use Rattle.wd_command.specs.Words.{Asked, AreCut, HasNoEquals, word_of};
+ghost use Rattle.wd_command.specs.CommandLine.{AskFor, line_after, line_in};
+ghost use Rattle.wd_command.specs.Failures.{HasReason, IsUncut};
+ghost use Rattle.wd_command.specs.Files.{Reads};
+ghost use Rattle.wd_command.specs.Inputs.{table_by, task_of_paths};
+ghost use Rattle.wd_command.specs.Words.{AreCut, HasNoEquals, HasUncut, IsCut, word_of, words_of};
 
 use crate::failure::Failure;
+use crate::task::{Table, Task};
 use clap::error::ErrorKind;
-use clap::{Arg, ArgAction, ArgMatches, Command, Error};
+use clap::{Arg, ArgAction, ArgMatches, Command};
 use std::alloc::{AllocError, Global};
 
-/// What the words of the command line ask for, by paths; a table has a word NAME=PATH.
-#[derive(Drop)]
-pub enum Request<'a> {
-    Check {
-        schema: &'a str,
-        query: &'a str,
-    },
-    CheckList {
-        schema: &'a str,
-        query: &'a str,
-    },
-    Explain {
-        schema: &'a str,
-        query: &'a str,
-    },
-    Verify {
-        schema: &'a str,
-        query: &'a str,
-        certificate: &'a str,
-    },
-    VerifyList {
-        schema: &'a str,
-        query: &'a str,
-        certificate: &'a str,
-    },
-    Refute {
-        schema: &'a str,
-        query: &'a str,
-        witness: &'a str,
-    },
-    Run {
-        schema: &'a str,
-        query: &'a str,
-        tables: Vec<&'a str>,
-    },
-}
-
 /// Reads the words after the program's own name.
-pub fn read_words<'a>(alloc: Global, words: &'a [&'a str]) -> Result<Request<'a>, Error>
-    ensures ok { IfOk result (λ request. AreWordsOf (map (λ w. w.now) words.now) (asked_by request)) }
-    ensures err { IfErr result (λ e. (asked : Asked) → AreWordsOf (map (λ w. w.now) words.now) asked → kind_of e ≡ kind.OutOfMemory) }
+pub fn read_words<'a>(alloc: Global, words: &'a [&'a str]) -> Result<Task<'a, &'a str>, Failure<'a>>
+    ensures ok { IfOk result (λ task. AskFor (map (λ w. w.now) words.now) (task_of_paths task)) }
+    ensures err { IfErr result (λ failure. (reads : Reads) → HasReason (map (λ w. w.now) words.now) reads reads failure) }
 {
+    if words.is_empty() {
+        return Ok(Task::Usage);
+    }
     let mut command = command_line(alloc)?;
     let matches = command.try_get_matches_from_mut(words)?;
     match found(alloc, &matches)? {
-        Some(request) => Ok(request),
+        Some(task) => Ok(task),
         None => {
             let error = command.error(ErrorKind::MissingSubcommand, "no command was given")?;
-            Err(error)
+            Err(Failure::from(error))
         }
     }
 }
@@ -192,24 +159,29 @@ fn list_flag<'a>(alloc: Global) -> Arg<'a>
         .help("Asks for one list of rows: their order must be fixed too")
 }
 
-// The request in what a parse has found, if any.
-fn found<'a>(alloc: Global, matches: &ArgMatches<'a>) -> Result<Option<Request<'a>>, AllocError>
-    ensures { IfOk result (λ request. option_map asked_by request ≡ asked_in (subcommand_rows_of matches.now)) }
+// The task in what a parse has found, if any.
+fn found<'a>(
+    alloc: Global,
+    matches: &ArgMatches<'a>,
+) -> Result<Option<Task<'a, &'a str>>, Failure<'a>>
+    ensures ok { IfOk result (λ task. option_map (λ t. words_of (task_of_paths t)) task ≡ line_in (subcommand_rows_of matches.now)) }
+    ensures cut { IfOk result (λ task. IfSome task (λ t. IsCut (task_of_paths t))) }
+    ensures err { IfErr result (IsUncut (λ word. (line : List (List ℕ)) × (line_in (subcommand_rows_of matches.now) ≡ Some line) × HasUncut line word)) }
 {
     if let Some(given) = matches.subcommand_matches("check") {
-        return Ok(check_request(given));
+        return Ok(check_task(given));
     }
     if let Some(given) = matches.subcommand_matches("explain") {
-        return Ok(explain_request(given));
+        return Ok(explain_task(given));
     }
     if let Some(given) = matches.subcommand_matches("verify") {
-        return Ok(verify_request(given));
+        return Ok(verify_task(given));
     }
     if let Some(given) = matches.subcommand_matches("refute") {
-        return Ok(refute_request(given));
+        return Ok(refute_task(given));
     }
     if let Some(given) = matches.subcommand_matches("run") {
-        return run_request(alloc, given);
+        return run_task(alloc, given);
     }
     Ok(None)
 }
@@ -239,94 +211,93 @@ fn is_listed(given: &ArgMatches<'_>) -> bool
     given.get_one("list").unwrap_or(false)
 }
 
-fn check_request<'a>(given: &ArgMatches<'a>) -> Option<Request<'a>>
-    ensures { option_map asked_by result ≡ asked_after (codes "check") (rows_of (found_of given.now)) }
+fn check_task<'a>(given: &ArgMatches<'a>) -> Option<Task<'a, &'a str>>
+    ensures words { option_map (λ t. words_of (task_of_paths t)) result ≡ line_after (codes "check") (rows_of (found_of given.now)) }
+    ensures cut { IfSome result (λ t. IsCut (task_of_paths t)) }
 {
     let (schema, query) = two_paths(given)?;
-    if is_listed(given) {
-        return Some(Request::CheckList { schema, query });
-    }
-    Some(Request::Check { schema, query })
+    Some(Task::Check {
+        listed: is_listed(given),
+        schema,
+        query,
+    })
 }
 
-fn explain_request<'a>(given: &ArgMatches<'a>) -> Option<Request<'a>>
-    ensures { option_map asked_by result ≡ asked_after (codes "explain") (rows_of (found_of given.now)) }
+fn explain_task<'a>(given: &ArgMatches<'a>) -> Option<Task<'a, &'a str>>
+    ensures words { option_map (λ t. words_of (task_of_paths t)) result ≡ line_after (codes "explain") (rows_of (found_of given.now)) }
+    ensures cut { IfSome result (λ t. IsCut (task_of_paths t)) }
 {
     let (schema, query) = two_paths(given)?;
-    Some(Request::Explain { schema, query })
+    Some(Task::Explain { schema, query })
 }
 
-fn verify_request<'a>(given: &ArgMatches<'a>) -> Option<Request<'a>>
-    ensures { option_map asked_by result ≡ asked_after (codes "verify") (rows_of (found_of given.now)) }
+fn verify_task<'a>(given: &ArgMatches<'a>) -> Option<Task<'a, &'a str>>
+    ensures words { option_map (λ t. words_of (task_of_paths t)) result ≡ line_after (codes "verify") (rows_of (found_of given.now)) }
+    ensures cut { IfSome result (λ t. IsCut (task_of_paths t)) }
 {
     let (schema, query, certificate) = three_paths(given)?;
-    if is_listed(given) {
-        return Some(Request::VerifyList {
-            schema,
-            query,
-            certificate,
-        });
-    }
-    Some(Request::Verify {
+    Some(Task::Verify {
+        listed: is_listed(given),
         schema,
         query,
         certificate,
     })
 }
 
-fn refute_request<'a>(given: &ArgMatches<'a>) -> Option<Request<'a>>
-    ensures { option_map asked_by result ≡ asked_after (codes "refute") (rows_of (found_of given.now)) }
+fn refute_task<'a>(given: &ArgMatches<'a>) -> Option<Task<'a, &'a str>>
+    ensures words { option_map (λ t. words_of (task_of_paths t)) result ≡ line_after (codes "refute") (rows_of (found_of given.now)) }
+    ensures cut { IfSome result (λ t. IsCut (task_of_paths t)) }
 {
     let (schema, query, witness) = three_paths(given)?;
-    Some(Request::Refute {
+    Some(Task::Refute {
         schema,
         query,
         witness,
     })
 }
 
-fn run_request<'a>(alloc: Global, given: &ArgMatches<'a>) -> Result<Option<Request<'a>>, AllocError>
-    ensures { IfOk result (λ request. option_map asked_by request ≡ asked_after (codes "run") (rows_of (found_of given.now))) }
+fn run_task<'a>(
+    alloc: Global,
+    given: &ArgMatches<'a>,
+) -> Result<Option<Task<'a, &'a str>>, Failure<'a>>
+    ensures ok { IfOk result (λ task. option_map (λ t. words_of (task_of_paths t)) task ≡ line_after (codes "run") (rows_of (found_of given.now))) }
+    ensures cut { IfOk result (λ task. IfSome task (λ t. IsCut (task_of_paths t))) }
+    ensures err { IfErr result (IsUncut (λ word. (line : List (List ℕ)) × (line_after (codes "run") (rows_of (found_of given.now)) ≡ Some line) × HasUncut line word)) }
 {
     let Some((schema, query)) = two_paths(given) else {
         return Ok(None);
     };
-    let words = given.get_strs("tables").unwrap_or(&[]);
-    let tables = Vec::from_slice(alloc, words)?;
-    Ok(Some(Request::Run {
+    let tables = tables_named(alloc, given.get_strs("tables").unwrap_or(&[]))?;
+    Ok(Some(Task::Run {
         schema,
         query,
         tables,
     }))
 }
 
-/// A word NAME=PATH.
-#[derive(Clone, Copy)]
-pub struct Assignment<'a> {
-    pub name: &'a str,
-    pub path: &'a str,
-}
-
-/// Cuts each word at its first `=`.
-pub fn assignments<'a>(alloc: Global, words: &[&'a str]) -> Result<Vec<Assignment<'a>>, Failure<'a>>
-    ensures ok { IfOk result (λ v. AreCut (map (λ w. w.now) words.now) v.items) }
-    ensures err { IfErr result (IsUncut (map (λ w. w.now) words.now)) }
+// The tables of words NAME=PATH, each cut at its first `=`.
+fn tables_named<'a>(
+    alloc: Global,
+    words: &[&'a str],
+) -> Result<Vec<Table<'a, &'a str>>, Failure<'a>>
+    ensures ok { IfOk result (λ v. AreCut (map (λ w. w.now) words.now) (map (table_by (λ path. path.now)) v.items)) }
+    ensures err { IfErr result (IsUncut (λ word. HasNoEquals word × Any (λ w. w ≡ word) (map (λ w. w.now) words.now))) }
 {
-    let mut assignments = Vec::with_capacity(alloc, words.len())?;
+    let mut tables = Vec::with_capacity(alloc, words.len())?;
     for word in words {
-        let Some(assignment) = cut(word) else {
+        let Some(table) = cut(word) else {
             return Err(Failure::Unassigned(word));
         };
-        assignments.push(assignment)?;
+        tables.push(table)?;
     }
-    Ok(assignments)
+    Ok(tables)
 }
 
-fn cut<'a>(word: &'a str) -> Option<Assignment<'a>>
-    ensures joined { IfSome result (λ a. word.entry.now ≡ word_of a.name.now a.path.now) }
-    ensures first { IfSome result (λ a. HasNoEquals a.name.now) }
+fn cut<'a>(word: &'a str) -> Option<Table<'a, &'a str>>
+    ensures joined { IfSome result (λ table. word.entry.now ≡ word_of (table_by (λ path. path.now) table)) }
+    ensures first { IfSome result (λ table. HasNoEquals table.name.now) }
     ensures none { IfNone result (HasNoEquals word.entry.now) }
 {
-    let (name, path) = word.split_once('=')?;
-    Some(Assignment { name, path })
+    let (name, file) = word.split_once('=')?;
+    Some(Table { name, file })
 }

@@ -1,50 +1,119 @@
-use Rattle.std.proofs.Common.{arith, ◌≡◌, ◌∙◌, ℕ, List, [], ap, map, sym, subst}
-use Rattle.std.specs.List.{Any}
-use Rattle.wd_command.specs.CommandLine.{AreWordsOf, AskFor, asked_by}
-use Rattle.wd_command.specs.Failures.{IsTableWord}
-use Rattle.wd_command.specs.Files.{StandsNext}
-use Rattle.wd_command.specs.Inputs as spec
-use Rattle.wd_command.specs.Words.{Asked, Check, CheckList, Explain, Verify, VerifyList, Refute, Run, tables_of}
-use Rattle.wd_command.proofs.FailureLemmas.{HasReason-from_uncut, HasReason-from_unread, HasReason-from_words, IfErr-from_known, IfErr-from_same}
-use Rattle.wd_command.proofs.FilesLemmas.{ReadsNothing-refl}
+use Rattle.std.proofs.Common.{◌≡◌, ◌∙◌, ℕ, List, [], ◌∷◌, ap, map, refl, subst, sym, Bor}
+use Rattle.wd_command.specs.Failures.{IsUnread}
+use Rattle.wd_command.specs.Files.{AllRead, Reads, StandsNext}
+use Rattle.wd_command.specs.Inputs.{table_by, task_of_paths}
+use Rattle.wd_command.specs.Words.{Check, Explain, Verify, Refute, Run, inputs_of}
+use Rattle.wd_command.specs.declared.failure.Failure.{Failure}
+use Rattle.wd_command.specs.declared.task.Table.{Table}
+use Rattle.wd_command.specs.declared.task.Task.{Task as CodeTask}
+use Rattle.wd_command.proofs.FailureLemmas.{IfErr-from_same, IsUnread-behind, IsUnread-weaker}
+use Rattle.wd_command.proofs.FilesLemmas.{AllRead-trans, StandsNext-before, StandsNext-behind}
 use Rattle.wd_command.proofs.inputs.read_inputs.Goals as goal
 
-no_table : {X : Type 0} (word : List ℕ) → Any (λ w. w ≡ word) [] → X
-no_table word (k, other, below, is, same) = absurd (omega (arith, below))
+abbrev inputs : CodeTask (Bor (List ℕ)) → List (List ℕ)
+inputs task = inputs_of (task_of_paths task)
 
--- a word NAME=PATH of what is asked stands in its place
-table_word : (words : List (List ℕ)) (asked : Asked) → AreWordsOf words asked → (word : List ℕ) → Any (λ w. w ≡ word) (tables_of asked) → IsTableWord words word
-table_word words (Check s q) are word there = no_table word there
-table_word words (CheckList s q) are word there = no_table word there
-table_word words (Explain s q) are word there = no_table word there
-table_word words (Verify s q f) are word there = no_table word there
-table_word words (VerifyList s q f) are word there = no_table word there
-table_word words (Refute s q f) are word there = no_table word there
-table_word words (Run s q tables) are word there = (s, q, tables, are, there)
+-- the schema or the query of a task could not be read
+of_two : (task : CodeTask (Bor (List ℕ))) (schema query : List ℕ) (more : List (List ℕ)) (before after : Reads) → inputs task ≡ schema ∷ query ∷ more
+    → (failure : Failure) → IsUnread (StandsNext (schema ∷ query ∷ [])) before after failure → IsUnread (StandsNext (inputs task)) before after failure
+of_two task schema query more before after is failure h =
+    subst (λ paths. IsUnread (StandsNext paths) before after failure) (sym is)
+    (IsUnread-weaker before after _ _ (StandsNext-before (schema ∷ query ∷ []) more) failure h)
 
-pub returns-in_err-request-clause-err : goal.returns-in_err-request-clause-err
-returns-in_err-request-clause-err g c = λ some.
-    IfErr-from_known c.from_residual.result _ _ c.from_residual.ensures.1
-    (HasReason-from_words _ _ _ (ReadsNothing-refl _) c.in_err-request.field-0.0 some c.in_err-request.ensures.err)
+-- what comes after them could not
+of_more : (task : CodeTask (Bor (List ℕ))) (schema query schema_text query_text : List ℕ) (more : List (List ℕ)) (before middle after : Reads)
+    → inputs task ≡ schema ∷ query ∷ more → AllRead before middle ((schema, schema_text) ∷ (query, query_text) ∷ [])
+    → (failure : Failure) → IsUnread (StandsNext more) middle after failure → IsUnread (StandsNext (inputs task)) before after failure
+of_more task schema query schema_text query_text more before middle after is read failure h =
+    subst (λ paths. IsUnread (StandsNext paths) before after failure) (sym is)
+    (IsUnread-behind before middle after _ _ _ read (StandsNext-behind ((schema, schema_text) ∷ (query, query_text) ∷ []) more) failure h)
 
-pub returns-in_err-task-clause-err : goal.returns-in_err-task-clause-err
-returns-in_err-task-clause-err g c = λ some.
-    let asked = asked_by c.in_ok-request.request in
-    IfErr-from_same c.from_residual-in_err-task.result c.in_err-task.field-0.0 _ c.from_residual-in_err-task.ensures.1
-    (HasReason-from_uncut _ _ _ (ReadsNothing-refl _) (tables_of asked) (table_word _ asked c.in_ok-request.ensures.ok) c.in_err-task.field-0.0 c.in_err-task.ensures.err)
+pub returns-in_err-schema-in-Verify-clause-err : goal.returns-in_err-schema-in-Verify-clause-err
+returns-in_err-schema-in-Verify-clause-err g c =
+    IfErr-from_same c.from_residual-in_err-schema-in-Verify.result c.in_err-schema-in-Verify.field-0.0 _ c.from_residual-in_err-schema-in-Verify.ensures.1
+    (of_two c.args.task _ _ _ _ _ (ap inputs c.in-Verify.is) c.in_err-schema-in-Verify.field-0.0 c.in_err-schema-in-Verify.ensures.err)
 
-pub returns-clause-asked : goal.returns-clause-asked
-returns-clause-asked g c = record { asked = subst (AreWordsOf _) (sym c.in_ok-task.ensures.asked) c.in_ok-request.ensures.ok; cut = c.in_ok-task.ensures.cut }
+pub returns-in_err-certificate-in-Verify-clause-err : goal.returns-in_err-certificate-in-Verify-clause-err
+returns-in_err-certificate-in-Verify-clause-err g c =
+    IfErr-from_same c.from_residual-in_err-certificate-in-Verify.result c.in_err-certificate-in-Verify.field-0.0 _ c.from_residual-in_err-certificate-in-Verify.ensures.1
+    (of_more c.args.task _ _ _ _ _ _ _ _ (ap inputs c.in-Verify.is) c.in_ok-schema-in-Verify.ensures.read c.in_err-certificate-in-Verify.field-0.0 c.in_err-certificate-in-Verify.ensures.err)
 
-pub returns-in_err-files-clause-err : goal.returns-in_err-files-clause-err
-returns-in_err-files-clause-err g c = λ some.
-    let asks : AskFor (map (λ w. w.now) c.args.words.now) (spec.task_of c.in_ok-task.task) =
-    record { asked = subst (AreWordsOf _) (sym c.in_ok-task.ensures.asked) c.in_ok-request.ensures.ok; cut = c.in_ok-task.ensures.cut } in
-    let paths = ap (map (λ p. p.now)) c.as_slice.ensures.value ∙ c.in_ok-paths.ensures in
-    IfErr-from_same c.from_residual-in_err-files.result c.in_err-files.field-0.0 _ c.from_residual-in_err-files.ensures.1
-    (HasReason-from_unread _ _ _ (StandsNext (map (λ p. p.now) c.as_slice.result.now))
-    (λ files path next. (spec.task_of c.in_ok-task.task, asks, subst (λ (ps : List (List ℕ)). StandsNext ps files path) paths next))
-    c.in_err-files.field-0.0 c.in_err-files.ensures.err)
+pub returns-in_err-schema-in-Refute-clause-err : goal.returns-in_err-schema-in-Refute-clause-err
+returns-in_err-schema-in-Refute-clause-err g c =
+    IfErr-from_same c.from_residual-in_err-schema-in-Refute.result c.in_err-schema-in-Refute.field-0.0 _ c.from_residual-in_err-schema-in-Refute.ensures.1
+    (of_two c.args.task _ _ _ _ _ (ap inputs c.in-Refute.is) c.in_err-schema-in-Refute.field-0.0 c.in_err-schema-in-Refute.ensures.err)
 
-pub returns-clause-named : goal.returns-clause-named
-returns-clause-named g c = c.in_ok-files.ensures.named ∙ ap (map (λ p. p.now)) c.as_slice.ensures.value ∙ c.in_ok-paths.ensures
+pub returns-in_err-witness-in-Refute-clause-err : goal.returns-in_err-witness-in-Refute-clause-err
+returns-in_err-witness-in-Refute-clause-err g c =
+    IfErr-from_same c.from_residual-in_err-witness-in-Refute.result c.in_err-witness-in-Refute.field-0.0 _ c.from_residual-in_err-witness-in-Refute.ensures.1
+    (of_more c.args.task _ _ _ _ _ _ _ _ (ap inputs c.in-Refute.is) c.in_ok-schema-in-Refute.ensures.read c.in_err-witness-in-Refute.field-0.0 c.in_err-witness-in-Refute.ensures.err)
+
+pub returns-in_err-schema-in-Run-clause-err : goal.returns-in_err-schema-in-Run-clause-err
+returns-in_err-schema-in-Run-clause-err g c =
+    IfErr-from_same c.from_residual-in_err-schema-in-Run.result c.in_err-schema-in-Run.field-0.0 _ c.from_residual-in_err-schema-in-Run.ensures.1
+    (of_two c.args.task _ _ _ _ _ (ap inputs c.in-Run.is) c.in_err-schema-in-Run.field-0.0 c.in_err-schema-in-Run.ensures.err)
+
+abbrev named : List (Table (Bor (List ℕ))) → List (List ℕ × List ℕ)
+named tables = map (table_by (λ path. path.now)) tables
+
+pub returns-in_err-tables-in-Run-clause-err : goal.returns-in_err-tables-in-Run-clause-err
+returns-in_err-tables-in-Run-clause-err g c =
+    let schema = c.in-Run.schema.now in
+    let query = c.in-Run.query.now in
+    IfErr-from_same c.from_residual-in_err-tables-in-Run.result c.in_err-tables-in-Run.field-0.0 _ c.from_residual-in_err-tables-in-Run.ensures.1
+    (of_more c.args.task schema query _ _ (map (λ t. t.1) (named c.as_slice.result.now)) _ _ _
+    (ap inputs c.in-Run.is ∙ ap (λ (tables : List (Table (Bor (List ℕ)))). schema ∷ query ∷ map (λ t. t.1) (named tables)) (sym c.as_slice.ensures.value))
+    c.in_ok-schema-in-Run.ensures.read c.in_err-tables-in-Run.field-0.0 c.in_err-tables-in-Run.ensures.err)
+
+pub returns-in_ok-schema-in-Check-clause-ok : goal.returns-in_ok-schema-in-Check-clause-ok
+returns-in_ok-schema-in-Check-clause-ok g c =
+    let texts = c.in_ok-schema-in-Check in
+    record {
+      task = Check c.in-Check.listed (c.in-Check.schema.now, texts.schema.items) (c.in-Check.query.now, texts.query.items);
+      named = sym (ap task_of_paths c.in-Check.is);
+      read = texts.ensures.read;
+      are = refl;
+    }
+
+pub returns-in_ok-schema-in-Explain-clause-ok : goal.returns-in_ok-schema-in-Explain-clause-ok
+returns-in_ok-schema-in-Explain-clause-ok g c =
+    let texts = c.in_ok-schema-in-Explain in
+    record {
+      task = Explain (c.in-Explain.schema.now, texts.schema.items) (c.in-Explain.query.now, texts.query.items);
+      named = sym (ap task_of_paths c.in-Explain.is);
+      read = texts.ensures.read;
+      are = refl;
+    }
+
+pub returns-in_ok-certificate-in-Verify-clause-ok : goal.returns-in_ok-certificate-in-Verify-clause-ok
+returns-in_ok-certificate-in-Verify-clause-ok g c =
+    let texts = c.in_ok-schema-in-Verify in
+    let certificate = c.in_ok-certificate-in-Verify in
+    record {
+      task = Verify c.in-Verify.listed (c.in-Verify.schema.now, texts.schema.items) (c.in-Verify.query.now, texts.query.items) (c.in-Verify.certificate.now, certificate.certificate.items);
+      named = sym (ap task_of_paths c.in-Verify.is);
+      read = AllRead-trans _ _ _ _ _ texts.ensures.read certificate.ensures.read;
+      are = refl;
+    }
+
+pub returns-in_ok-witness-in-Refute-clause-ok : goal.returns-in_ok-witness-in-Refute-clause-ok
+returns-in_ok-witness-in-Refute-clause-ok g c =
+    let texts = c.in_ok-schema-in-Refute in
+    let witness = c.in_ok-witness-in-Refute in
+    record {
+      task = Refute (c.in-Refute.schema.now, texts.schema.items) (c.in-Refute.query.now, texts.query.items) (c.in-Refute.witness.now, witness.witness.items);
+      named = sym (ap task_of_paths c.in-Refute.is);
+      read = AllRead-trans _ _ _ _ _ texts.ensures.read witness.ensures.read;
+      are = refl;
+    }
+
+pub returns-in_ok-tables-in-Run-clause-ok : goal.returns-in_ok-tables-in-Run-clause-ok
+returns-in_ok-tables-in-Run-clause-ok g c =
+    let texts = c.in_ok-schema-in-Run in
+    let tables = c.in_ok-tables-in-Run.ensures.read in
+    record {
+      task = Run (c.in-Run.schema.now, texts.schema.items) (c.in-Run.query.now, texts.query.items) tables.tables;
+      named = ap (Run c.in-Run.schema.now c.in-Run.query.now) (tables.named ∙ ap named c.as_slice.ensures.value) ∙ sym (ap task_of_paths c.in-Run.is);
+      read = AllRead-trans _ _ _ _ _ texts.ensures.read tables.read;
+      are = ap (Run texts.schema.items texts.query.items) tables.are;
+    }
