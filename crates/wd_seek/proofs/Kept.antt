@@ -1,14 +1,10 @@
 -- What candidates show that were tried before, and how it is kept.
-use Rattle.std.proofs.Common.{◌≡◌, ◌⊎◌, ℕ, ◌+◌, ◌-◌, ◌<◌, List, [], ◌++◌, map, refl, sym, ap, ◌∙◌, subst, arith, inl, inr}
+use Rattle.std.proofs.Common.{◌≡◌, ◌⊎◌, ℕ, ◌+◌, ◌-◌, ◌<◌, List, [], ◌++◌, refl, sym, ap, ◌∙◌, subst, arith, inl, inr}
 use Rattle.std.proofs.lemmas.List.{append-nil}
-use Rattle.std.specs.Prelude.{slice_index_or, false}
 use Rattle.wd_value.specs.Rows.{Instance}
-use Rattle.wd_candidates.specs.declared.tied.TiedColumns.{TiedColumns}
 use Rattle.wd_plan.specs.Plans.{PlanTree}
 use Rattle.wd_partition.specs.declared.turn.Turn.{Turn}
-use Rattle.wd_schema.specs.Tables.{TableRule}
 use Rattle.wd_seek.specs.Evaluations.{ShowNothing, most_evaluations}
-use Rattle.wd_seek.specs.Passed.{HavePassed}
 use Rattle.wd_seek.specs.Search.{FindsNothing}
 use Rattle.wd_seek.proofs.Searching.{begun_end}
 
@@ -38,9 +34,3 @@ all_shown turn plan instances start end few h = by h.whole
         let all : h.before ≡ instances = sym (h.parts ∙ ap (λ r. h.before ++ r) through ∙ append-nil h.before) in
         subst (λ is. ShowNothing turn plan is (end - start)) all (subst (ShowNothing turn plan h.before) count h.nothing)
     by (inr e) = absurd (omega arith)
-
--- columns that are marked alike are those of the same candidates
-pub passed_alike : (tables : List TableRule) (plan : PlanTree) (left right : TiedColumns) (n : ℕ) → map (λ columns. columns.items) left.tables.items ≡ map (λ columns. columns.items) right.tables.items
-    → HavePassed tables plan left n → HavePassed tables plan right n
-passed_alike tables plan left right n same h = λ o tied.
-    h o (record { is = λ table c s t. ap (λ marks. slice_index_or (slice_index_or marks table []) c false) same ∙ tied.is table c s t })

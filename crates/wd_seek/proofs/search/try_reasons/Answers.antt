@@ -1,13 +1,26 @@
-use Rattle.std.proofs.Common.{filter, get_or, subst, None}
+use Rattle.std.proofs.Common.{filter, get_or, subst, sym, None, arith}
+use Rattle.std.proofs.lemmas.List.Elements.{All-nil}
 use Rattle.wd_partition.specs.declared.turn.Turn.TheVariants.{Reversed}
 use Rattle.wd_plan.specs.Plans.{plan_of}
 use Rattle.wd_schema.specs.Schemas.{schema_of}
 use Rattle.wd_analyse.specs.declared.analysis.Reason.{Reason}
 use Rattle.wd_analyse.specs.declared.decided.Lack.TheVariants.{SecondClass}
 use Rattle.wd_candidates.specs.Candidates.{candidates}
+use Rattle.wd_seek.specs.Passed.{ArePassed, HavePassed}
 use Rattle.wd_seek.specs.Sought.{IsSought, is_meeting}
+use Rattle.wd_seek.specs.declared.passed.Passed.{Passed}
+use Rattle.wd_seek.proofs.Searching.{nothing_to_try}
 use Rattle.wd_seek.proofs.Trying.{found_in_one_more, nothing_in_one_more}
 use Rattle.wd_seek.proofs.search.try_reasons.Goals as goal
+
+pub loop-reason-init : goal.loop-reason-init
+loop-reason-init c =
+    let tables = schema_of c.args.schema.now in
+    let plan = plan_of c.args.plan.now in (
+      omega arith,
+      nothing_to_try Reversed plan 0,
+      subst (ArePassed tables plan) (sym c.new-passed.ensures.items) (All-nil (λ (p : Passed). HavePassed tables plan p.tied p.evaluations)),
+    )
 
 pub loop-reason-preserved : goal.loop-reason-preserved
 loop-reason-preserved c =
