@@ -66,7 +66,13 @@ fn add_others(alloc: Global, text: &mut String, function: &Function) -> Result<(
             Ok(write!(text, ", {number}")?)
         }
         Function::OfFrame(FrameFunction::Aggregate(Aggregate::CountRows)) => { Ok(text.push('*')?) }
-        _ => Ok(()),
+        Function::Ranking(Ranking::RowNumber | Ranking::Rank | Ranking::DenseRank)
+        | Function::OfFrame(FrameFunction::ValueAt(FrameRow::First | FrameRow::Last, _))
+        | Function::OfFrame(
+            FrameFunction::Aggregate(
+                Aggregate::Count(_) | Aggregate::Sum(_) | Aggregate::Min(_) | Aggregate::Max(_),
+            ),
+        ) => Ok(()),
     }
 }
 
