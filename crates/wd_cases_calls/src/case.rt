@@ -31,10 +31,10 @@ impl Cases for CallCases {
         match word {
             "schema" => self.schema.set(alloc, text),
             "query" => self.set_query(alloc, text),
-            "analyse" => judged::analysed(alloc, self),
-            "seek" => judged::sought(alloc, self),
-            "refute" => judged::refuted(alloc, self, text),
-            "decide" => judged::decided(alloc, self),
+            "analyse" => judged::analyse_case(alloc, self),
+            "seek" => judged::seek_case(alloc, self),
+            "refute" => judged::refute_case(alloc, self, text),
+            "decide" => judged::decide_case(alloc, self),
             "run" => judged::ran(alloc, self, text),
             _ => Err(Failure::NoCase),
         }

@@ -38,7 +38,7 @@ impl Cases for CertificateCases {
             "verdict" => verdict::verdict(alloc, self, text),
             "given" => facts::given_at(alloc, self, text),
             "set" => sets::set(alloc, text),
-            "closure" => closures::closed(alloc, text),
+            "closure" => closures::close_case(alloc, text),
             "refusal" => refusal::refusal(alloc, text),
             "laws" => refusal::laws(alloc),
             _ => Err(Failure::NoCase),

@@ -7,7 +7,7 @@ use wd_cases_notation::{Line, State, Word};
 use wd_join::{StepError, join_rows};
 use wd_plan::{Expr, Limit, Outcome};
 use wd_scalar::{has_arithmetic, is_true, value_of};
-use wd_steps::{copy_filtered, cut_rows, distinct_rows, filter_rows, map_rows, with_fault};
+use wd_steps::{copy_filtered, distinct_rows, filter_rows, limit_rows, map_rows, with_fault};
 use wd_value::{Fault, OutOfMemory, Row, SortColumn, Value, copy_row};
 
 /// What is asked of one expression: over the first row, or as a condition of all rows.
@@ -121,7 +121,7 @@ fn push_cut(alloc: Global, state: &State, word: Word, out: &mut String) -> Resul
         count: cut.count,
         ties: cut.ties,
     };
-    let kept = cut_rows(alloc, &limit, state.rows(), state.ordering())?;
+    let kept = limit_rows(alloc, &limit, state.rows(), state.ordering())?;
     push_rows(out, &kept)
 }
 

@@ -26,9 +26,9 @@ impl Cases for ReadingCases {
             "tables" => schema::tables(alloc, text),
             "schema" => self.schema.set(alloc, text),
             "table" => schema::table(alloc, &self.schema, text),
-            "meets" => schema::met(alloc, &self.schema, text),
-            "load" => rows::loaded(alloc, &self.schema, text),
-            "why" => rows::explained(alloc, &self.schema, text),
+            "meets" => schema::meets_case(alloc, &self.schema, text),
+            "load" => rows::load_case(alloc, &self.schema, text),
+            "why" => rows::explain_case(alloc, &self.schema, text),
             "answer" => rows::answer(alloc, text),
             "memory" => refusal::want_of_memory(alloc, text),
             "laws" => refusal::laws(alloc),
@@ -44,8 +44,8 @@ fn over_text(alloc: Global, word: &str, text: &str) -> Result<String, Failure> {
 
 fn over_tokens(alloc: Global, word: &str, tokens: &[Token]) -> Result<String, Failure> {
     match word {
-        "eat" => phrase::eaten(alloc, tokens),
-        "expect" => phrase::expected(alloc, tokens),
+        "eat" => phrase::eat_case(alloc, tokens),
+        "expect" => phrase::expect_case(alloc, tokens),
         "eat_name" => phrase::eaten_name(alloc, tokens),
         "name_at" => phrase::name(alloc, tokens),
         "query" => tree::query(alloc, tokens),
