@@ -14,7 +14,7 @@ use crate::shown::push_facts;
 use crate::verdict::plan_of_query;
 use std::alloc::Global;
 use wd_cases::Failure;
-use wd_cert::{Given, show_closure};
+use wd_cert::{Given, given};
 use wd_plan::Plan;
 use wd_schema::Schema;
 
@@ -89,7 +89,7 @@ fn given_shown(
     requires fits { spec.fits (schema_of schema.now) (plan_of plan.now) ≡ true }
     requires named { AreOfChildren (plan_of plan.now) (map fact_of first.now) (map fact_of second.now) }
 {
-    let facts = show_closure(alloc, plan, schema, &[first, second])?;
+    let facts = given(alloc, plan, schema, &[first, second])?;
     let mut out = String::new(alloc);
     push_facts(&mut out, &facts)?;
     Ok(out)
