@@ -1,5 +1,5 @@
 -- What was handed over by several reads.
-use Rattle.std.proofs.Common.{◌≡◌, ◌∙◌, ◌++◌, ℕ, List, [], ◌∷◌, Option, Some, None, ap, append_assoc, append-nil, map, refl, sym}
+use Rattle.std.proofs.Common.{◌∙◌, ◌++◌, ℕ, List, [], ◌∷◌, Option, Some, None, ap, append_assoc, append-nil, map, refl, sym}
 use Rattle.std.proofs.lemmas.List.{map-append}
 use Rattle.wd_command.specs.Files.{AllRead, File, HandsOver, Reads, ReadsNothing, StandsNext}
 

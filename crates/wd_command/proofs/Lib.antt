@@ -6,3 +6,4 @@ pub mod CommandWordsLemmas
 pub mod FoundLemmas
 pub mod FailureLemmas
 pub mod MemoryLemmas
+pub mod AnswerLemmas

@@ -7,11 +7,11 @@ use Rattle.clap.specs.Words.{App, Text, fault_of, is_simple, is_simple_and_free,
 use Rattle.clap.specs.declared.error.Error.{Error}
 use Rattle.clap.specs.declared.error.kind.ErrorKind.TheVariants as kind
 use Rattle.clap.proofs.OnLiterals.{clap_on_literals}
-use Rattle.wd_command.specs.CommandLine.{AreOtherWords, AreReadAs, AreWordsOf, AskFor, command_line, line_in}
-use Rattle.wd_command.specs.Failures.{HasReason, IsFaultOfWords, IsUncut}
+use Rattle.wd_command.specs.CommandLine.{AreReadAs, AreWordsOf, AskFor, command_line, line_in}
+use Rattle.wd_command.specs.Failures.{HasReason, IsFaultOfWords}
 use Rattle.wd_command.specs.Files.{Reads}
 use Rattle.wd_command.specs.Inputs.{task_of_paths}
-use Rattle.wd_command.specs.Words.{HasUncut, IsCut, Task, Usage, words_of}
+use Rattle.wd_command.specs.Words.{IsCut, Task, Usage, words_of}
 use Rattle.wd_command.specs.declared.failure.Failure.{Failure}
 use Rattle.wd_command.specs.declared.failure.Failure.TheVariants.{OutOfMemory}
 use Rattle.wd_command.proofs.FailureLemmas.{IfErr-from_known, IfErr-from_same, by_clap, by_word}

@@ -1,4 +1,4 @@
-use Rattle.std.proofs.Common.{◌≡◌, ℕ, List, ap, codes, map, refl, subst, sym}
+use Rattle.std.proofs.Common.{◌≡◌, codes, refl, subst, sym}
 use Rattle.std.specs.List.{Any}
 use Rattle.clap.specs.Words.{found_of, rows_of}
 use Rattle.wd_command.specs.CommandLine.{tables_in}
