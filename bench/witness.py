@@ -6,8 +6,9 @@
 
 First come the searches, by `check`: eight tables joined to all their pairs of rows, 65,536 where each has four rows. A limit that
 takes nothing stands on top, so that no two outcomes differ and the search goes on to its end. In the first the limit alone is
-open, which is 18 evaluations; in the second there are calls enough for 2,000, a third of them over four rows in each table; in the
-third, of some 400 bytes, seven tables are joined below eight calls, each with an order of its own, whose values are not shown. Then
+open, which is 18 evaluations; in the second there are calls enough for 2,000, a third of them over four rows in each table, and all
+of one window; in the third each has a column of its own to sort by; in the fourth, of some 400 bytes, seven tables are joined below
+eight calls, each with an order of its own. In these two no call's value is shown in place of that limit. Then
 come the witnesses, by `refute`: three tables of 64 rows, joined to 262,144 rows, in which two rows differ, and four, the fourth
 of 38 rows, joined to 9,961,472, near the most that a step may have. Of these the last choices are 170 MB of text; in the others, of
 3 and 4 KB, the rows of one table are numbered before they are joined, and the answer has 5 and 17 columns. Prints the seconds and the most memory of one run each.
@@ -33,8 +34,16 @@ def search_texts(calls):
     return {"schema.sql": SCHEMA, "query.sql": "SELECT a.id%s FROM %s ORDER BY a.v LIMIT 0\n" % (items, tables)}
 
 
+def columns_texts(calls):
+    """A query with calls, each sorted by a column of its own, whose values are not shown."""
+    columns = "".join(", v%d BIGINT" % n for n in range(calls))
+    items = "".join(", ROW_NUMBER() OVER (ORDER BY a.v%d) AS n%d" % (n, n) for n in range(calls))
+    inner = "SELECT a.id%s FROM %s" % (items, ", ".join("t AS %s" % name for name in JOINED))
+    return {"schema.sql": "CREATE TABLE t (id BIGINT PRIMARY KEY%s);\n" % columns, "query.sql": "SELECT s.id FROM (%s) AS s\n" % inner}
+
+
 def unused_texts():
-    """A query with calls, each with an order of its own, whose values are not shown."""
+    """A query with calls, some sorted by a column of one table and one by two, whose values are not shown."""
     names = JOINED[:7]
     orders = ["%s.v" % name for name in names] + ["a.v, b.v"]
     items = "".join(", ROW_NUMBER() OVER (ORDER BY %s) AS n%d" % (order, n) for n, order in enumerate(orders))
@@ -75,7 +84,8 @@ def all_texts():
     """What is run: a title, the command, the statuses allowed, and the texts."""
     yield "18 evaluations", "check", (2,), search_texts(0)
     yield "2,000 evaluations", "check", (2,), search_texts(CALLS)
-    yield "calls not shown", "check", (0, 2), unused_texts()
+    yield "2,000 evaluations, a column for each call", "check", (2,), columns_texts(CALLS)
+    yield "calls not shown", "check", (2,), unused_texts()
     yield "262,144 rows", "refute", (1,), witness_texts([ROWS] * 3)
     yield "9,961,472 rows", "refute", (1,), witness_texts([ROWS] * 3 + [LAST_ROWS])
     yield "9,961,472 rows of 5 columns", "refute", (1,), numbered_texts([ROWS] * 3 + [LAST_ROWS], 1)
