@@ -1,8 +1,4 @@
-pub mod Amounts
-pub mod Given
 pub mod Names
-pub mod Numerals
 pub mod Seen
 pub mod Terms
-pub mod Tokens
-pub mod Units
+pub mod Uses

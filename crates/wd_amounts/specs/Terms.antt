@@ -7,16 +7,16 @@ use Rattle.wd_lex.specs.declared.token.TokenKind.{TokenKind}
 use Rattle.wd_lex.specs.declared.token.TokenKind.TheVariants as t
 use Rattle.wd_operands.specs.Nests.{nest_length}
 use Rattle.wd_operands.specs.Operands.{is_name, is_over, is_sign}
-use Rattle.wd_amounts.specs.declared.token.Stop.{Stop}
-use Rattle.wd_amounts.specs.declared.token.Stop.TheVariants.{Sign, Factor, Comma, Branch}
-use Rattle.wd_amounts.specs.declared.unit.Unit.{Unit as Counts}
-use Rattle.wd_amounts.specs.declared.unit.Unit.TheVariants.{Days, Microseconds, Plain, Number}
-use Rattle.wd_amounts.specs.Units.{as_value, branched, joined, number_alone, with_default}
-use Rattle.wd_amounts.specs.declared.amount.Amount.{Amount}
-use Rattle.wd_amounts.specs.Amounts.{amount_at}
-use Rattle.wd_amounts.specs.declared.numeral.Numeral.{Numeral}
-use Rattle.wd_amounts.specs.Numerals.{numeral_at}
-use Rattle.wd_amounts.specs.Tokens.{◌>>=◌, brackets_at, holds_text, is_case, is_dot, is_end, or_else, part_length}
+use Rattle.wd_units.specs.declared.token.Stop.{Stop}
+use Rattle.wd_units.specs.declared.token.Stop.TheVariants.{Sign, Factor, Comma, Branch}
+use Rattle.wd_units.specs.declared.unit.Unit.{Unit as Counts}
+use Rattle.wd_units.specs.declared.unit.Unit.TheVariants.{Days, Microseconds, Plain, Number}
+use Rattle.wd_units.specs.Units.{as_value, number_alone, operation_unit, with_branch, with_default}
+use Rattle.wd_units.specs.declared.amount.Amount.{Amount}
+use Rattle.wd_units.specs.Amounts.{amount_at}
+use Rattle.wd_units.specs.declared.numeral.Numeral.{Numeral}
+use Rattle.wd_units.specs.Numerals.{numeral_at}
+use Rattle.wd_units.specs.Tokens.{◌>>=◌, brackets_at, holds_text, is_case, is_dot, is_end, or_else, part_length}
 
 -- ---- names, numbers and literals
 
@@ -169,37 +169,37 @@ abbrev pub chain_of : Stop → Join → (List Token → Option Counts) → List 
 chain_of stop join part tokens = chain_from stop join part (length tokens) (part (take (part_length stop tokens) tokens)) (drop (part_length stop tokens) tokens)
 
 -- what stands between CASE and its END, and nothing after them
-unfoldable pub cased : List Token → Option (List Token)
-cased tokens =
+unfoldable pub case_contents : List Token → Option (List Token)
+case_contents tokens =
     if begins_case tokens && nest_length tokens == length tokens && nat_lt 1 (length tokens) then Some (take (length tokens - 2) (drop 1 tokens)) else None
 
 -- what stands in brackets, and nothing after them
-unfoldable pub bracketed : List Token → Option (List Token)
-bracketed tokens = brackets_at tokens >>= λ nest. if length nest.1 == 0 then Some nest.0 else None
+unfoldable pub bracket_contents : List Token → Option (List Token)
+bracket_contents tokens = brackets_at tokens >>= λ nest. if length nest.1 == 0 then Some nest.0 else None
 
 -- the smaller operand that counts what this one does
 unfoldable pub inner_operand : List Token → Option (List Token)
-inner_operand tokens = or_else (bracketed tokens) (picked_argument tokens)
+inner_operand tokens = or_else (bracket_contents tokens) (picked_argument tokens)
 
 unfoldable pub plain_unit : Known → List Token → Option Counts
 plain_unit known tokens = or_else (or_else (column_unit known tokens) (literal_unit tokens)) (or_else (count_unit tokens) (cast_unit tokens))
 
 -- a factor without its sign
-unfoldable pub unsigned : List Token → List Token
-unsigned [] = []
-unsigned (token ∷ tokens) = if is_sign token.kind then tokens else token ∷ tokens
+unfoldable pub past_sign : List Token → List Token
+past_sign [] = []
+past_sign (token ∷ tokens) = if is_sign token.kind then tokens else token ∷ tokens
 
 -- a name or a number, or else what counts ones or a decimal
 unfoldable pub factor_unit : (List Token → Option Counts) → Known → List Token → Option Counts
-factor_unit inner known tokens = if length (unsigned tokens) == 0 then None else or_else (column_unit known (unsigned tokens)) (number_alone (as_value (inner tokens)))
+factor_unit inner known tokens = if length (past_sign tokens) == 0 then None else or_else (column_unit known (past_sign tokens)) (number_alone (as_value (inner tokens)))
 
 -- factors with what stands between factors between them, two at least
 unfoldable pub multiple_unit : (List Token → Option Counts) → Known → List Token → Option Counts
-multiple_unit inner known tokens = if part_length Factor tokens == length tokens then None else chain_of Factor joined (factor_unit inner known) tokens
+multiple_unit inner known tokens = if part_length Factor tokens == length tokens then None else chain_of Factor operation_unit (factor_unit inner known) tokens
 
 -- the values of a CASE: what all its branches share
 unfoldable pub case_unit : (List Token → Option Counts) → List Token → Option Counts
-case_unit inner tokens = cased tokens >>= chain_of Branch branched inner
+case_unit inner tokens = case_contents tokens >>= chain_of Branch with_branch inner
 
 -- the sum of numbers
 abbrev pub summed_unit : (List Token → Option Counts) → List Token → Option Counts
@@ -220,7 +220,7 @@ term_unit inner known tokens = term_by inner known tokens (inner_operand tokens)
 -- what an operand counts, looked for in so many brackets
 unfoldable pub unit_within : Known → ℕ → List Token → Option Counts
 unit_within known zero tokens = None
-unit_within known (suc depth) tokens = chain_of Sign joined (term_unit (unit_within known depth) known) tokens
+unit_within known (suc depth) tokens = chain_of Sign operation_unit (term_unit (unit_within known depth) known) tokens
 
 -- brackets are followed to 64 levels
 abbrev pub unit_of : Known → List Token → Option Counts

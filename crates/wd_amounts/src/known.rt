@@ -1,74 +1,73 @@
-//! What the names of a query count. The uses of names are gone through once, the columns' first and then those in further and further
-//! brackets before those around them, and of each name it is kept what its uses so far come to.
+//! What is known of names by their uses. The uses are gone through once, and of each name it is kept what its uses so far come to.
 
-ghost use Rattle.std.specs.Prelude.{◌≡◌, [], map, ℕ, List, None, Some, IfOk, OnOk};
-ghost use Rattle.std.specs.HashMap.{get_by_text};
-ghost use Rattle.wd_amounts.specs.Names.{agreed_from, known_by, known_in, uses_in, with_next, with_use};
-ghost use Rattle.wd_amounts.specs.Seen.{known_seen, use_seen};
+ghost use Rattle.std.specs.Prelude.{◌≡◌, map, ℕ, List, None, Some, IfOk, OnOk};
+ghost use Rattle.wd_amounts.specs.Seen.{kept_seen, known_seen, use_seen};
+ghost use Rattle.wd_amounts.specs.Uses.{agreed_from, known_by, with_next, with_use};
 
-use crate::names::{columns, has_lists};
-use crate::scan::{NameUse, given_at};
-use crate::unit::{Unit, either};
+use crate::uses::{NameUse, NameValue};
 use std::alloc::Global;
 use std::collections::HashMap;
-use wd_dialect_read::Statement;
-use wd_lex::Token;
 use wd_value::OutOfMemory;
 
-/// How many levels of brackets are told apart, and what stands outside of brackets.
-const LEVELS: usize = 65;
-
-/// What the names of a query count, where that is known.
+/// What the values of names are, where that is known.
 #[derive(Drop)]
-pub struct KnownNames {
-    units: HashMap<String, Option<Unit>>,
+pub struct KnownNames<V> {
+    values: HashMap<String, Option<V>>,
 }
 
-/// What the uses of a name count that are known so far, and one more.
-fn with_use(so_far: Option<Option<Unit>>, unit: Option<Unit>) -> Option<Unit>
-    ensures { Some result ≡ with_use so_far unit }
+/// What the uses of a name come to so far, and one more.
+fn with_use<V: NameValue>(so_far: Option<Option<V>>, value: Option<V>) -> Option<V>
+    ensures { Some result ≡ with_use V.either so_far value }
 {
     match so_far {
-        None => unit,
-        Some(first) => either(first, unit),
+        None => value,
+        Some(first) => V::either(first, value),
     }
 }
 
-impl KnownNames {
+impl<V: NameValue> KnownNames<V> {
     /// No name is known.
-    fn new(alloc: Global) -> KnownNames
-        ensures none { (name : List ℕ) → get_by_text result.units name ≡ None }
-        ensures unused { known_seen result ≡ known_by [] }
+    pub(crate) fn new(alloc: Global) -> KnownNames<V>
+        ensures { (name : List ℕ) → kept_seen result name ≡ None }
     {
         KnownNames {
-            units: HashMap::new(alloc),
+            values: HashMap::new(alloc),
         }
     }
 
-    /// What a name counts.
-    pub(crate) fn unit_named(&self, name: &str) -> Option<Unit>
+    /// What is known of names that are used so.
+    pub fn from_uses(alloc: Global, uses: &[NameUse<V>]) -> Result<KnownNames<V>, OutOfMemory>
+        ensures { IfOk result (λ known. known_seen known ≡ known_by V.either (map use_seen uses.now)) }
+    {
+        let mut known = KnownNames::new(alloc);
+        known.add_all(alloc, uses)?;
+        Ok(known)
+    }
+
+    /// What the values of a name are.
+    pub fn value_named(&self, name: &str) -> Option<V>
         ensures { result ≡ known_seen self.now name.now }
     {
-        match self.units.get(name) {
-            Some(unit) => *unit,
+        match self.values.get(name) {
+            Some(value) => *value,
             None => None,
         }
     }
 
     /// A name is used once more.
-    fn add(&mut self, alloc: Global, next: &NameUse) -> Result<(), OutOfMemory>
-        ensures { OnOk result ((other : List ℕ) → get_by_text self.new.units other ≡ with_next (get_by_text self.old.units other) (use_seen next.now) other) }
+    fn add(&mut self, alloc: Global, next: &NameUse<V>) -> Result<(), OutOfMemory>
+        ensures { OnOk result ((other : List ℕ) → kept_seen self.new other ≡ with_next V.either (kept_seen self.old other) (use_seen next.now) other) }
     {
-        let unit = with_use(self.units.get(next.name).copied(), next.unit);
+        let value = with_use(self.values.get(next.name).copied(), next.value);
         let key = String::from_str(alloc, next.name)?;
-        self.units.insert(key, unit)?;
+        self.values.insert(key, value)?;
         Ok(())
     }
 
     /// Names are used once more, one after the other.
-    #[tactic(auto, unfolding(crate::specs::Names::agreed_from))]
-    fn add_all(&mut self, alloc: Global, uses: &[NameUse]) -> Result<(), OutOfMemory>
-        ensures { OnOk result ((other : List ℕ) → get_by_text self.new.units other ≡ agreed_from (get_by_text self.old.units other) other (map use_seen uses.now)) }
+    #[tactic(auto, unfolding(crate::specs::Uses::agreed_from))]
+    pub(crate) fn add_all(&mut self, alloc: Global, uses: &[NameUse<V>]) -> Result<(), OutOfMemory>
+        ensures { OnOk result ((other : List ℕ) → kept_seen self.new other ≡ agreed_from V.either (kept_seen self.old other) other (map use_seen uses.now)) }
     {
         let mut rest = uses;
         while let [first, after @ ..] = rest {
@@ -76,38 +75,5 @@ impl KnownNames {
             rest = after;
         }
         Ok(())
-    }
-}
-
-/// What the columns count, and then the names that the query gives in so many levels of brackets, from the innermost on.
-fn known_by_level(
-    alloc: Global,
-    statements: &[Statement],
-    tokens: &[Token],
-) -> Result<KnownNames, OutOfMemory>
-    ensures { IfOk result (λ known. known_seen known ≡ known_by (uses_in statements.now tokens.now 65)) }
-{
-    let mut known = KnownNames::new(alloc);
-    known.add_all(alloc, &columns(alloc, statements)?)?;
-    for levels in 0..LEVELS {
-        let uses = given_at(alloc, &known, 64 - levels, tokens)?;
-        known.add_all(alloc, &uses)?;
-    }
-    Ok(known)
-}
-
-/// What the names of a query over the tables of a schema count.
-#[tactic(auto, unfolding(crate::specs::Names::uses))]
-pub fn known_names(
-    alloc: Global,
-    statements: &[Statement],
-    tokens: &[Token],
-) -> Result<KnownNames, OutOfMemory>
-    ensures { IfOk result (λ known. known_seen known ≡ known_in statements.now tokens.now) }
-{
-    if has_lists(tokens) {
-        Ok(KnownNames::new(alloc))
-    } else {
-        known_by_level(alloc, statements, tokens)
     }
 }

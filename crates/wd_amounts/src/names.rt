@@ -1,68 +1,16 @@
-//! The names of a schema's columns, and those that a query gives.
+//! The names that a query gives.
 
 ghost use Rattle.std.specs.Prelude.{◌≡◌, ◌++◌, map, false, IfOk};
 ghost use Rattle.wd_amounts.specs.Names as spec;
-ghost use Rattle.wd_amounts.specs.Given.{Finds};
-ghost use Rattle.wd_amounts.specs.Names.{column_uses, items_uses, lists_names, text_if};
-ghost use Rattle.wd_amounts.specs.Seen.{use_seen};
+ghost use Rattle.wd_units.specs.Given.{Finds};
+ghost use Rattle.wd_amounts.specs.Names.{lists_names, text_if};
 
-use crate::scan::NameUse;
-use crate::token::{
+use std::alloc::Global;
+use wd_lex::{Terminal, Token, TokenKind};
+use wd_units::{
     begins_bracket, is_as, is_constant, is_filter, is_name, is_right_bracket, is_test_word,
 };
-use crate::unit::unit_of_kind;
-use std::alloc::Global;
-use wd_dialect_read::{Item, Statement};
-use wd_lex::{Terminal, Token, TokenKind};
 use wd_value::OutOfMemory;
-
-/// Adds the columns of a table.
-#[tactic(auto, unfolding(crate::specs::Names::items_uses))]
-fn push_columns<'t>(uses: &mut Vec<NameUse<'t>>, items: &'t [Item]) -> Result<(), OutOfMemory>
-    ensures { IfOk result (λ _. map use_seen uses.new.items ≡ map use_seen uses.old.items ++ items_uses items.now) }
-{
-    let mut rest = items;
-    while let [item, after @ ..] = rest {
-        if let Item::Column(column) = item {
-            uses.push(NameUse {
-                name: column.name.text.as_str(),
-                unit: unit_of_kind(column.kind),
-            })?;
-        }
-        rest = after;
-    }
-    Ok(())
-}
-
-/// Adds the columns of all tables.
-#[tactic(auto, unfolding(crate::specs::Names::column_uses))]
-fn push_all_columns<'t>(
-    uses: &mut Vec<NameUse<'t>>,
-    statements: &'t [Statement],
-) -> Result<(), OutOfMemory>
-    ensures { IfOk result (λ _. map use_seen uses.new.items ≡ map use_seen uses.old.items ++ column_uses statements.now) }
-{
-    let mut rest = statements;
-    while let [statement, after @ ..] = rest {
-        if let Statement::Table(table) | Statement::Changed(table) = statement {
-            push_columns(uses, &table.items)?;
-        }
-        rest = after;
-    }
-    Ok(())
-}
-
-/// The columns of all tables, as uses of their names.
-pub(crate) fn columns(
-    alloc: Global,
-    statements: &[Statement],
-) -> Result<Vec<NameUse<'_>>, OutOfMemory>
-    ensures { IfOk result (λ found. map use_seen found.items ≡ column_uses statements.now) }
-{
-    let mut found = Vec::new(alloc);
-    push_all_columns(&mut found, statements)?;
-    Ok(found)
-}
 
 /// Whether a name right after a token is an alias.
 fn ends_operand(kind: &TokenKind) -> bool

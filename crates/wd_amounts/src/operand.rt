@@ -4,16 +4,17 @@ ghost use Rattle.std.specs.Prelude.{◌≡◌, ◌≤◌};
 ghost use Rattle.wd_amounts.specs.Seen.{known_seen};
 ghost use Rattle.wd_amounts.specs.Terms as spec;
 ghost use Rattle.wd_amounts.specs.Terms.{chain_of, unit_within};
-ghost use Rattle.wd_amounts.specs.Units as units;
-ghost use Rattle.wd_amounts.specs.declared.token.Stop.TheVariants.{Branch};
+ghost use Rattle.wd_units.specs.Units as units;
+ghost use Rattle.wd_units.specs.declared.token.Stop.TheVariants.{Branch};
 
 use crate::known::KnownNames;
 use crate::term::{
-    cased, column_unit, default_of, inner_operand, plain_unit, summed_argument, unsigned,
+    case_contents, column_unit, default_of, inner_operand, past_sign, plain_unit, summed_argument,
 };
-use crate::token::{Stop, part_length};
-use crate::unit::{Unit, as_value, branched, joined, number_alone, with_default};
 use wd_lex::Token;
+use wd_units::{
+    Stop, Unit, as_value, number_alone, operation_unit, part_length, with_branch, with_default,
+};
 
 /// How many brackets are followed, and the operand itself.
 const MOST_DEEP: usize = 65;
@@ -21,7 +22,7 @@ const MOST_DEEP: usize = 65;
 /// What is no sum.
 #[tactic(auto, unfolding(crate::specs::Terms::term_unit))]
 #[cycle(unit_within)]
-fn term_unit(known: &KnownNames, depth: usize, tokens: &[Token]) -> Option<Unit>
+fn term_unit(known: &KnownNames<Unit>, depth: usize, tokens: &[Token]) -> Option<Unit>
     ensures { result ≡ spec.term_unit (unit_within (known_seen known.now) depth) (known_seen known.now) tokens.now }
 {
     match inner_operand(tokens) {
@@ -39,7 +40,7 @@ fn term_unit(known: &KnownNames, depth: usize, tokens: &[Token]) -> Option<Unit>
 /// What a CASE, a sum of numbers or a product counts.
 #[tactic(auto, unfolding(crate::specs::Terms::scaled_unit))]
 #[cycle(unit_within)]
-fn scaled_unit(known: &KnownNames, depth: usize, tokens: &[Token]) -> Option<Unit>
+fn scaled_unit(known: &KnownNames<Unit>, depth: usize, tokens: &[Token]) -> Option<Unit>
     ensures { result ≡ spec.scaled_unit (unit_within (known_seen known.now) depth) (known_seen known.now) tokens.now }
 {
     match case_unit(known, depth, tokens) {
@@ -53,7 +54,7 @@ fn scaled_unit(known: &KnownNames, depth: usize, tokens: &[Token]) -> Option<Uni
 
 /// What a sum of numbers counts.
 #[cycle(unit_within)]
-fn summed_unit(known: &KnownNames, depth: usize, tokens: &[Token]) -> Option<Unit>
+fn summed_unit(known: &KnownNames<Unit>, depth: usize, tokens: &[Token]) -> Option<Unit>
     ensures { result ≡ spec.summed_unit (unit_within (known_seen known.now) depth) tokens.now }
 {
     match summed_argument(tokens) {
@@ -65,10 +66,10 @@ fn summed_unit(known: &KnownNames, depth: usize, tokens: &[Token]) -> Option<Uni
 /// What the values of a CASE count.
 #[tactic(auto, unfolding(crate::specs::Terms::case_unit))]
 #[cycle(unit_within)]
-fn case_unit(known: &KnownNames, depth: usize, tokens: &[Token]) -> Option<Unit>
+fn case_unit(known: &KnownNames<Unit>, depth: usize, tokens: &[Token]) -> Option<Unit>
     ensures { result ≡ spec.case_unit (unit_within (known_seen known.now) depth) tokens.now }
 {
-    match cased(tokens) {
+    match case_contents(tokens) {
         Some(inside) => branches_unit(known, depth, inside),
         None => None,
     }
@@ -76,8 +77,8 @@ fn case_unit(known: &KnownNames, depth: usize, tokens: &[Token]) -> Option<Unit>
 
 /// What the values of a CASE count, of which this stands before its END.
 #[cycle(unit_within)]
-fn branches_unit(known: &KnownNames, depth: usize, inside: &[Token]) -> Option<Unit>
-    ensures { result ≡ chain_of Branch units.branched (unit_within (known_seen known.now) depth) inside.now }
+fn branches_unit(known: &KnownNames<Unit>, depth: usize, inside: &[Token]) -> Option<Unit>
+    ensures { result ≡ chain_of Branch units.with_branch (unit_within (known_seen known.now) depth) inside.now }
 {
     let (first, others) = inside.split_at(part_length(Stop::Branch, inside));
     let mut unit = unit_within(known, depth, first);
@@ -87,7 +88,7 @@ fn branches_unit(known: &KnownNames, depth: usize, inside: &[Token]) -> Option<U
             return unit;
         };
         let (part, others) = following.split_at(part_length(Stop::Branch, following));
-        unit = branched(&word.kind, unit, unit_within(known, depth, part));
+        unit = with_branch(&word.kind, unit, unit_within(known, depth, part));
         rest = others;
     }
     unit
@@ -96,10 +97,10 @@ fn branches_unit(known: &KnownNames, depth: usize, inside: &[Token]) -> Option<U
 /// What a factor counts: a name or a number, or else ones or a decimal.
 #[tactic(auto, unfolding(crate::specs::Terms::factor_unit))]
 #[cycle(unit_within)]
-fn factor_unit(known: &KnownNames, depth: usize, tokens: &[Token]) -> Option<Unit>
+fn factor_unit(known: &KnownNames<Unit>, depth: usize, tokens: &[Token]) -> Option<Unit>
     ensures { result ≡ spec.factor_unit (unit_within (known_seen known.now) depth) (known_seen known.now) tokens.now }
 {
-    let name = unsigned(tokens);
+    let name = past_sign(tokens);
     if name.is_empty() {
         return None;
     }
@@ -112,7 +113,7 @@ fn factor_unit(known: &KnownNames, depth: usize, tokens: &[Token]) -> Option<Uni
 /// What a product of two factors or more counts.
 #[tactic(auto, unfolding(crate::specs::Terms::multiple_unit))]
 #[cycle(unit_within)]
-fn multiple_unit(known: &KnownNames, depth: usize, tokens: &[Token]) -> Option<Unit>
+fn multiple_unit(known: &KnownNames<Unit>, depth: usize, tokens: &[Token]) -> Option<Unit>
     ensures { result ≡ spec.multiple_unit (unit_within (known_seen known.now) depth) (known_seen known.now) tokens.now }
 {
     let (first, others) = tokens.split_at(part_length(Stop::Factor, tokens));
@@ -126,7 +127,7 @@ fn multiple_unit(known: &KnownNames, depth: usize, tokens: &[Token]) -> Option<U
             return unit;
         };
         let (factor, others) = following.split_at(part_length(Stop::Factor, following));
-        unit = joined(&operator.kind, unit, factor_unit(known, depth, factor));
+        unit = operation_unit(&operator.kind, unit, factor_unit(known, depth, factor));
         rest = others;
     }
     unit
@@ -134,7 +135,7 @@ fn multiple_unit(known: &KnownNames, depth: usize, tokens: &[Token]) -> Option<U
 
 /// What an operand counts, looked for in so many brackets.
 #[cycle(unit_within)]
-fn unit_within(known: &KnownNames, depth: usize, tokens: &[Token]) -> Option<Unit>
+fn unit_within(known: &KnownNames<Unit>, depth: usize, tokens: &[Token]) -> Option<Unit>
     ensures { result ≡ unit_within (known_seen known.now) depth tokens.now }
 {
     if depth == 0 {
@@ -148,14 +149,14 @@ fn unit_within(known: &KnownNames, depth: usize, tokens: &[Token]) -> Option<Uni
             return unit;
         };
         let (term, others) = following.split_at(part_length(Stop::Sign, following));
-        unit = joined(&sign.kind, unit, term_unit(known, depth - 1, term));
+        unit = operation_unit(&sign.kind, unit, term_unit(known, depth - 1, term));
         rest = others;
     }
     unit
 }
 
 /// What an operand counts.
-pub fn unit_of(known: &KnownNames, tokens: &[Token]) -> Option<Unit>
+pub fn unit_of(known: &KnownNames<Unit>, tokens: &[Token]) -> Option<Unit>
     ensures { result ≡ spec.unit_of (known_seen known.now) tokens.now }
 {
     unit_within(known, MOST_DEEP, tokens)

@@ -1,25 +1,23 @@
 //! Calls and what stands in brackets, and what is left of an operand without them.
 
-ghost use Rattle.std.specs.Prelude.{◌≡◌, drop};
-ghost use Rattle.wd_amounts.specs.Given.{Finds};
+ghost use Rattle.std.specs.Prelude.{◌≡◌, ◌≤◌, drop, length, IfSome};
+ghost use Rattle.wd_units.specs.Given.{Finds};
 ghost use Rattle.wd_amounts.specs.Seen.{known_seen};
 ghost use Rattle.wd_amounts.specs.Terms as spec;
 
-use crate::amount::{Amount, amount_at};
 use crate::known::KnownNames;
-use crate::numeral::{Numeral, numeral_at};
-use crate::token::{
-    Stop, brackets_at, holds_text, is_case, is_dot, is_end, is_name, is_over, is_sign, part_length,
-};
-use crate::unit::Unit;
 use wd_lex::{Terminal, Token, TokenKind};
 use wd_operands::nest_length;
+use wd_units::{
+    Amount, Numeral, Stop, Unit, amount_at, brackets_at, holds_text, is_case, is_dot, is_end,
+    is_name, is_over, is_sign, numeral_at, part_length,
+};
 
-fn token_unit(known: &KnownNames, kind: &TokenKind) -> Option<Unit>
+fn token_unit(known: &KnownNames<Unit>, kind: &TokenKind) -> Option<Unit>
     ensures { result ≡ spec.token_unit (known_seen known.now) kind.now }
 {
     match kind {
-        TokenKind::Word(name) | TokenKind::Quoted(name) => known.unit_named(name.as_str()),
+        TokenKind::Word(name) | TokenKind::Quoted(name) => known.value_named(name.as_str()),
         TokenKind::Number(_) | TokenKind::Terminal(Terminal::Null) => Some(Unit::Number(0)),
         _ => None,
     }
@@ -27,7 +25,7 @@ fn token_unit(known: &KnownNames, kind: &TokenKind) -> Option<Unit>
 
 /// A name, of a table or not, or a number. Nothing, before a sign, is as 0.
 #[tactic(auto, unfolding(crate::specs::Terms::column_unit))]
-pub fn column_unit(known: &KnownNames, tokens: &[Token]) -> Option<Unit>
+pub fn column_unit(known: &KnownNames<Unit>, tokens: &[Token]) -> Option<Unit>
     ensures { result ≡ spec.column_unit (known_seen known.now) tokens.now }
 {
     match tokens {
@@ -255,9 +253,9 @@ pub fn default_of(tokens: &[Token]) -> &[Token]
 }
 
 /// What stands in brackets, where nothing stands after them.
-#[tactic(auto, unfolding(crate::specs::Terms::bracketed))]
-pub fn bracketed(tokens: &[Token]) -> Option<&[Token]>
-    ensures { Finds (λ r. r.now) result (spec.bracketed tokens.now) }
+#[tactic(auto, unfolding(crate::specs::Terms::bracket_contents))]
+pub fn bracket_contents(tokens: &[Token]) -> Option<&[Token]>
+    ensures { Finds (λ r. r.now) result (spec.bracket_contents tokens.now) }
 {
     let Some((inside, rest)) = brackets_at(tokens) else {
         return None;
@@ -270,7 +268,7 @@ pub fn bracketed(tokens: &[Token]) -> Option<&[Token]>
 pub fn inner_operand(tokens: &[Token]) -> Option<&[Token]>
     ensures { Finds (λ r. r.now) result (spec.inner_operand tokens.now) }
 {
-    match bracketed(tokens) {
+    match bracket_contents(tokens) {
         Some(inside) => Some(inside),
         None => picked_argument(tokens),
     }
@@ -346,9 +344,10 @@ fn cast_unit(tokens: &[Token]) -> Option<Unit>
 }
 
 /// What stands between CASE and its END, where nothing stands after them.
-#[tactic(auto, unfolding(crate::specs::Terms::cased))]
-pub fn cased(tokens: &[Token]) -> Option<&[Token]>
-    ensures { Finds (λ r. r.now) result (spec.cased tokens.now) }
+#[tactic(auto, unfolding(crate::specs::Terms::case_contents))]
+pub fn case_contents(tokens: &[Token]) -> Option<&[Token]>
+    ensures value { Finds (λ r. r.now) result (spec.case_contents tokens.now) }
+    ensures within { IfSome result (λ r. length r.now ≤ length tokens.now) }
 {
     if !begins_case(tokens) || nest_length(tokens) != tokens.len() || tokens.len() < 2 {
         return None;
@@ -360,7 +359,7 @@ pub fn cased(tokens: &[Token]) -> Option<&[Token]>
 
 /// What a name, a number, a literal, a call or a cast counts that has no smaller operand.
 #[tactic(auto, unfolding(crate::specs::Terms::plain_unit))]
-pub fn plain_unit(known: &KnownNames, tokens: &[Token]) -> Option<Unit>
+pub fn plain_unit(known: &KnownNames<Unit>, tokens: &[Token]) -> Option<Unit>
     ensures { result ≡ spec.plain_unit (known_seen known.now) tokens.now }
 {
     if let Some(unit) = column_unit(known, tokens) {
@@ -376,9 +375,9 @@ pub fn plain_unit(known: &KnownNames, tokens: &[Token]) -> Option<Unit>
 }
 
 /// A factor without its sign.
-#[tactic(auto, unfolding(crate::specs::Terms::unsigned))]
-pub fn unsigned(tokens: &[Token]) -> &[Token]
-    ensures { result.now ≡ spec.unsigned tokens.now }
+#[tactic(auto, unfolding(crate::specs::Terms::past_sign))]
+pub fn past_sign(tokens: &[Token]) -> &[Token]
+    ensures { result.now ≡ spec.past_sign tokens.now }
 {
     match tokens {
         [first, rest @ ..] if is_sign(&first.kind) => rest,

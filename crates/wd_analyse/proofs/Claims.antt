@@ -3,7 +3,7 @@ use Rattle.std.proofs.Common.{◌≡◌, ℕ, ◌+◌, ◌≤◌, Bool, true, fa
 use Rattle.std.specs.List.{AllByRecursion}
 use Rattle.wd_plan.specs.Expressions.{Expression}
 use Rattle.wd_plan.specs.Fits.{AreBelow, width}
-use Rattle.wd_plan.specs.Plans.{PlanTree, Scan, Join, Filter, Map, Group, Window, Distinct, Limit}
+use Rattle.wd_plan.specs.Plans.{Step, Filter, Map, Group, Window, Distinct, Limit, PlanTree, Scan, Join, Over}
 use Rattle.wd_step_facts.specs.Facts.{Fact, FactList}
 use Rattle.wd_step_facts.specs.Steps.{if_copied}
 use Rattle.wd_facts.specs.Laws.{AreOfChildren, ArePlain}
@@ -46,15 +46,18 @@ module _ (a b : ℕ) where
 sources_by : (plan : PlanTree) (facts kept more : List Fact) → length (outputs_in plan) ≤ width plan → AreLow (width plan) (unions_at plan kept more) → AreLow (width plan) (sources plan facts kept more)
 sources_by plan facts kept more h u = all_append (AreBelow (width plan)) (left_sides (outputs_in plan) (width plan) facts) ([] ∷ unions_at plan kept more) (left_low (outputs_in plan) (width plan) h facts) (refl, u)
 
+outputs_few : (step : Step) (input : PlanTree) → length (outputs_in (Over step input)) ≤ width (Over step input)
+outputs_few (Filter condition) input = omega arith
+outputs_few (Map outputs) input = omega arith
+outputs_few (Window w) input = omega arith
+outputs_few (Group g) input = omega arith
+outputs_few Distinct input = omega arith
+outputs_few (Limit limit) input = omega arith
+
 pub sources_low : (plan : PlanTree) (facts kept more : List Fact) → AreOfChildren plan kept more → AreLow (width plan) (sources plan facts kept more)
 sources_low (Scan table columns) facts kept more p = sources_by (Scan table columns) facts kept more (omega arith) tt
 sources_low (Join condition left right) facts kept more p = sources_by (Join condition left right) facts kept more (omega arith) (unions_low (width left) (width right) kept more p.0 p.1)
-sources_low (Filter condition input) facts kept more p = sources_by (Filter condition input) facts kept more (omega arith) tt
-sources_low (Map outputs input) facts kept more p = sources_by (Map outputs input) facts kept more (omega arith) tt
-sources_low (Window w input) facts kept more p = sources_by (Window w input) facts kept more (omega arith) tt
-sources_low (Group g input) facts kept more p = sources_by (Group g input) facts kept more (omega arith) tt
-sources_low (Distinct input) facts kept more p = sources_by (Distinct input) facts kept more (omega arith) tt
-sources_low (Limit limit input) facts kept more p = sources_by (Limit limit input) facts kept more (omega arith) tt
+sources_low (Over step input) facts kept more p = sources_by (Over step input) facts kept more (outputs_few step input) tt
 
 -- ---- what is kept
 

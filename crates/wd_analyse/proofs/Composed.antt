@@ -6,7 +6,7 @@ use Rattle.std.proofs.lemmas.List.{append-nil, map-append}
 use Rattle.wd_schema.specs.Tables.{TableRule}
 use Rattle.wd_plan.specs.Expressions.{Expression}
 use Rattle.wd_plan.specs.Fits.{width}
-use Rattle.wd_plan.specs.Plans.{PlanTree, Scan, Join, Filter, Map, Group, Window, Distinct, Limit}
+use Rattle.wd_plan.specs.Plans.{PlanTree, Scan, Join, Over}
 use Rattle.wd_certificate.specs.Certificates.{NodeRecord}
 use Rattle.wd_step_facts.specs.Facts.{Fact, FactList}
 use Rattle.wd_facts.specs.Given.{given}
@@ -59,12 +59,7 @@ module _ (tables : List TableRule) where
   over_one : (plan : PlanTree) (first : ℕ) (inner found : PlanFindings) → is_over_one plan ≡ true → AreFindings tables (child plan) first inner → IsFoundOver tables plan first (in_postorder inner) (facts_kept (child plan) inner.top) [] found → AreFindings tables plan first found
   over_one (Scan table columns) first inner found e a is = absurd (false≢true e)
   over_one (Join condition left right) first inner found e a is = absurd (false≢true e)
-  over_one (Filter condition input) first inner found e a is = (inner, a, is)
-  over_one (Map outputs input) first inner found e a is = (inner, a, is)
-  over_one (Window w input) first inner found e a is = (inner, a, is)
-  over_one (Group g input) first inner found e a is = (inner, a, is)
-  over_one (Distinct input) first inner found e a is = (inner, a, is)
-  over_one (Limit limit input) first inner found e a is = (inner, a, is)
+  over_one (Over step input) first inner found e a is = (inner, a, is)
 
   pub one_finds : (plan input : PlanTree) (kept more below : List Fact) (old mid new : Found) (result : List Fact) → child plan ≡ input → is_over_one plan ≡ true → kept ≡ below → more ≡ [] → Finds tables input old mid below → FindsTop tables plan kept more mid new result → Finds tables plan old new result
   one_finds plan input kept more below old mid new result is one same none b t =

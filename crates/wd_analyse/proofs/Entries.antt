@@ -3,7 +3,7 @@ use Rattle.std.proofs.Common.{◌≡◌, ℕ, zero, suc, ◌+◌, true, ◌&&◌
 use Rattle.std.specs.List.{AllByRecursion}
 use Rattle.std.proofs.lemmas.Bool.{false≢true}
 use Rattle.wd_plan.specs.Fits.{width}
-use Rattle.wd_plan.specs.Plans.{LimitRule, PlanTree, WindowRule, Limit, Window}
+use Rattle.wd_plan.specs.Plans.{LimitRule, PlanTree, Over, WindowRule, Limit, Window}
 use Rattle.wd_plan.specs.Sorting.{class_columns, limit_class, order_columns}
 use Rattle.wd_plan.specs.declared.window.Call.{Call}
 use Rattle.wd_certificate.specs.declared.certificate.Rule.{Rule}
@@ -29,7 +29,7 @@ pub map_append : {X Y : Type 0} (f : X → Y) (xs ys : List X) → map f (xs ++ 
 map_append f [] ys = refl
 map_append f (x ∷ xs) ys = ap (λ l. f x ∷ l) (map_append f xs ys)
 
--- an element behind a front
+-- an element after a front
 get_there : {X Y : Type 0} (f : X → Y) (ys : List X) (i : ℕ) (y : X) → slice_get ys i ≡ Some y → slice_get (map f ys) i ≡ Some (f y)
 get_there f [] i y e = cc
 get_there f (x ∷ ys) zero y e = let g : x ≡ y = cc in ap (λ t. Some (f t)) g
@@ -62,13 +62,13 @@ entry_keeps facts width kept others calls limit = kept_are width (map trace_by (
 
 -- ---- calls
 
-module _ (node : ℕ) (facts : FactList) (w : WindowRule) (input : PlanTree) (kept classes : List Closing) (claims : AllByRecursion (IsClaim facts (width (Window w input))) kept) (closings : AllByRecursion (IsClosing facts) classes) (froms : map (λ (c : Closing). c.from) classes ≡ map class_columns w.classes) where
+module _ (node : ℕ) (facts : FactList) (w : WindowRule) (input : PlanTree) (kept classes : List Closing) (claims : AllByRecursion (IsClaim facts (width (Over (Window w) input))) kept) (closings : AllByRecursion (IsClosing facts) classes) (froms : map (λ (c : Closing). c.from) classes ≡ map class_columns w.classes) where
   abbrev decided : List Decided
   decided = decided_calls classes (length kept) (width input) None w.calls
 
-  pub window_entry : (all_by decided ≡ true) → entry_refusal node facts (Window w input) (entry_by (width (Window w input)) kept classes (rules_in decided) None) ≡ None
+  pub window_entry : (all_by decided ≡ true) → entry_refusal node facts (Over (Window w) input) (entry_by (width (Over (Window w) input)) kept classes (rules_in decided) None) ≡ None
   window_entry e =
-      entry_passes node facts (Window w input) kept classes (rules_in decided) None claims closings
+      entry_passes node facts (Over (Window w) input) kept classes (rules_in decided) None claims closings
       (window_passes node facts (width input) (map (shown node facts) (kept ++ classes)) w classes (length kept) closings froms (λ i c f. get_after (shown node facts) kept classes i c f) e)
 
 pub decided_long : (classes : List Closing) (first columns : ℕ) (exchange : Option ℕ) (calls : List Call) → length (decided_calls classes first columns exchange calls) ≡ length calls
@@ -85,11 +85,11 @@ rules_long classes first columns exchange calls e = long (decided_calls classes 
 
 -- ---- a limit
 
-module _ (node : ℕ) (facts : FactList) (limit : LimitRule) (input : PlanTree) (kept : List Closing) (claims : AllByRecursion (IsClaim facts (width (Limit limit input))) kept) where
-  pub whole_entry : is_whole_or_ties limit ≡ true → entry_refusal node facts (Limit limit input) (entry_by (width (Limit limit input)) kept [] [] None) ≡ None
-  whole_entry e = entry_passes node facts (Limit limit input) kept [] [] None claims tt (ap (λ b. refuse_unless b (UnjustifiedLimit node)) e)
+module _ (node : ℕ) (facts : FactList) (limit : LimitRule) (input : PlanTree) (kept : List Closing) (claims : AllByRecursion (IsClaim facts (width (Over (Limit limit) input))) kept) where
+  pub whole_entry : is_whole_or_ties limit ≡ true → entry_refusal node facts (Over (Limit limit) input) (entry_by (width (Over (Limit limit) input)) kept [] [] None) ≡ None
+  whole_entry e = entry_passes node facts (Over (Limit limit) input) kept [] [] None claims tt (ap (λ b. refuse_unless b (UnjustifiedLimit node)) e)
 
-  pub keys_entry : (c : Closing) → IsClosing facts c → c.from ≡ order_columns (limit_class limit) → missing_of c.has (all_columns (width input)) ≡ None → entry_refusal node facts (Limit limit input) (entry_by (width (Limit limit input)) kept (c ∷ []) [] (Some (length kept))) ≡ None
+  pub keys_entry : (c : Closing) → IsClosing facts c → c.from ≡ order_columns (limit_class limit) → missing_of c.has (all_columns (width input)) ≡ None → entry_refusal node facts (Over (Limit limit) input) (entry_by (width (Over (Limit limit) input)) kept (c ∷ []) [] (Some (length kept))) ≡ None
   keys_entry c is from e =
       let all = map (shown node facts) (kept ++ c ∷ []) in
       let number : length kept + 0 ≡ length kept = omega arith in
@@ -97,7 +97,7 @@ module _ (node : ℕ) (facts : FactList) (limit : LimitRule) (input : PlanTree) 
       let test : shows facts (is_in (order_columns (limit_class limit))) (columns_named (all_columns (width input))) (shown node facts c) ≡ true =
       subst (λ X. shows facts (is_in X) (columns_named (all_columns (width input))) (shown node facts c) ≡ true) from
       (λ i. all_among c.from i && each_reached node facts c is (columns_named (all_columns (width input))) (none_missing c.has (all_columns (width input)) e) i) in
-      entry_passes node facts (Limit limit input) kept (c ∷ []) [] (Some (length kept)) claims (is, tt)
+      entry_passes node facts (Over (Limit limit) input) kept (c ∷ []) [] (Some (length kept)) claims (is, tt)
       (ap (refuse_unless_shown node (UnjustifiedLimit node) (shows facts (is_in (order_columns (limit_class limit))) (columns_named (all_columns (width input))))) there ∙ ap (λ b. refuse_unless b (UnjustifiedLimit node)) test)
 
 pub traces_joined : (kept others : List Closing) → map trace_by (kept ++ others) ≡ map trace_by kept ++ map trace_by others

@@ -6,7 +6,7 @@ use Rattle.wd_schema.specs.Tables.{TableRule}
 use Rattle.wd_value.specs.declared.order.SortColumn.{SortColumn}
 use Rattle.wd_value.specs.Keys.{key_columns}
 use Rattle.wd_plan.specs.Fits.{AreBelow, Kinds, fits, has_class, has_columns, has_keys, is_call, is_limit, is_narrow, is_window, kinds_of, width}
-use Rattle.wd_plan.specs.Plans.{ClassRule, LimitRule, PlanTree, WindowRule, Scan, Join, Filter, Map, Group, Window, Distinct, Limit}
+use Rattle.wd_plan.specs.Plans.{ClassRule, LimitRule, PlanTree, WindowRule, Scan, Join, Over, Filter, Map, Group, Window, Distinct, Limit}
 use Rattle.wd_plan.specs.Sorting.{class_columns, order_columns}
 use Rattle.wd_plan.proofs.Ranges.{kinds_below, narrow}
 use Rattle.wd_certificate.specs.Certificates.{NodeRecord}
@@ -46,7 +46,7 @@ module _ (kinds : Kinds) (n : ℕ) (below : (c : ℕ) → is_some (kinds c) ≡ 
       λ i. wider n m h (class_columns class) (below_append n class.partition (order_columns class) (columns_low class.partition own.0) (keys_low class.order own.1)) i && classes_low m h classes p.1 i
 
 module _ (tables : List TableRule) where
-  pub window_classes : (plan input : PlanTree) (w : WindowRule) (m : ℕ) → plan ≡ Window w input → fits tables plan ≡ true → width plan ≤ m → list_all (λ class. list_all (λ c. nat_lt c m) (class_columns class)) w.classes ≡ true
+  pub window_classes : (plan input : PlanTree) (w : WindowRule) (m : ℕ) → plan ≡ Over (Window w) input → fits tables plan ≡ true → width plan ≤ m → list_all (λ class. list_all (λ c. nat_lt c m) (class_columns class)) w.classes ≡ true
   window_classes plan input w m is f h =
       let g = subst (λ p. fits tables p ≡ true) is f in
       let long : width input + length w.calls ≤ m = subst (λ p. width p ≤ m) is h in
@@ -55,7 +55,7 @@ module _ (tables : List TableRule) where
       let r = and_parts (list_all (has_class (kinds_of tables input)) w.classes) (list_all (is_call (kinds_of tables input) w.classes) w.calls) q.1 in
       classes_low (kinds_of tables input) (width input) (kinds_below tables input p.0) m (omega (arith, long)) w.classes r.0
 
-  pub limit_keys_low : (plan input : PlanTree) (limit : LimitRule) (m : ℕ) → plan ≡ Limit limit input → fits tables plan ≡ true → width plan ≤ m → AreBelow m (key_columns limit.keys)
+  pub limit_keys_low : (plan input : PlanTree) (limit : LimitRule) (m : ℕ) → plan ≡ Over (Limit limit) input → fits tables plan ≡ true → width plan ≤ m → AreBelow m (key_columns limit.keys)
   limit_keys_low plan input limit m is f h =
       let g = subst (λ p. fits tables p ≡ true) is f in
       let long : width input ≤ m = subst (λ p. width p ≤ m) is h in
@@ -63,35 +63,35 @@ module _ (tables : List TableRule) where
       let keys = (and_parts (has_keys (kinds_of tables input) limit.keys) (not limit.ties || nat_lt 0 (length limit.keys)) p.1).0 in
       wider (width input) m long (key_columns limit.keys) (keys_low (kinds_of tables input) (width input) (kinds_below tables input p.0) limit.keys keys)
 
-  pub window_narrow : (plan input : PlanTree) (w : WindowRule) → plan ≡ Window w input → fits tables plan ≡ true → width input + length w.calls ≤ 1024
-  window_narrow plan input w is f = narrow tables (Window w input) (subst (λ p. fits tables p ≡ true) is f)
+  pub window_narrow : (plan input : PlanTree) (w : WindowRule) → plan ≡ Over (Window w) input → fits tables plan ≡ true → width input + length w.calls ≤ 1024
+  window_narrow plan input w is f = narrow tables (Over (Window w) input) (subst (λ p. fits tables p ≡ true) is f)
 
-  pub limit_narrow : (plan input : PlanTree) (limit : LimitRule) → plan ≡ Limit limit input → fits tables plan ≡ true → width input ≤ 1024
-  limit_narrow plan input limit is f = narrow tables (Limit limit input) (subst (λ p. fits tables p ≡ true) is f)
+  pub limit_narrow : (plan input : PlanTree) (limit : LimitRule) → plan ≡ Over (Limit limit) input → fits tables plan ≡ true → width input ≤ 1024
+  limit_narrow plan input limit is f = narrow tables (Over (Limit limit) input) (subst (λ p. fits tables p ≡ true) is f)
 
 -- ---- a Window
 
 module _ (facts : FactList) (node : ℕ) (claims : List Closing) (entry : NodeRecord) (before after : List Reason) where
   module _ (w : WindowRule) (input : PlanTree) (classes : List Closing) where
-    of_window : AreClaims facts (width (Window w input)) claims → AreClosings facts classes → starts classes ≡ map class_columns w.classes
+    of_window : AreClaims facts (width (Over (Window w) input)) claims → AreClosings facts classes → starts classes ≡ map class_columns w.classes
         → after ≡ before ++ reasons_of node 0 (decided_calls classes (length claims) (width input) None w.calls)
-        → entry ≡ entry_by (width (Window w input)) claims classes (rules_in (decided_calls classes (length claims) (width input) None w.calls)) None
-        → IsFound facts (Window w input) node claims entry before after
+        → entry ≡ entry_by (width (Over (Window w) input)) claims classes (rules_in (decided_calls classes (length claims) (width input) None w.calls)) None
+        → IsFound facts (Over (Window w) input) node claims entry before after
     of_window c closings from said is = record {
-      keeps = ap kept_facts is ∙ entry_keeps facts (width (Window w input)) claims classes (rules_in (decided_calls classes (length claims) (width input) None w.calls)) None;
+      keeps = ap kept_facts is ∙ entry_keeps facts (width (Over (Window w) input)) claims classes (rules_in (decided_calls classes (length claims) (width input) None w.calls)) None;
       settled = λ e.
           let decided = decided_calls classes (length claims) (width input) None w.calls in
           let reasons = reasons_of node 0 decided in
           let both : before ++ reasons ≡ [] = sym said ∙ e in
           let all = none_lacks node 0 decided (none_after before reasons both) in (
             none_before before reasons both,
-            ap (entry_refusal node facts (Window w input)) is ∙ window_entry node facts w input claims classes c.claims closings from all,
-            ap (has_its_limit (Window w input)) is,
-            ap (has_its_calls (Window w input)) is ∙ eq-eqb (length (rules_in decided)) (length w.calls) (rules_long classes (length claims) (width input) None w.calls all),
+            ap (entry_refusal node facts (Over (Window w) input)) is ∙ window_entry node facts w input claims classes c.claims closings from all,
+            ap (has_its_limit (Over (Window w) input)) is,
+            ap (has_its_calls (Over (Window w) input)) is ∙ eq-eqb (length (rules_in decided)) (length w.calls) (rules_long classes (length claims) (width input) None w.calls all),
           );
     }
 
-    pub window_found : (plan : PlanTree) → plan ≡ Window w input → AreClaims facts (width plan) claims → AreClosings facts classes → starts classes ≡ map class_columns w.classes
+    pub window_found : (plan : PlanTree) → plan ≡ Over (Window w) input → AreClaims facts (width plan) claims → AreClosings facts classes → starts classes ≡ map class_columns w.classes
         → after ≡ before ++ reasons_of node 0 (decided_calls classes (length claims) (width input) None w.calls)
         → entry ≡ entry_by (width plan) claims classes (rules_in (decided_calls classes (length claims) (width input) None w.calls)) None
         → IsFound facts plan node claims entry before after
@@ -102,24 +102,24 @@ module _ (facts : FactList) (node : ℕ) (claims : List Closing) (entry : NodeRe
   -- ---- a Limit
 
   module _ (limit : LimitRule) (input : PlanTree) where
-    of_whole : AreClaims facts (width (Limit limit input)) claims → is_whole_or_ties limit ≡ true → after ≡ before → entry ≡ entry_by (width (Limit limit input)) claims [] [] None → IsFound facts (Limit limit input) node claims entry before after
+    of_whole : AreClaims facts (width (Over (Limit limit) input)) claims → is_whole_or_ties limit ≡ true → after ≡ before → entry ≡ entry_by (width (Over (Limit limit) input)) claims [] [] None → IsFound facts (Over (Limit limit) input) node claims entry before after
     of_whole c whole said is = record {
-      keeps = ap kept_facts is ∙ entry_keeps facts (width (Limit limit input)) claims [] [] None;
-      settled = λ e. (sym said ∙ e, ap (entry_refusal node facts (Limit limit input)) is ∙ whole_entry node facts limit input claims c.claims whole, refl, ap (has_its_calls (Limit limit input)) is);
+      keeps = ap kept_facts is ∙ entry_keeps facts (width (Over (Limit limit) input)) claims [] [] None;
+      settled = λ e. (sym said ∙ e, ap (entry_refusal node facts (Over (Limit limit) input)) is ∙ whole_entry node facts limit input claims c.claims whole, refl, ap (has_its_calls (Over (Limit limit) input)) is);
     }
 
-    pub whole_found : (plan : PlanTree) → plan ≡ Limit limit input → AreClaims facts (width plan) claims → is_whole_or_ties limit ≡ true → after ≡ before → entry ≡ entry_by (width plan) claims [] [] None → IsFound facts plan node claims entry before after
+    pub whole_found : (plan : PlanTree) → plan ≡ Over (Limit limit) input → AreClaims facts (width plan) claims → is_whole_or_ties limit ≡ true → after ≡ before → entry ≡ entry_by (width plan) claims [] [] None → IsFound facts plan node claims entry before after
     whole_found plan p c whole said is =
         subst (λ t. IsFound facts t node claims entry before after) (sym p)
         (of_whole (subst (λ t. AreClaims facts (width t) claims) p c) whole said (is ∙ ap (λ t. entry_by (width t) claims [] [] None) p))
 
-    of_keys : (closed : Closing) → AreClaims facts (width (Limit limit input)) claims → IsClosing facts closed → closed.from ≡ key_columns limit.keys → missing_of closed.has (all_columns (width input)) ≡ None → after ≡ before → entry ≡ entry_by (width (Limit limit input)) claims (closed ∷ []) [] (Some (length claims)) → IsFound facts (Limit limit input) node claims entry before after
+    of_keys : (closed : Closing) → AreClaims facts (width (Over (Limit limit) input)) claims → IsClosing facts closed → closed.from ≡ key_columns limit.keys → missing_of closed.has (all_columns (width input)) ≡ None → after ≡ before → entry ≡ entry_by (width (Over (Limit limit) input)) claims (closed ∷ []) [] (Some (length claims)) → IsFound facts (Over (Limit limit) input) node claims entry before after
     of_keys closed c closing from all said is = record {
-      keeps = ap kept_facts is ∙ entry_keeps facts (width (Limit limit input)) claims (closed ∷ []) [] (Some (length claims));
-      settled = λ e. (sym said ∙ e, ap (entry_refusal node facts (Limit limit input)) is ∙ keys_entry node facts limit input claims c.claims closed closing from all, refl, ap (has_its_calls (Limit limit input)) is);
+      keeps = ap kept_facts is ∙ entry_keeps facts (width (Over (Limit limit) input)) claims (closed ∷ []) [] (Some (length claims));
+      settled = λ e. (sym said ∙ e, ap (entry_refusal node facts (Over (Limit limit) input)) is ∙ keys_entry node facts limit input claims c.claims closed closing from all, refl, ap (has_its_calls (Over (Limit limit) input)) is);
     }
 
-    pub keys_found : (plan : PlanTree) (closed : Closing) → plan ≡ Limit limit input → AreClaims facts (width plan) claims → IsClosing facts closed → closed.from ≡ key_columns limit.keys → missing_of closed.has (all_columns (width input)) ≡ None → after ≡ before → entry ≡ entry_by (width plan) claims (closed ∷ []) [] (Some (length claims)) → IsFound facts plan node claims entry before after
+    pub keys_found : (plan : PlanTree) (closed : Closing) → plan ≡ Over (Limit limit) input → AreClaims facts (width plan) claims → IsClosing facts closed → closed.from ≡ key_columns limit.keys → missing_of closed.has (all_columns (width input)) ≡ None → after ≡ before → entry ≡ entry_by (width plan) claims (closed ∷ []) [] (Some (length claims)) → IsFound facts plan node claims entry before after
     keys_found plan closed p c closing from all said is =
         subst (λ t. IsFound facts t node claims entry before after) (sym p)
         (of_keys closed (subst (λ t. AreClaims facts (width t) claims) p c) closing from all said (is ∙ ap (λ t. entry_by (width t) claims (closed ∷ []) [] (Some (length claims))) p))
@@ -136,12 +136,12 @@ module _ (facts : FactList) (node : ℕ) (claims : List Closing) (entry : NodeRe
   plain_passes : (plan : PlanTree) → is_without_rules plan ≡ true → AreClaims facts (width plan) claims → (entry_refusal node facts plan (entry_by (width plan) claims [] [] None) ≡ None) × (has_its_limit plan (entry_by (width plan) claims [] [] None) ≡ true) × (has_its_calls plan (entry_by (width plan) claims [] [] None) ≡ true)
   plain_passes (Scan table columns) e c = (entry_passes node facts (Scan table columns) claims [] [] None c.claims tt refl, refl, refl)
   plain_passes (Join condition left right) e c = (entry_passes node facts (Join condition left right) claims [] [] None c.claims tt refl, refl, refl)
-  plain_passes (Filter condition input) e c = (entry_passes node facts (Filter condition input) claims [] [] None c.claims tt refl, refl, refl)
-  plain_passes (Map outputs input) e c = (entry_passes node facts (Map outputs input) claims [] [] None c.claims tt refl, refl, refl)
-  plain_passes (Window w input) e c = absurd (false≢true e)
-  plain_passes (Group g input) e c = (entry_passes node facts (Group g input) claims [] [] None c.claims tt refl, refl, refl)
-  plain_passes (Distinct input) e c = (entry_passes node facts (Distinct input) claims [] [] None c.claims tt refl, refl, refl)
-  plain_passes (Limit limit input) e c = absurd (false≢true e)
+  plain_passes (Over (Filter condition) input) e c = (entry_passes node facts (Over (Filter condition) input) claims [] [] None c.claims tt refl, refl, refl)
+  plain_passes (Over (Map outputs) input) e c = (entry_passes node facts (Over (Map outputs) input) claims [] [] None c.claims tt refl, refl, refl)
+  plain_passes (Over (Window w) input) e c = absurd (false≢true e)
+  plain_passes (Over (Group g) input) e c = (entry_passes node facts (Over (Group g) input) claims [] [] None c.claims tt refl, refl, refl)
+  plain_passes (Over Distinct input) e c = (entry_passes node facts (Over Distinct input) claims [] [] None c.claims tt refl, refl, refl)
+  plain_passes (Over (Limit limit) input) e c = absurd (false≢true e)
 
   pub plain_found : (plan : PlanTree) → is_without_rules plan ≡ true → AreClaims facts (width plan) claims → after ≡ before → entry ≡ entry_by (width plan) claims [] [] None → IsFound facts plan node claims entry before after
   plain_found plan e c said is = record {

@@ -86,7 +86,7 @@ same_members width (member.Left ∷ X) e = absurd (false≢true e)
 same_members width (member.Right ∷ X) e = absurd (false≢true e)
 same_members width (member.Row ∷ X) e = ap (λ l. member.Row ∷ l) (same_members width X e)
 
--- ---- lists behind a front
+-- ---- lists after a front
 
 pub dropped_get : {X : Type 0} (all : List X) (n : ℕ) (x : X) (rest : List X) → drop n all ≡ x ∷ rest → slice_get all n ≡ Some x
 dropped_get [] zero x rest e = cc

@@ -3,7 +3,7 @@ use Rattle.std.proofs.Common.{◌≡◌, ℕ, ◌+◌, ◌<◌, true, not, List,
 use Rattle.std.proofs.lemmas.Bool.{false≢true}
 use Rattle.wd_schema.specs.Tables.{TableRule}
 use Rattle.wd_plan.specs.Fits.{fits, width}
-use Rattle.wd_plan.specs.Plans.{LimitRule, PlanTree, Scan, Join, Filter, Map, Window, Distinct, Group, Limit, node_count}
+use Rattle.wd_plan.specs.Plans.{LimitRule, PlanTree, Scan, Join, Over, Filter, Map, Window, Distinct, Group, Limit, node_count}
 use Rattle.wd_certificate.specs.Certificates.{NodeRecord}
 use Rattle.wd_step_facts.specs.Facts.{Fact, FactList}
 use Rattle.wd_facts.specs.Given.{given}
@@ -22,19 +22,19 @@ use Rattle.wd_analyse.proofs.Unique.{are_same, closing_same, told_facts}
 some_is : {X : Type 0} (a b : X) → ◌≡◌ {A = Option X} (Some a) (Some b) → a ≡ b
 some_is a b e = cc
 
--- ---- entries with more behind them
+-- ---- entries with more after them
 
 final_low : (plan : PlanTree) (first n : ℕ) → final_limit plan first ≡ Some n → n < first + node_count plan
 final_low (Scan table columns) first n e = cc
 final_low (Join condition left right) first n e = cc
-final_low (Filter condition input) first n e = cc
-final_low (Map outputs input) first n e = let low = final_low input first n e in omega (arith, low)
-final_low (Window w input) first n e = cc
-final_low (Distinct input) first n e = cc
-final_low (Group g input) first n e = cc
-final_low (Limit limit input) first n e =
-    let is : top_number (Limit limit input) first ≡ n = some_is _ _ e in
-    let low = top_low (Limit limit input) first in
+final_low (Over (Filter condition) input) first n e = cc
+final_low (Over (Map outputs) input) first n e = let low = final_low input first n e in omega (arith, low)
+final_low (Over (Window w) input) first n e = cc
+final_low (Over Distinct input) first n e = cc
+final_low (Over (Group g) input) first n e = cc
+final_low (Over (Limit limit) input) first n e =
+    let is : top_number (Over (Limit limit) input) first ≡ n = some_is _ _ e in
+    let low = top_low (Over (Limit limit) input) first in
     omega (arith, is, low)
 
 keys_front : (ns more : List NodeRecord) (o : Option ℕ) → ((n : ℕ) → o ≡ Some n → n < length ns) → goes_by_keys (ns ++ more) o ≡ goes_by_keys ns o
@@ -45,8 +45,8 @@ keys_front ns more (Some n) h = ap (λ (e : NodeRecord). is_some e.limit) (at_fr
 
 -- an entry that goes by what its sort keys lack
 entry_keys : (facts : FactList) (limit : LimitRule) (input : PlanTree) (node : ℕ) (f : Finding) (h : IsOfLimit facts limit input node f) (o : Option ℕ) → lacking (width input) h.keys ≡ o → is_some o ≡ not (is_some f.entry.limit)
-entry_keys facts limit input node f h None e = sym (ap (λ (n : NodeRecord). not (is_some n.limit)) (h.entry ∙ ap (entry_by_keys (width (Limit limit input)) f.claims h.keys) e))
-entry_keys facts limit input node f h (Some d) e = sym (ap (λ (n : NodeRecord). not (is_some n.limit)) (h.entry ∙ ap (entry_by_keys (width (Limit limit input)) f.claims h.keys) e))
+entry_keys facts limit input node f h None e = sym (ap (λ (n : NodeRecord). not (is_some n.limit)) (h.entry ∙ ap (entry_by_keys (width (Over (Limit limit) input)) f.claims h.keys) e))
+entry_keys facts limit input node f h (Some d) e = sym (ap (λ (n : NodeRecord). not (is_some n.limit)) (h.entry ∙ ap (entry_by_keys (width (Over (Limit limit) input)) f.claims h.keys) e))
 
 module _ (tables : List TableRule) where
   -- what two analyses say that a Limit lacks is one thing
@@ -54,8 +54,8 @@ module _ (tables : List TableRule) where
   lack_same limit input o p a b =
       let under = are_same tables input 0 a.found b.found a.are b.are in
       let kept : facts_kept input a.found.top ≡ facts_kept input b.found.top = told_facts input a.found.top b.found.top under.1 in
-      let facts = given tables (Limit limit input) (facts_kept input a.found.top) [] in
-      let there : IsClosing facts b.keys = subst (λ k. IsClosing (given tables (Limit limit input) k []) b.keys) (sym kept) b.closing in
+      let facts = given tables (Over (Limit limit) input) (facts_kept input a.found.top) [] in
+      let there : IsClosing facts b.keys = subst (λ k. IsClosing (given tables (Over (Limit limit) input) k []) b.keys) (sym kept) b.closing in
       sym a.is ∙ ap (lacking (width input)) (closing_same facts a.keys b.keys a.closing there (a.columns ∙ sym b.columns)) ∙ b.is
 
   long : (plan : PlanTree) (found : PlanFindings) → AreFindings tables plan 0 found → length (entries_in (in_postorder found)) ≡ node_count plan
@@ -65,8 +65,8 @@ module _ (tables : List TableRule) where
       → is_some o ≡ not (goes_by_keys (entries_in (in_postorder found)) (final_limit plan 0))
   keys_first (Scan table columns) found o a l t = absurd (false≢true t)
   keys_first (Join condition left right) found o a l t = absurd (false≢true t)
-  keys_first (Filter condition input) found o a l t = absurd (false≢true t)
-  keys_first (Map outputs input) found o a l t =
+  keys_first (Over (Filter condition) input) found o a l t = absurd (false≢true t)
+  keys_first (Over (Map outputs) input) found o a l t =
       let top = found.top in
       let inner = entries_in (in_postorder a.0) in
       let number = long input a.0 a.1 in
@@ -74,15 +74,15 @@ module _ (tables : List TableRule) where
       keys_first input a.0 o a.1 l t
       ∙ ap not (sym (keys_front inner (top.entry ∷ []) (final_limit input 0) (λ n e. let low = final_low input 0 n e in omega (arith, low, number))))
       ∙ ap (λ ns. not (goes_by_keys ns (final_limit input 0))) (sym all)
-  keys_first (Window w input) found o a l t = absurd (false≢true t)
-  keys_first (Distinct input) found o a l t = absurd (false≢true t)
-  keys_first (Group g input) found o a l t = absurd (false≢true t)
-  keys_first (Limit limit input) found o a l t =
+  keys_first (Over (Window w) input) found o a l t = absurd (false≢true t)
+  keys_first (Over Distinct input) found o a l t = absurd (false≢true t)
+  keys_first (Over (Group g) input) found o a l t = absurd (false≢true t)
+  keys_first (Over (Limit limit) input) found o a l t =
       let top = found.top in
       let inner = entries_in (in_postorder a.0) in
       let number = long input a.0 a.1 in
       let all : entries_in (in_postorder found) ≡ inner ++ top.entry ∷ [] = ap (λ b. entries_in (b ++ top ∷ [])) a.2.before ∙ entries_more [] (in_postorder a.0) top in
-      let last : entry_at (entries_in (in_postorder found)) (top_number (Limit limit input) 0) ≡ top.entry = ap (λ ns. entry_at ns (top_number (Limit limit input) 0)) all ∙ at_end inner top.entry (top_number (Limit limit input) 0) (omega (arith, number)) in
+      let last : entry_at (entries_in (in_postorder found)) (top_number (Over (Limit limit) input) 0) ≡ top.entry = ap (λ ns. entry_at ns (top_number (Over (Limit limit) input) 0)) all ∙ at_end inner top.entry (top_number (Over (Limit limit) input) 0) (omega (arith, number)) in
       let said = a.2.finding.said in
       let own : IsLackOf tables limit input (lacking (width input) said.keys) = record { found = a.0; are = a.1; keys = said.keys; closing = said.closing; columns = said.columns; is = refl } in
       ap is_some (lack_same limit input o (lacking (width input) said.keys) l own)
@@ -96,6 +96,6 @@ keys_come_first tables plan certificate o answer l t =
     ∙ ap (λ ns. not (goes_by_keys ns (final_limit plan 0))) (sym exact.tells.1)
 
 -- the given facts of a Limit over an input that keeps plain facts can be closed
-pub lack_admits : (tables : List TableRule) (plan input : PlanTree) (limit : LimitRule) (kept own : List Fact) (facts : FactList) → plan ≡ Limit limit input → fits tables plan ≡ true → kept ≡ own → ArePlain (width input) own → facts ≡ given tables plan kept [] → Admits facts (width plan)
+pub lack_admits : (tables : List TableRule) (plan input : PlanTree) (limit : LimitRule) (kept own : List Fact) (facts : FactList) → plan ≡ Over (Limit limit) input → fits tables plan ≡ true → kept ≡ own → ArePlain (width input) own → facts ≡ given tables plan kept [] → Admits facts (width plan)
 lack_admits tables plan input limit kept own facts is f same plain given_is =
     given_admits tables plan kept [] facts given_is f (subst (λ p. AreOfChildren p kept []) (sym is) (subst (ArePlain (width input)) (sym same) plain))

@@ -15,7 +15,7 @@ use Rattle.wd_plan.specs.Expressions.{Expression, Column, Literal, Negate, Arith
 use Rattle.wd_plan.specs.Fits.{AreBelow, are_outputs, fits, has_table, is_condition, is_join, is_kind, is_narrow, is_typed, is_window, kind_of, kinds_of, may_join, width}
 use Rattle.wd_plan.specs.declared.expression.ValueKind.TheVariants.{Truth}
 use Rattle.wd_plan.specs.Outcomes.{class_at}
-use Rattle.wd_plan.specs.Plans.{ClassRule, GroupCall, OfRows, Grouping, GroupRule, PlanTree, WindowRule, Scan, Join, Filter, Map, Group, Window, Distinct, Limit}
+use Rattle.wd_plan.specs.Plans.{ClassRule, GroupCall, OfRows, Grouping, GroupRule, PlanTree, WindowRule, Scan, Join, Over, Filter, Map, Group, Window, Distinct, Limit}
 use Rattle.wd_plan.specs.Sorting.{class_columns, order_columns}
 use Rattle.wd_plan.proofs.Ranges.{IsSound, calls_sound, has_the_table, kinds_below, table_columns}
 use Rattle.wd_step_facts.specs.declared.facts.Member.{Member}
@@ -345,8 +345,8 @@ module _ (tables : List TableRule) where
       of_condition None facts e m = tt
       of_condition (Some c) facts e m =
           conjuncts_given facts (conjuncts c) (conjuncts_below facts c (subst (λ n. AreBelow n (used c)) (sym e) (condition_below (Join condition left right) (width left + width right) (kinds_below tables (Join condition left right) f) c m)))
-  all_given (Filter condition input) kept more f h =
-      let plan = Filter condition input in
+  all_given (Over (Filter condition) input) kept more f h =
+      let plan = Over (Filter condition) input in
       let facts = given tables plan kept more in
       let p = and_parts (fits tables input) (is_condition (kinds_of tables input) condition) f in
       let keys = full_keys (is_not_null tables plan) (nullable_keys tables input) in
@@ -355,26 +355,26 @@ module _ (tables : List TableRule) where
       (kept_given facts (width input) (omega arith) kept h)
       (conjuncts_given facts (conjuncts condition) (conjuncts_below facts condition (condition_below input (width input) (kinds_below tables input p.0) condition p.1))))
       (keys_given facts member.Row refl keys (all_filtered (AreBelow (width input)) (list_all (is_not_null tables plan)) (nullable_keys tables input) (nullable_keys_below tables input p.0)))
-  all_given (Map outputs input) kept more f h =
-      let facts = given tables (Map outputs input) kept more in
+  all_given (Over (Map outputs) input) kept more f h =
+      let facts = given tables (Over (Map outputs) input) kept more in
       let p = and_parts (fits tables input) (are_outputs (kinds_of tables input) outputs) f in
       let typed = and_parts (is_narrow (length outputs)) (list_all (is_typed (kinds_of tables input)) outputs) p.1 in
       all_append (IsGiven facts) (moved_facts (λ c. length outputs + c) member.Row kept) (outputs_facts (length outputs) 0 outputs)
       (moved_given facts (λ c. length outputs + c) member.Row (width input) (λ c l. omega (arith, l)) refl kept h)
       (outputs_given facts (length outputs) (width input) (omega arith) 0 outputs (omega arith) (outputs_below input p.0 outputs typed.1))
-  all_given (Window w input) kept more f h =
-      let facts = given tables (Window w input) kept more in
+  all_given (Over (Window w) input) kept more f h =
+      let facts = given tables (Over (Window w) input) kept more in
       let p = and_parts (fits tables input) (is_window (kinds_of tables input) (width input) w) f in
       all_append (IsGiven facts) kept (calls_facts w (width input) w.calls)
       (kept_given facts (width input) (omega arith) kept h)
       (calls_given facts w (width input) w.calls (omega arith) (within_of w input p.0 facts (omega arith) w.calls (calls_sound (kinds_of tables input) (width input) (kinds_below tables input p.0) w p.1)))
-  all_given (Group g input) kept more f h = group_given g kept (given tables (Group g input) kept more) refl
-  all_given (Distinct input) kept more f h =
-      let facts = given tables (Distinct input) kept more in
+  all_given (Over (Group g) input) kept more f h = group_given g kept (given tables (Over (Group g) input) kept more) refl
+  all_given (Over Distinct input) kept more f h =
+      let facts = given tables (Over Distinct input) kept more in
       all_append (IsGiven facts) kept (key_fact member.Row (all_columns (width input)) ∷ [])
       (kept_given facts (width input) (omega arith) kept h)
       (key_given facts member.Row refl (all_columns (width input)) (below_range (width input) 0 (width input) (omega arith)), tt)
-  all_given (Limit limit input) kept more f h = kept_given (given tables (Limit limit input) kept more) (width input) (omega arith) kept h
+  all_given (Over (Limit limit) input) kept more f h = kept_given (given tables (Over (Limit limit) input) kept more) (width input) (omega arith) kept h
 
 -- ---- what the closure asks
 
@@ -388,9 +388,4 @@ given_named tables plan kept more f h = are_named_from (given tables plan kept m
 pub given_split : (tables : List TableRule) (plan : PlanTree) (kept more : List Fact) → is_split_within (given tables plan kept more).split (given tables plan kept more).columns ≡ true
 given_split tables (Scan table columns) kept more = refl
 given_split tables (Join condition left right) kept more = le-leb (width left) (width left + width right) (omega arith)
-given_split tables (Filter condition input) kept more = refl
-given_split tables (Map outputs input) kept more = refl
-given_split tables (Window w input) kept more = refl
-given_split tables (Group g input) kept more = refl
-given_split tables (Distinct input) kept more = refl
-given_split tables (Limit limit input) kept more = refl
+given_split tables (Over step input) kept more = refl

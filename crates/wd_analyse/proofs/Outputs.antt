@@ -11,20 +11,20 @@ use Rattle.wd_step_facts.specs.Steps.{both_copied, copy_from, if_copied, is_side
 use Rattle.wd_analyse.specs.Sources.{columns_in, left_sides, output_of, outputs_of}
 use Rattle.wd_analyse.specs.Steps.{left_sides_by, output_by, outputs_by}
 
--- some columns, behind those of the front
-abbrev pub behind : List ℕ → Option (List ℕ) → Option (List ℕ)
-behind front rest = option_map (λ Y. front ++ Y) rest
+-- some columns, after those of the front
+abbrev pub after : List ℕ → Option (List ℕ) → Option (List ℕ)
+after front rest = option_map (λ Y. front ++ Y) rest
 
-after_both : (front : List ℕ) (d : ℕ) (rest : Option (List ℕ)) → behind (front ++ (d ∷ [])) rest ≡ behind front (both_copied (Some d) rest)
+after_both : (front : List ℕ) (d : ℕ) (rest : Option (List ℕ)) → after (front ++ (d ∷ [])) rest ≡ after front (both_copied (Some d) rest)
 after_both front d None = refl
 after_both front d (Some Y) = ap Some (append_assoc front (d ∷ []) Y)
 
 module _ (copy : ℕ → Option ℕ) (width : ℕ) (front X : List ℕ) (c : ℕ) where
-  pub outputs_next : (d : ℕ) → output_by copy width c ≡ Some d → behind (front ++ (d ∷ [])) (outputs_by copy width X) ≡ behind front (outputs_by copy width (c ∷ X))
-  outputs_next d e = after_both front d (outputs_by copy width X) ∙ ap (λ o. behind front (both_copied o (outputs_by copy width X))) (sym e)
+  pub outputs_next : (d : ℕ) → output_by copy width c ≡ Some d → after (front ++ (d ∷ [])) (outputs_by copy width X) ≡ after front (outputs_by copy width (c ∷ X))
+  outputs_next d e = after_both front d (outputs_by copy width X) ∙ ap (λ o. after front (both_copied o (outputs_by copy width X))) (sym e)
 
-  pub outputs_stop : output_by copy width c ≡ None → None ≡ behind front (outputs_by copy width (c ∷ X))
-  outputs_stop e = ap (λ o. behind front (both_copied o (outputs_by copy width X))) (sym e)
+  pub outputs_stop : output_by copy width c ≡ None → None ≡ after front (outputs_by copy width (c ∷ X))
+  outputs_stop e = ap (λ o. after front (both_copied o (outputs_by copy width X))) (sym e)
 
 -- ---- by the copies among a Map's outputs
 

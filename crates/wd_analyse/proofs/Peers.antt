@@ -5,7 +5,7 @@ use Rattle.std.proofs.lemmas.Grind.{flat_map-append}
 use Rattle.std.proofs.lemmas.List.{length-map}
 use Rattle.wd_schema.specs.Tables.{TableRule}
 use Rattle.wd_plan.specs.Fits.{width}
-use Rattle.wd_plan.specs.Plans.{EachNamesClasses, LimitRule, NameBelow, PlanTree, WindowRule, Scan, Join, Filter, Map, Window, Distinct, Group, Limit}
+use Rattle.wd_plan.specs.Plans.{EachNamesClasses, LimitRule, NameBelow, PlanTree, WindowRule, Scan, Join, Over, Filter, Map, Window, Distinct, Group, Limit}
 use Rattle.wd_plan.specs.Settled.{is_by_peers}
 use Rattle.wd_plan.specs.Sorting.{class_columns}
 use Rattle.wd_plan.specs.declared.window.Call.{Call}
@@ -24,8 +24,8 @@ use Rattle.wd_analyse.specs.Peers.{GoByPeers, PeersAreCertified}
 reasons_append : (fs gs : List Finding) → reasons_in (fs ++ gs) ≡ reasons_in fs ++ reasons_in gs
 reasons_append fs gs = flat_map-append (λ (f : Finding). f.reasons) fs gs
 
-behind : (before : List Finding) (top : Finding) → reasons_in before ≡ [] → top.reasons ≡ [] → reasons_in (before ++ top ∷ []) ≡ []
-behind before top e f = reasons_more [] before top ∙ (λ i. e i ++ f i)
+after : (before : List Finding) (top : Finding) → reasons_in before ≡ [] → top.reasons ≡ [] → reasons_in (before ++ top ∷ []) ≡ []
+after before top e f = reasons_more [] before top ∙ (λ i. e i ++ f i)
 
 -- ---- a Window
 
@@ -65,20 +65,20 @@ module _ (facts : FactList) (node : ℕ) (f : Finding) where
 module _ (tables : List TableRule) where
   of_one : (plan : PlanTree) (first : ℕ) (inner found : PlanFindings) (kept : List Fact) → IsFoundOver tables plan first (in_postorder inner) kept [] found
       → reasons_in (in_postorder inner) ≡ [] → found.top.reasons ≡ [] → reasons_in (in_postorder found) ≡ []
-  of_one plan first inner found kept over below own = behind found.below found.top (ap reasons_in over.before ∙ below) own
+  of_one plan first inner found kept over below own = after found.below found.top (ap reasons_in over.before ∙ below) own
 
   no_reasons : (plan : PlanTree) (first : ℕ) (found : PlanFindings) → EachNamesClasses plan → GoByPeers plan → AreFindings tables plan first found → reasons_in (in_postorder found) ≡ []
-  no_reasons (Scan table columns) first found names peers a = behind found.below found.top (ap reasons_in a.0) a.1.said.reasons
+  no_reasons (Scan table columns) first found names peers a = after found.below found.top (ap reasons_in a.0) a.1.said.reasons
   no_reasons (Join condition left right) first found names peers a =
       let l = no_reasons left first a.0 names.0 peers.0 a.2 in
       let r = no_reasons right (first + length (in_postorder a.0)) a.1 names.1 peers.1 a.3 in
-      behind found.below found.top (ap reasons_in a.4.before ∙ reasons_append (in_postorder a.0) (in_postorder a.1) ∙ (λ i. l i ++ r i)) a.4.finding.said.reasons
-  no_reasons (Filter condition input) first found names peers a = of_one (Filter condition input) first a.0 found (facts_kept input a.0.top) a.2 (no_reasons input first a.0 names peers a.1) a.2.finding.said.reasons
-  no_reasons (Map outputs input) first found names peers a = of_one (Map outputs input) first a.0 found (facts_kept input a.0.top) a.2 (no_reasons input first a.0 names peers a.1) a.2.finding.said.reasons
-  no_reasons (Window w input) first found names peers a = of_one (Window w input) first a.0 found (facts_kept input a.0.top) a.2 (no_reasons input first a.0 names.0 peers.0 a.1) (of_window _ _ found.top w input names.1 peers.1 a.2.finding.said)
-  no_reasons (Distinct input) first found names peers a = of_one (Distinct input) first a.0 found (facts_kept input a.0.top) a.2 (no_reasons input first a.0 names peers a.1) a.2.finding.said.reasons
-  no_reasons (Group g input) first found names peers a = of_one (Group g input) first a.0 found (facts_kept input a.0.top) a.2 (no_reasons input first a.0 names.0 peers a.1) a.2.finding.said.reasons
-  no_reasons (Limit limit input) first found names peers a = of_one (Limit limit input) first a.0 found (facts_kept input a.0.top) a.2 (no_reasons input first a.0 names peers.0 a.1) (of_limit _ _ found.top limit input peers.1 a.2.finding.said)
+      after found.below found.top (ap reasons_in a.4.before ∙ reasons_append (in_postorder a.0) (in_postorder a.1) ∙ (λ i. l i ++ r i)) a.4.finding.said.reasons
+  no_reasons (Over (Filter condition) input) first found names peers a = of_one (Over (Filter condition) input) first a.0 found (facts_kept input a.0.top) a.2 (no_reasons input first a.0 names.0 peers a.1) a.2.finding.said.reasons
+  no_reasons (Over (Map outputs) input) first found names peers a = of_one (Over (Map outputs) input) first a.0 found (facts_kept input a.0.top) a.2 (no_reasons input first a.0 names.0 peers a.1) a.2.finding.said.reasons
+  no_reasons (Over (Window w) input) first found names peers a = of_one (Over (Window w) input) first a.0 found (facts_kept input a.0.top) a.2 (no_reasons input first a.0 names.0 peers.0 a.1) (of_window _ _ found.top w input names.1 peers.1 a.2.finding.said)
+  no_reasons (Over Distinct input) first found names peers a = of_one (Over Distinct input) first a.0 found (facts_kept input a.0.top) a.2 (no_reasons input first a.0 names.0 peers a.1) a.2.finding.said.reasons
+  no_reasons (Over (Group g) input) first found names peers a = of_one (Over (Group g) input) first a.0 found (facts_kept input a.0.top) a.2 (no_reasons input first a.0 names.0 peers a.1) a.2.finding.said.reasons
+  no_reasons (Over (Limit limit) input) first found names peers a = of_one (Over (Limit limit) input) first a.0 found (facts_kept input a.0.top) a.2 (no_reasons input first a.0 names.0 peers.0 a.1) (of_limit _ _ found.top limit input peers.1 a.2.finding.said)
 
 pub peers_are_certified : PeersAreCertified
 peers_are_certified tables plan (Certified certificate) fit peers answer = tt

@@ -1,10 +1,10 @@
--- The entries of a plan: its inputs' and, behind them, its own.
+-- The entries of a plan: its inputs' and, after them, its own.
 use Rattle.std.proofs.Common.{◌≡◌, ℕ, zero, suc, ◌+◌, ◌<◌, ◌≤◌, Bool, true, false, ◌&&◌, List, [], ◌∷◌, ◌++◌, length, refl, sym, ◌∙◌, ap, arith, subst, append_assoc, Option, None}
 use Rattle.std.proofs.lemmas.Bool.{false≢true}
 use Rattle.std.proofs.lemmas.List.{length_push}
 use Rattle.wd_schema.specs.Tables.{TableRule}
 use Rattle.wd_plan.specs.Expressions.{Expression}
-use Rattle.wd_plan.specs.Plans.{PlanTree, Scan, Join, Filter, Map, Group, Window, Distinct, Limit, node_count}
+use Rattle.wd_plan.specs.Plans.{PlanTree, Scan, Join, Over, Filter, Map, Group, Window, Distinct, Limit, node_count}
 use Rattle.wd_certificate.specs.Certificates.{NodeRecord}
 use Rattle.wd_step_facts.specs.Facts.{Fact}
 use Rattle.wd_facts.specs.Given.{given}
@@ -13,7 +13,7 @@ use Rattle.wd_rules.specs.Validity.{all_entries, entry_at, has_its_calls, has_it
 use Rattle.wd_analyse.proofs.Valid.{AreEntries, IsAnalysed, IsTop}
 use Rattle.wd_analyse.specs.declared.analysis.Reason.{Reason}
 
--- ---- entries with more behind them
+-- ---- entries with more after them
 
 pub at_front : (ns more : List NodeRecord) (n : ℕ) → n < length ns → entry_at (ns ++ more) n ≡ entry_at ns n
 at_front [] more n h = absurd (omega arith)
@@ -29,12 +29,7 @@ at_end (x ∷ ns) e (suc n) h = at_end ns e n (omega (arith, h))
 pub top_low : (plan : PlanTree) (first : ℕ) → top_number plan first < first + node_count plan
 top_low (Scan table columns) first = omega arith
 top_low (Join condition left right) first = omega arith
-top_low (Filter condition input) first = omega arith
-top_low (Map outputs input) first = omega arith
-top_low (Window w input) first = omega arith
-top_low (Group g input) first = omega arith
-top_low (Distinct input) first = omega arith
-top_low (Limit limit input) first = omega arith
+top_low (Over step input) first = omega arith
 
 module _ (ns more : List NodeRecord) where
   top_front : (plan : PlanTree) (first : ℕ) → first + node_count plan ≤ length ns → top_at plan first (ns ++ more) ≡ top_at plan first ns
@@ -43,22 +38,12 @@ module _ (ns more : List NodeRecord) where
   below_front : (plan : PlanTree) (first : ℕ) → first + node_count plan ≤ length ns → kept_below plan first (ns ++ more) ≡ kept_below plan first ns
   below_front (Scan table columns) first h = refl
   below_front (Join condition left right) first h = ap kept_facts (top_front left first (omega (arith, h)))
-  below_front (Filter condition input) first h = ap kept_facts (top_front input first (omega (arith, h)))
-  below_front (Map outputs input) first h = ap kept_facts (top_front input first (omega (arith, h)))
-  below_front (Window w input) first h = ap kept_facts (top_front input first (omega (arith, h)))
-  below_front (Group g input) first h = ap kept_facts (top_front input first (omega (arith, h)))
-  below_front (Distinct input) first h = ap kept_facts (top_front input first (omega (arith, h)))
-  below_front (Limit limit input) first h = ap kept_facts (top_front input first (omega (arith, h)))
+  below_front (Over step input) first h = ap kept_facts (top_front input first (omega (arith, h)))
 
   right_front : (plan : PlanTree) (first : ℕ) → first + node_count plan ≤ length ns → kept_right plan first (ns ++ more) ≡ kept_right plan first ns
   right_front (Scan table columns) first h = refl
   right_front (Join condition left right) first h = ap kept_facts (top_front right (first + node_count left) (omega (arith, h)))
-  right_front (Filter condition input) first h = refl
-  right_front (Map outputs input) first h = refl
-  right_front (Window w input) first h = refl
-  right_front (Group g input) first h = refl
-  right_front (Distinct input) first h = refl
-  right_front (Limit limit input) first h = refl
+  right_front (Over step input) first h = refl
 
   module _ (tables : List TableRule) where
     own_front : (plan : PlanTree) (first : ℕ) → first + node_count plan ≤ length ns → top_refusal tables plan first (ns ++ more) ≡ top_refusal tables plan first ns
@@ -68,23 +53,13 @@ module _ (ns more : List NodeRecord) where
     nodes_front (Scan table columns) first h = own_front (Scan table columns) first h
     nodes_front (Join condition left right) first h =
         λ i. or_else (nodes_front left first (omega (arith, h)) i) (or_else (nodes_front right (first + node_count left) (omega (arith, h)) i) (own_front (Join condition left right) first h i))
-    nodes_front (Filter condition input) first h = λ i. or_else (nodes_front input first (omega (arith, h)) i) (own_front (Filter condition input) first h i)
-    nodes_front (Map outputs input) first h = λ i. or_else (nodes_front input first (omega (arith, h)) i) (own_front (Map outputs input) first h i)
-    nodes_front (Window w input) first h = λ i. or_else (nodes_front input first (omega (arith, h)) i) (own_front (Window w input) first h i)
-    nodes_front (Group g input) first h = λ i. or_else (nodes_front input first (omega (arith, h)) i) (own_front (Group g input) first h i)
-    nodes_front (Distinct input) first h = λ i. or_else (nodes_front input first (omega (arith, h)) i) (own_front (Distinct input) first h i)
-    nodes_front (Limit limit input) first h = λ i. or_else (nodes_front input first (omega (arith, h)) i) (own_front (Limit limit input) first h i)
+    nodes_front (Over step input) first h = λ i. or_else (nodes_front input first (omega (arith, h)) i) (own_front (Over step input) first h i)
 
   all_front : (test : PlanTree → NodeRecord → Bool) (plan : PlanTree) (first : ℕ) → first + node_count plan ≤ length ns → all_entries test plan first (ns ++ more) ≡ all_entries test plan first ns
   all_front test (Scan table columns) first h = ap (test (Scan table columns)) (top_front (Scan table columns) first h)
   all_front test (Join condition left right) first h =
       λ i. (all_front test left first (omega (arith, h)) i && all_front test right (first + node_count left) (omega (arith, h)) i) && test (Join condition left right) (top_front (Join condition left right) first h i)
-  all_front test (Filter condition input) first h = λ i. all_front test input first (omega (arith, h)) i && test (Filter condition input) (top_front (Filter condition input) first h i)
-  all_front test (Map outputs input) first h = λ i. all_front test input first (omega (arith, h)) i && test (Map outputs input) (top_front (Map outputs input) first h i)
-  all_front test (Window w input) first h = λ i. all_front test input first (omega (arith, h)) i && test (Window w input) (top_front (Window w input) first h i)
-  all_front test (Group g input) first h = λ i. all_front test input first (omega (arith, h)) i && test (Group g input) (top_front (Group g input) first h i)
-  all_front test (Distinct input) first h = λ i. all_front test input first (omega (arith, h)) i && test (Distinct input) (top_front (Distinct input) first h i)
-  all_front test (Limit limit input) first h = λ i. all_front test input first (omega (arith, h)) i && test (Limit limit input) (top_front (Limit limit input) first h i)
+  all_front test (Over step input) first h = λ i. all_front test input first (omega (arith, h)) i && test (Over step input) (top_front (Over step input) first h i)
 
   pub entries_front : (tables : List TableRule) (plan : PlanTree) (first : ℕ) → first + node_count plan ≤ length ns → AreEntries tables plan first ns → AreEntries tables plan first (ns ++ more)
   entries_front tables plan first h e = record {
@@ -102,22 +77,12 @@ top_passes tables plan first node nodes entry kept more n t k m e = (λ i. entry
 abbrev pub child : PlanTree → PlanTree
 child (Scan table columns) = Scan table columns
 child (Join condition left right) = left
-child (Filter condition input) = input
-child (Map outputs input) = input
-child (Window w input) = input
-child (Group g input) = input
-child (Distinct input) = input
-child (Limit limit input) = input
+child (Over step input) = input
 
 abbrev pub is_over_one : PlanTree → Bool
 is_over_one (Scan table columns) = false
 is_over_one (Join condition left right) = false
-is_over_one (Filter condition input) = true
-is_over_one (Map outputs input) = true
-is_over_one (Window w input) = true
-is_over_one (Group g input) = true
-is_over_one (Distinct input) = true
-is_over_one (Limit limit input) = true
+is_over_one (Over step input) = true
 
 module _ (tables : List TableRule) (old : List NodeRecord) (r0 : List Reason) where
   pub scan_step : (table columns : ℕ) (new : List NodeRecord) (r1 : List Reason) (kept facts : List Fact) → kept ≡ [] → (more : List Fact) → more ≡ [] → IsTop tables (Scan table columns) kept more old new r0 r1 facts → IsAnalysed tables (Scan table columns) old new r0 r1 facts
@@ -143,8 +108,8 @@ module _ (tables : List TableRule) (old : List NodeRecord) (r0 : List Reason) wh
     pub one_step : (plan : PlanTree) → is_over_one plan ≡ true → more ≡ [] → IsAnalysed tables (child plan) old mid r0 r1 below → IsTop tables plan below more mid new r1 r2 facts → IsAnalysed tables plan old new r0 r2 facts
     one_step (Scan table columns) is no_more b t = absurd (false≢true is)
     one_step (Join condition left right) is no_more b t = absurd (false≢true is)
-    one_step (Filter condition input) is no_more b t =
-        let plan = Filter condition input in
+    one_step (Over (Filter condition) input) is no_more b t =
+        let plan = Over (Filter condition) input in
         let first = length old in
         let number : first + node_count input ≡ length mid = sym b.long in
         let top : top_at plan first new ≡ t.entry = ap (top_at plan first) t.is ∙ at_end mid t.entry (first + node_count input) number in
@@ -167,8 +132,8 @@ module _ (tables : List TableRule) (old : List NodeRecord) (r0 : List Reason) wh
                 },
               );
         }
-    one_step (Map outputs input) is no_more b t =
-        let plan = Map outputs input in
+    one_step (Over (Map outputs) input) is no_more b t =
+        let plan = Over (Map outputs) input in
         let first = length old in
         let number : first + node_count input ≡ length mid = sym b.long in
         let top : top_at plan first new ≡ t.entry = ap (top_at plan first) t.is ∙ at_end mid t.entry (first + node_count input) number in
@@ -191,8 +156,8 @@ module _ (tables : List TableRule) (old : List NodeRecord) (r0 : List Reason) wh
                 },
               );
         }
-    one_step (Window w input) is no_more b t =
-        let plan = Window w input in
+    one_step (Over (Window w) input) is no_more b t =
+        let plan = Over (Window w) input in
         let first = length old in
         let number : first + node_count input ≡ length mid = sym b.long in
         let top : top_at plan first new ≡ t.entry = ap (top_at plan first) t.is ∙ at_end mid t.entry (first + node_count input) number in
@@ -215,8 +180,8 @@ module _ (tables : List TableRule) (old : List NodeRecord) (r0 : List Reason) wh
                 },
               );
         }
-    one_step (Group g input) is no_more b t =
-        let plan = Group g input in
+    one_step (Over (Group g) input) is no_more b t =
+        let plan = Over (Group g) input in
         let first = length old in
         let number : first + node_count input ≡ length mid = sym b.long in
         let top : top_at plan first new ≡ t.entry = ap (top_at plan first) t.is ∙ at_end mid t.entry (first + node_count input) number in
@@ -239,8 +204,8 @@ module _ (tables : List TableRule) (old : List NodeRecord) (r0 : List Reason) wh
                 },
               );
         }
-    one_step (Distinct input) is no_more b t =
-        let plan = Distinct input in
+    one_step (Over Distinct input) is no_more b t =
+        let plan = Over Distinct input in
         let first = length old in
         let number : first + node_count input ≡ length mid = sym b.long in
         let top : top_at plan first new ≡ t.entry = ap (top_at plan first) t.is ∙ at_end mid t.entry (first + node_count input) number in
@@ -263,8 +228,8 @@ module _ (tables : List TableRule) (old : List NodeRecord) (r0 : List Reason) wh
                 },
               );
         }
-    one_step (Limit limit input) is no_more b t =
-        let plan = Limit limit input in
+    one_step (Over (Limit limit) input) is no_more b t =
+        let plan = Over (Limit limit) input in
         let first = length old in
         let number : first + node_count input ≡ length mid = sym b.long in
         let top : top_at plan first new ≡ t.entry = ap (top_at plan first) t.is ∙ at_end mid t.entry (first + node_count input) number in

@@ -31,11 +31,11 @@ use Rattle.wd_analyse.proofs.Traces.{each_reached, shown}
 
 among_itself : (X Y : List ℕ) → ((c : ℕ) → is_in X c ≡ true → is_in Y c ≡ true) → list_all (is_in Y) X ≡ true
 among_itself [] Y h = refl
-among_itself (c ∷ X) Y h = λ i. h c (ap (λ b. b || is_in X c) (eq-eqb c c refl)) i && among_itself X Y (λ d e. h d (behind (nat_eq d c) (is_in X d) e)) i
+among_itself (c ∷ X) Y h = λ i. h c (ap (λ b. b || is_in X c) (eq-eqb c c refl)) i && among_itself X Y (λ d e. h d (after (nat_eq d c) (is_in X d) e)) i
   where
-    behind : (a b : Bool) → b ≡ true → (a || b) ≡ true
-    behind true b e = refl
-    behind false b e = e
+    after : (a b : Bool) → b ≡ true → (a || b) ≡ true
+    after true b e = refl
+    after false b e = e
 
 pub all_among : (X : List ℕ) → list_all (is_in X) (once X) ≡ true
 all_among X = once_all (is_in X) X (among_itself X X (λ c e. e))

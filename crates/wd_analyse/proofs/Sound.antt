@@ -5,7 +5,7 @@ use Rattle.std.proofs.lemmas.List.{append-nil, length-append, length-map, map-ap
 use Rattle.wd_schema.specs.Tables.{TableRule}
 use Rattle.wd_plan.specs.Expressions.{Expression}
 use Rattle.wd_plan.specs.Fits.{width}
-use Rattle.wd_plan.specs.Plans.{LimitRule, PlanTree, Scan, Join, Filter, Map, Group, Window, Distinct, Limit}
+use Rattle.wd_plan.specs.Plans.{LimitRule, PlanTree, Scan, Join, Over, Filter, Map, Group, Window, Distinct, Limit}
 use Rattle.wd_certificate.specs.Certificates.{NodeRecord}
 use Rattle.wd_step_facts.specs.Facts.{Fact, FactList}
 use Rattle.wd_facts.specs.Given.{given}
@@ -45,33 +45,33 @@ module _ (facts : FactList) (node : ℕ) (f : Finding) (before : List Reason) wh
   bare : (plan : PlanTree) → is_without_rules plan ≡ true → AreClaims facts (width plan) f.claims → IsBare (width plan) f → IsFound facts plan node f.claims f.entry before (before ++ f.reasons)
   bare plan e c b = plain_found facts node f.claims f.entry before (before ++ f.reasons) plan e c (ap (λ l. before ++ l) b.reasons ∙ append-nil before) b.entry
 
-  module _ (limit : LimitRule) (input : PlanTree) (c : AreClaims facts (width (Limit limit input)) f.claims) where
+  module _ (limit : LimitRule) (input : PlanTree) (c : AreClaims facts (width (Over (Limit limit) input)) f.claims) where
     -- whose sort keys lack a column
-    of_lack : (column : ℕ) (b : Bool) → is_whole_or_ties limit ≡ b → before ++ f.reasons ≡ before ++ cond b [] (limit_reason node column ∷ []) → f.entry ≡ entry_by (width (Limit limit input)) f.claims [] [] None
-        → IsFound facts (Limit limit input) node f.claims f.entry before (before ++ f.reasons)
-    of_lack column true e r is = whole_found facts node f.claims f.entry before (before ++ f.reasons) limit input (Limit limit input) refl c e (r ∙ append-nil before) is
-    of_lack column false e r is = open_found facts node f.claims f.entry before (before ++ f.reasons) (Limit limit input) (limit_reason node column) r is
+    of_lack : (column : ℕ) (b : Bool) → is_whole_or_ties limit ≡ b → before ++ f.reasons ≡ before ++ cond b [] (limit_reason node column ∷ []) → f.entry ≡ entry_by (width (Over (Limit limit) input)) f.claims [] [] None
+        → IsFound facts (Over (Limit limit) input) node f.claims f.entry before (before ++ f.reasons)
+    of_lack column true e r is = whole_found facts node f.claims f.entry before (before ++ f.reasons) limit input (Over (Limit limit) input) refl c e (r ∙ append-nil before) is
+    of_lack column false e r is = open_found facts node f.claims f.entry before (before ++ f.reasons) (Over (Limit limit) input) (limit_reason node column) r is
 
-    of_limit : (h : IsOfLimit facts limit input node f) (o : Option ℕ) → lacking (width input) h.keys ≡ o → IsFound facts (Limit limit input) node f.claims f.entry before (before ++ f.reasons)
+    of_limit : (h : IsOfLimit facts limit input node f) (o : Option ℕ) → lacking (width input) h.keys ≡ o → IsFound facts (Over (Limit limit) input) node f.claims f.entry before (before ++ f.reasons)
     of_limit h None e =
-        keys_found facts node f.claims f.entry before (before ++ f.reasons) limit input (Limit limit input) h.keys refl c h.closing h.columns e
+        keys_found facts node f.claims f.entry before (before ++ f.reasons) limit input (Over (Limit limit) input) h.keys refl c h.closing h.columns e
         (ap (λ l. before ++ l) (h.reasons ∙ ap (reasons_by_keys node limit) e) ∙ append-nil before)
-        (h.entry ∙ ap (entry_by_keys (width (Limit limit input)) f.claims h.keys) e)
+        (h.entry ∙ ap (entry_by_keys (width (Over (Limit limit) input)) f.claims h.keys) e)
     of_limit h (Some d) e =
         of_lack d (is_whole_or_ties limit) refl
         (ap (λ l. before ++ l) (h.reasons ∙ ap (reasons_by_keys node limit) e))
-        (h.entry ∙ ap (entry_by_keys (width (Limit limit input)) f.claims h.keys) e)
+        (h.entry ∙ ap (entry_by_keys (width (Over (Limit limit) input)) f.claims h.keys) e)
 
   pub said_found : (plan : PlanTree) → AreClaims facts (width plan) f.claims → IsSaid facts plan node f → IsFound facts plan node f.claims f.entry before (before ++ f.reasons)
   said_found (Scan table columns) c s = bare (Scan table columns) refl c s
   said_found (Join condition left right) c s = bare (Join condition left right) refl c s
-  said_found (Filter condition input) c s = bare (Filter condition input) refl c s
-  said_found (Map outputs input) c s = bare (Map outputs input) refl c s
-  said_found (Window w input) c s =
-      window_found facts node f.claims f.entry before (before ++ f.reasons) w input s.classes (Window w input) refl c s.closings s.columns (ap (λ l. before ++ l) s.reasons) s.entry
-  said_found (Group g input) c s = bare (Group g input) refl c s
-  said_found (Distinct input) c s = bare (Distinct input) refl c s
-  said_found (Limit limit input) c s = of_limit limit input c s (lacking (width input) s.keys) refl
+  said_found (Over (Filter condition) input) c s = bare (Over (Filter condition) input) refl c s
+  said_found (Over (Map outputs) input) c s = bare (Over (Map outputs) input) refl c s
+  said_found (Over (Window w) input) c s =
+      window_found facts node f.claims f.entry before (before ++ f.reasons) w input s.classes (Over (Window w) input) refl c s.closings s.columns (ap (λ l. before ++ l) s.reasons) s.entry
+  said_found (Over (Group g) input) c s = bare (Over (Group g) input) refl c s
+  said_found (Over Distinct input) c s = bare (Over Distinct input) refl c s
+  said_found (Over (Limit limit) input) c s = of_limit limit input c s (lacking (width input) s.keys) refl
 
 module _ (tables : List TableRule) where
   pub finding_claims : (plan : PlanTree) (kept more : List Fact) (node : ℕ) (f : Finding) → AreOfChildren plan kept more → IsFinding tables plan kept more node f → AreClaims (given tables plan kept more) (width plan) f.claims
@@ -91,9 +91,9 @@ module _ (tables : List TableRule) where
   Analysed plan old r found = IsAnalysed tables plan old (old ++ entries_in (in_postorder found)) r (r ++ reasons_in (in_postorder found)) (facts_kept plan found.top)
 
   module _ (old : List NodeRecord) (r : List Reason) (before : List Finding) (top : Finding) where
-    -- behind the findings of the inputs
-    behind : (plan : PlanTree) (below : List Finding) → below ≡ before → IsAnalysed tables plan old ((old ++ entries_in before) ++ top.entry ∷ []) r ((r ++ reasons_in before) ++ top.reasons) (facts_kept plan top) → Analysed plan old r (record { below = below; top = top })
-    behind plan below is a =
+    -- after the findings of the inputs
+    after : (plan : PlanTree) (below : List Finding) → below ≡ before → IsAnalysed tables plan old ((old ++ entries_in before) ++ top.entry ∷ []) r ((r ++ reasons_in before) ++ top.reasons) (facts_kept plan top) → Analysed plan old r (record { below = below; top = top })
+    after plan below is a =
         subst (λ b. Analysed plan old r (record { below = b; top = top })) (sym is)
         (subst (λ n. IsAnalysed tables plan old n r (r ++ reasons_in (before ++ top ∷ [])) (facts_kept plan top)) (sym (entries_more old before top))
         (subst (λ m. IsAnalysed tables plan old ((old ++ entries_in before) ++ top.entry ∷ []) r m (facts_kept plan top)) (sym (reasons_more r before top)) a))
@@ -112,7 +112,7 @@ module _ (tables : List TableRule) where
       let top = found.top in
       let all = in_postorder inner in
       let kept = facts_kept input inner.top in
-      behind old r all top plan found.below o.before
+      after old r all top plan found.below o.before
       (one_found tables plan input kept [] kept old (old ++ entries_in all) ((old ++ entries_in all) ++ top.entry ∷ []) r (r ++ reasons_in all) ((r ++ reasons_in all) ++ top.reasons) (facts_kept plan top) is one refl refl a
       (top_is plan kept [] (length old + length all) top (old ++ entries_in all) (r ++ reasons_in all) (children kept a.plain) (sym (entries_long old all)) o.finding))
 
@@ -132,7 +132,7 @@ module _ (tables : List TableRule) where
       let r2 : r1 ++ reasons_in second ≡ r ++ reasons_in (first ++ second) = append_assoc r (reasons_in first) (reasons_in second) ∙ ap (λ l. r ++ l) (sym (flat_map-append (λ (f : Finding). f.reasons) first second)) in
       let c : IsAnalysed tables right mid (old ++ entries_in (first ++ second)) r1 (r ++ reasons_in (first ++ second)) more =
       subst (λ n. IsAnalysed tables right mid n r1 (r ++ reasons_in (first ++ second)) more) late (subst (λ m. IsAnalysed tables right mid (mid ++ entries_in second) r1 m more) r2 b) in
-      behind old r (first ++ second) top plan found.below o.before
+      after old r (first ++ second) top plan found.below o.before
       (both_found tables plan left right condition kept more kept more old mid (old ++ entries_in (first ++ second)) ((old ++ entries_in (first ++ second)) ++ top.entry ∷ []) r r1 (r ++ reasons_in (first ++ second)) ((r ++ reasons_in (first ++ second)) ++ top.reasons) (facts_kept plan top) refl refl refl a c
       (top_is plan kept more (length old + length (first ++ second)) top (old ++ entries_in (first ++ second)) (r ++ reasons_in (first ++ second)) (a.plain, b.plain) (sym (entries_long old (first ++ second))) o.finding))
 
@@ -142,9 +142,4 @@ module _ (tables : List TableRule) where
       let first = in_postorder a.0 in
       two_below old r found a.0 a.1 condition left right a.4 (are_analysed left old r a.0 a.2)
       (are_analysed right (old ++ entries_in first) (r ++ reasons_in first) a.1 (subst (λ n. AreFindings tables right n a.1) (sym (entries_long old first)) a.3))
-  are_analysed (Filter condition input) old r found a = one_below old r found a.0 (Filter condition input) input refl refl (λ kept p. p) a.2 (are_analysed input old r a.0 a.1)
-  are_analysed (Map outputs input) old r found a = one_below old r found a.0 (Map outputs input) input refl refl (λ kept p. p) a.2 (are_analysed input old r a.0 a.1)
-  are_analysed (Window w input) old r found a = one_below old r found a.0 (Window w input) input refl refl (λ kept p. p) a.2 (are_analysed input old r a.0 a.1)
-  are_analysed (Group g input) old r found a = one_below old r found a.0 (Group g input) input refl refl (λ kept p. p) a.2 (are_analysed input old r a.0 a.1)
-  are_analysed (Distinct input) old r found a = one_below old r found a.0 (Distinct input) input refl refl (λ kept p. p) a.2 (are_analysed input old r a.0 a.1)
-  are_analysed (Limit limit input) old r found a = one_below old r found a.0 (Limit limit input) input refl refl (λ kept p. p) a.2 (are_analysed input old r a.0 a.1)
+  are_analysed (Over step input) old r found a = one_below old r found a.0 (Over step input) input refl refl (λ kept p. p) a.2 (are_analysed input old r a.0 a.1)

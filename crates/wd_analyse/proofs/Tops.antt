@@ -1,8 +1,8 @@
--- A node's entry behind those of its inputs, and the entries of a whole plan.
+-- A node's entry after those of its inputs, and the entries of a whole plan.
 use Rattle.std.proofs.Common.{◌≡◌, ℕ, ◌≤◌, Bool, true, false, not, cond, List, [], ◌∷◌, ◌++◌, length, map, refl, sym, ◌∙◌, ap, arith, subst, eq-eqb, nat_eq}
 use Rattle.wd_schema.specs.Tables.{TableRule}
 use Rattle.wd_plan.specs.Fits.{fits, width}
-use Rattle.wd_plan.specs.Plans.{PlanTree, Scan, Join, Filter, Map, Group, Window, Distinct, Limit, node_count}
+use Rattle.wd_plan.specs.Plans.{Filter, Map, Group, Window, Distinct, Limit, PlanTree, Scan, Join, Over, node_count}
 use Rattle.wd_certificate.specs.Certificates.{NodeRecord, node_of}
 use Rattle.wd_certificate.specs.declared.certificate.Node.{Node}
 use Rattle.wd_certificate.specs.declared.certificate.Version.TheVariants.{One, Two}
@@ -25,12 +25,12 @@ use Rattle.wd_analyse.proofs.Named.{given_named, given_split}
 given_wide : (tables : List TableRule) (plan : PlanTree) (kept more : List Fact) → width plan ≤ (given tables plan kept more).columns
 given_wide tables (Scan table columns) kept more = omega arith
 given_wide tables (Join condition left right) kept more = omega arith
-given_wide tables (Filter condition input) kept more = omega arith
-given_wide tables (Map outputs input) kept more = omega arith
-given_wide tables (Window w input) kept more = omega arith
-given_wide tables (Group g input) kept more = omega arith
-given_wide tables (Distinct input) kept more = omega arith
-given_wide tables (Limit limit input) kept more = omega arith
+given_wide tables (Over (Filter condition) input) kept more = omega arith
+given_wide tables (Over (Map outputs) input) kept more = omega arith
+given_wide tables (Over (Window w) input) kept more = omega arith
+given_wide tables (Over (Group g) input) kept more = omega arith
+given_wide tables (Over Distinct input) kept more = omega arith
+given_wide tables (Over (Limit limit) input) kept more = omega arith
 
 pub given_admits : (tables : List TableRule) (plan : PlanTree) (kept more : List Fact) (facts : FactList) → facts ≡ given tables plan kept more → fits tables plan ≡ true → AreOfChildren plan kept more → Admits facts (width plan)
 given_admits tables plan kept more facts is f h =

@@ -5,7 +5,7 @@ use Rattle.std.proofs.lemmas.Bool.{ltb-false, ltb-true}
 use Rattle.std.proofs.lemmas.List.{length-map, map-append, nil_from_length}
 use Rattle.wd_schema.specs.Tables.{TableRule}
 use Rattle.wd_plan.specs.Fits.{width}
-use Rattle.wd_plan.specs.Plans.{LimitRule, PlanTree, WindowRule, Scan, Join, Filter, Map, Group, Window, Distinct, Limit}
+use Rattle.wd_plan.specs.Plans.{LimitRule, PlanTree, WindowRule, Scan, Join, Over, Filter, Map, Group, Window, Distinct, Limit}
 use Rattle.wd_plan.specs.declared.window.Call.{Call}
 use Rattle.wd_certificate.specs.declared.certificate.Rule.{Rule}
 use Rattle.wd_step_facts.specs.declared.facts.Member.{Member}
@@ -166,8 +166,8 @@ module _ (facts : FactList) (node : ℕ) (f g : Finding) (claims : map bare f.cl
       let classes = closings_same facts p.classes q.classes p.closings q.closings (p.columns ∙ sym q.columns) in
       let decided : decided_at w input f.claims p.classes ≡ decided_at w input g.claims q.classes = decided_same p.classes q.classes (length f.claims) (length g.claims) (width input) w.calls classes (same_long f.claims g.claims claims) in
       let entry = ap entry_without_uses p.entry
-      ∙ ap (λ ds. entry_without_uses (entry_by (width (Window w input)) f.claims p.classes (rules_in ds) None)) decided
-      ∙ entry_same (width (Window w input)) f.claims g.claims p.classes q.classes (rules_in (decided_at w input g.claims q.classes)) None claims classes
+      ∙ ap (λ ds. entry_without_uses (entry_by (width (Over (Window w) input)) f.claims p.classes (rules_in ds) None)) decided
+      ∙ entry_same (width (Over (Window w) input)) f.claims g.claims p.classes q.classes (rules_in (decided_at w input g.claims q.classes)) None claims classes
       ∙ ap entry_without_uses (sym q.entry) in
       λ i. record { claims = claims i; entry = entry i; reasons = (p.reasons ∙ ap (reasons_of node 0) decided ∙ sym q.reasons) i; marks = (p.marks ∙ ap (marks_of node 0) decided ∙ sym q.marks) i }
 
@@ -177,25 +177,25 @@ module _ (facts : FactList) (node : ℕ) (f g : Finding) (claims : map bare f.cl
       let lack : lacking (width input) p.keys ≡ lacking (width input) q.keys = ap (lacking (width input)) keys in
       let entry = ap entry_without_uses p.entry
       ∙ by keys (lacking (width input) p.keys)
-      ∙ ap (λ o. entry_without_uses (entry_by_keys (width (Limit limit input)) g.claims q.keys o)) lack
+      ∙ ap (λ o. entry_without_uses (entry_by_keys (width (Over (Limit limit) input)) g.claims q.keys o)) lack
       ∙ ap entry_without_uses (sym q.entry) in
       λ i. record { claims = claims i; entry = entry i; reasons = (p.reasons ∙ ap (reasons_by_keys node limit) lack ∙ sym q.reasons) i; marks = (p.marks ∙ ap (marks_by_keys node limit) lack ∙ sym q.marks) i }
     where
-      by : bare p.keys ≡ bare q.keys → (o : Option ℕ) → entry_without_uses (entry_by_keys (width (Limit limit input)) f.claims p.keys o) ≡ entry_without_uses (entry_by_keys (width (Limit limit input)) g.claims q.keys o)
+      by : bare p.keys ≡ bare q.keys → (o : Option ℕ) → entry_without_uses (entry_by_keys (width (Over (Limit limit) input)) f.claims p.keys o) ≡ entry_without_uses (entry_by_keys (width (Over (Limit limit) input)) g.claims q.keys o)
       by keys None =
-          ap (λ n. entry_without_uses (entry_by (width (Limit limit input)) f.claims (p.keys ∷ []) [] (Some n))) (same_long f.claims g.claims claims)
-          ∙ entry_same (width (Limit limit input)) f.claims g.claims (p.keys ∷ []) (q.keys ∷ []) [] (Some (length g.claims)) claims (ap (λ c. c ∷ []) keys)
-      by keys (Some d) = entry_same (width (Limit limit input)) f.claims g.claims [] [] [] None claims refl
+          ap (λ n. entry_without_uses (entry_by (width (Over (Limit limit) input)) f.claims (p.keys ∷ []) [] (Some n))) (same_long f.claims g.claims claims)
+          ∙ entry_same (width (Over (Limit limit) input)) f.claims g.claims (p.keys ∷ []) (q.keys ∷ []) [] (Some (length g.claims)) claims (ap (λ c. c ∷ []) keys)
+      by keys (Some d) = entry_same (width (Over (Limit limit) input)) f.claims g.claims [] [] [] None claims refl
 
   said_same : (plan : PlanTree) → IsSaid facts plan node f → IsSaid facts plan node g → told f ≡ told g
   said_same (Scan table columns) p q = bare_same (width (Scan table columns)) p q
   said_same (Join condition left right) p q = bare_same (width (Join condition left right)) p q
-  said_same (Filter condition input) p q = bare_same (width (Filter condition input)) p q
-  said_same (Map outputs input) p q = bare_same (width (Map outputs input)) p q
-  said_same (Window w input) p q = window_same w input p q
-  said_same (Group g input) p q = bare_same (width (Group g input)) p q
-  said_same (Distinct input) p q = bare_same (width (Distinct input)) p q
-  said_same (Limit limit input) p q = limit_same limit input p q
+  said_same (Over (Filter condition) input) p q = bare_same (width (Over (Filter condition) input)) p q
+  said_same (Over (Map outputs) input) p q = bare_same (width (Over (Map outputs) input)) p q
+  said_same (Over (Window w) input) p q = window_same w input p q
+  said_same (Over (Group g) input) p q = bare_same (width (Over (Group g) input)) p q
+  said_same (Over Distinct input) p q = bare_same (width (Over Distinct input)) p q
+  said_same (Over (Limit limit) input) p q = limit_same limit input p q
 
 -- ---- a plan
 
@@ -248,12 +248,7 @@ module _ (tables : List TableRule) where
       let all = map-append told (in_postorder a.0) (in_postorder a.1) ∙ (λ i. front i ++ back i) ∙ sym (map-append told (in_postorder b.0) (in_postorder b.1)) in
       over_same (Join condition left right) first (in_postorder a.0 ++ in_postorder a.1) (in_postorder b.0 ++ in_postorder b.1) (facts_kept left a.0.top) (facts_kept right a.1.top) (facts_kept left b.0.top) (facts_kept right b.1.top) f g
       all (told_facts left a.0.top b.0.top under.1) (told_facts right a.1.top b.1.top beside.1) a.4 b.4
-  are_same (Filter condition input) first f g a b = over_one (Filter condition input) input first a.0 b.0 f g (are_same input first a.0 b.0 a.1 b.1) a.2 b.2
-  are_same (Map outputs input) first f g a b = over_one (Map outputs input) input first a.0 b.0 f g (are_same input first a.0 b.0 a.1 b.1) a.2 b.2
-  are_same (Window w input) first f g a b = over_one (Window w input) input first a.0 b.0 f g (are_same input first a.0 b.0 a.1 b.1) a.2 b.2
-  are_same (Group rule input) first f g a b = over_one (Group rule input) input first a.0 b.0 f g (are_same input first a.0 b.0 a.1 b.1) a.2 b.2
-  are_same (Distinct input) first f g a b = over_one (Distinct input) input first a.0 b.0 f g (are_same input first a.0 b.0 a.1 b.1) a.2 b.2
-  are_same (Limit limit input) first f g a b = over_one (Limit limit input) input first a.0 b.0 f g (are_same input first a.0 b.0 a.1 b.1) a.2 b.2
+  are_same (Over step input) first f g a b = over_one (Over step input) input first a.0 b.0 f g (are_same input first a.0 b.0 a.1 b.1) a.2 b.2
 
 -- ---- answers
 

@@ -3,7 +3,7 @@ use Rattle.std.specs.Prelude.{◌≡◌, ℕ, ◌+◌, List, [], ◌∷◌, ◌+
 use Rattle.wd_value.specs.Keys.{key_columns}
 use Rattle.wd_schema.specs.Tables.{TableRule}
 use Rattle.wd_plan.specs.Fits.{width}
-use Rattle.wd_plan.specs.Plans.{LimitRule, PlanTree, WindowRule, Scan, Join, Filter, Map, Group, Window, Distinct, Limit}
+use Rattle.wd_plan.specs.Plans.{LimitRule, PlanTree, WindowRule, Scan, Join, Over, Window, Limit}
 use Rattle.wd_plan.specs.Sorting.{class_columns}
 use Rattle.wd_certificate.specs.Certificates.{NodeRecord}
 use Rattle.wd_certificate.specs.declared.certificate.Rule.{Rule}
@@ -79,7 +79,7 @@ pub record IsOfWindow (facts : FactList) (w : WindowRule) (input : PlanTree) (no
   pub classes : List Closing
   pub closings : AreClosings facts classes
   pub columns : starts classes ≡ map class_columns w.classes
-  pub entry : f.entry ≡ entry_by (width (Window w input)) f.claims classes (rules_in (decided_at w input f.claims classes)) None
+  pub entry : f.entry ≡ entry_by (width (Over (Window w) input)) f.claims classes (rules_in (decided_at w input f.claims classes)) None
   pub reasons : f.reasons ≡ reasons_of node 0 (decided_at w input f.claims classes)
   pub marks : f.marks ≡ marks_of node 0 (decided_at w input f.claims classes)
 
@@ -110,20 +110,15 @@ pub record IsOfLimit (facts : FactList) (limit : LimitRule) (input : PlanTree) (
   pub keys : Closing
   pub closing : IsClosing facts keys
   pub columns : keys.from ≡ key_columns limit.keys
-  pub entry : f.entry ≡ entry_by_keys (width (Limit limit input)) f.claims keys (lacking (width input) keys)
+  pub entry : f.entry ≡ entry_by_keys (width (Over (Limit limit) input)) f.claims keys (lacking (width input) keys)
   pub reasons : f.reasons ≡ reasons_by_keys node limit (lacking (width input) keys)
   pub marks : f.marks ≡ marks_by_keys node limit (lacking (width input) keys)
 
 -- the entry, the reasons and the marks of a plan's top node, which has this number and these given facts, by what it keeps
 abbrev pub IsSaid : FactList → PlanTree → ℕ → Finding → Type 0
-IsSaid facts (Scan table columns) node f = IsBare (width (Scan table columns)) f
-IsSaid facts (Join condition left right) node f = IsBare (width (Join condition left right)) f
-IsSaid facts (Filter condition input) node f = IsBare (width (Filter condition input)) f
-IsSaid facts (Map outputs input) node f = IsBare (width (Map outputs input)) f
-IsSaid facts (Window w input) node f = IsOfWindow facts w input node f
-IsSaid facts (Group g input) node f = IsBare (width (Group g input)) f
-IsSaid facts (Distinct input) node f = IsBare (width (Distinct input)) f
-IsSaid facts (Limit limit input) node f = IsOfLimit facts limit input node f
+IsSaid facts (Over (Window w) input) node f = IsOfWindow facts w input node f
+IsSaid facts (Over (Limit limit) input) node f = IsOfLimit facts limit input node f
+IsSaid facts plan node f = IsBare (width plan) f
 
 -- what is found at a plan's top node, whose children keep these
 pub record IsFinding (tables : List TableRule) (plan : PlanTree) (kept more : List Fact) (node : ℕ) (f : Finding) : Type 0 where
@@ -157,18 +152,8 @@ AreFindings tables (Join condition left right) first found =
     × AreFindings tables left first on_left
     × AreFindings tables right (first + length (in_postorder on_left)) on_right
     × IsFoundOver tables (Join condition left right) first (in_postorder on_left ++ in_postorder on_right) (facts_kept left on_left.top) (facts_kept right on_right.top) found
-AreFindings tables (Filter condition input) first found =
-    (inner : PlanFindings) × AreFindings tables input first inner × IsFoundOver tables (Filter condition input) first (in_postorder inner) (facts_kept input inner.top) [] found
-AreFindings tables (Map outputs input) first found =
-    (inner : PlanFindings) × AreFindings tables input first inner × IsFoundOver tables (Map outputs input) first (in_postorder inner) (facts_kept input inner.top) [] found
-AreFindings tables (Window w input) first found =
-    (inner : PlanFindings) × AreFindings tables input first inner × IsFoundOver tables (Window w input) first (in_postorder inner) (facts_kept input inner.top) [] found
-AreFindings tables (Group g input) first found =
-    (inner : PlanFindings) × AreFindings tables input first inner × IsFoundOver tables (Group g input) first (in_postorder inner) (facts_kept input inner.top) [] found
-AreFindings tables (Distinct input) first found =
-    (inner : PlanFindings) × AreFindings tables input first inner × IsFoundOver tables (Distinct input) first (in_postorder inner) (facts_kept input inner.top) [] found
-AreFindings tables (Limit limit input) first found =
-    (inner : PlanFindings) × AreFindings tables input first inner × IsFoundOver tables (Limit limit input) first (in_postorder inner) (facts_kept input inner.top) [] found
+AreFindings tables (Over step input) first found =
+    (inner : PlanFindings) × AreFindings tables input first inner × IsFoundOver tables (Over step input) first (in_postorder inner) (facts_kept input inner.top) [] found
 
 abbrev pub entries_in : List Finding → List NodeRecord
 entries_in fs = map (λ (f : Finding). f.entry) fs

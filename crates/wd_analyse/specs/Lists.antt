@@ -3,7 +3,7 @@ use Rattle.std.specs.Prelude.{◌≡◌, ℕ, true, not, List, [], Option, None,
 use Rattle.wd_value.specs.Keys.{key_columns}
 use Rattle.wd_schema.specs.Tables.{TableRule}
 use Rattle.wd_plan.specs.Fits.{width}
-use Rattle.wd_plan.specs.Plans.{LimitRule, PlanTree, Map, Limit}
+use Rattle.wd_plan.specs.Plans.{LimitRule, PlanTree, Over, Map, Limit}
 use Rattle.wd_certificate.specs.Certificates.{nodes_of}
 use Rattle.wd_certificate.specs.declared.certificate.Certificate.{Certificate}
 use Rattle.wd_facts.specs.Given.{given}
@@ -18,14 +18,14 @@ pub record IsLackOf (tables : List TableRule) (limit : LimitRule) (input : PlanT
   pub found : PlanFindings
   pub are : AreFindings tables input 0 found
   pub keys : Closing
-  pub closing : IsClosing (given tables (Limit limit input) (facts_kept input found.top) []) keys
+  pub closing : IsClosing (given tables (Over (Limit limit) input) (facts_kept input found.top) []) keys
   pub columns : keys.from ≡ key_columns limit.keys
   pub is : lacking (width input) keys ≡ lack
 
 -- what the sort keys of a plan's last Limit lack, the Limit that `final_limit` numbers; none where there is no such Limit
 abbrev pub IsLack : List TableRule → PlanTree → Option ℕ → Type 0
-IsLack tables (Map outputs input) lack = IsLack tables input lack
-IsLack tables (Limit limit input) lack = IsLackOf tables limit input lack
+IsLack tables (Over (Map outputs) input) lack = IsLack tables input lack
+IsLack tables (Over (Limit limit) input) lack = IsLackOf tables limit input lack
 IsLack tables plan lack = lack ≡ None
 
 -- `keys` comes first: by the certificate of an analysis the last Limit goes by `keys` exactly where its sort keys lack no column

@@ -3,7 +3,7 @@ use Rattle.std.specs.Prelude.{◌≡◌, List, true, ⊤}
 use Rattle.std.specs.List.{AllByRecursion}
 use Rattle.wd_schema.specs.Tables.{TableRule}
 use Rattle.wd_plan.specs.Fits.{fits}
-use Rattle.wd_plan.specs.Plans.{PlanTree, Scan, Join, Filter, Map, Window, Distinct, Group, Limit}
+use Rattle.wd_plan.specs.Plans.{PlanTree, Scan, Join, Over, Window, Limit}
 use Rattle.wd_plan.specs.Settled.{is_by_peers}
 use Rattle.wd_plan.specs.declared.window.Call.{Call}
 use Rattle.wd_rules.specs.Rules.{is_whole_or_ties}
@@ -15,12 +15,9 @@ use Rattle.wd_analyse.specs.declared.analysis.Analysis.TheVariants.{Certified, O
 abbrev pub GoByPeers : PlanTree → Type 0
 GoByPeers (Scan table columns) = ⊤
 GoByPeers (Join condition left right) = GoByPeers left × GoByPeers right
-GoByPeers (Filter condition input) = GoByPeers input
-GoByPeers (Map outputs input) = GoByPeers input
-GoByPeers (Window w input) = GoByPeers input × AllByRecursion (λ (call : Call). is_by_peers call.frame call.function ≡ true) w.calls
-GoByPeers (Distinct input) = GoByPeers input
-GoByPeers (Group g input) = GoByPeers input
-GoByPeers (Limit limit input) = GoByPeers input × (is_whole_or_ties limit ≡ true)
+GoByPeers (Over (Window w) input) = GoByPeers input × AllByRecursion (λ (call : Call). is_by_peers call.frame call.function ≡ true) w.calls
+GoByPeers (Over (Limit limit) input) = GoByPeers input × (is_whole_or_ties limit ≡ true)
+GoByPeers (Over step input) = GoByPeers input
 
 abbrev pub IsCertified : Analysis → Type 0
 IsCertified (Certified certificate) = ⊤

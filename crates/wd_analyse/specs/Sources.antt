@@ -3,7 +3,7 @@ use Rattle.std.specs.Prelude.{◌≡◌, ℕ, ◌+◌, ◌-◌, ◌<◌, ◌≤�
 use Rattle.std.specs.List.{AllByRecursion, list_all, list_any}
 use Rattle.wd_plan.specs.Expressions.{Expression}
 use Rattle.wd_plan.specs.Fits.{width}
-use Rattle.wd_plan.specs.Plans.{PlanTree, Scan, Join, Filter, Map, Group, Window, Distinct, Limit}
+use Rattle.wd_plan.specs.Plans.{PlanTree, Join, Over, Map}
 use Rattle.wd_step_facts.specs.declared.facts.Member.{Member}
 use Rattle.wd_step_facts.specs.declared.facts.Member.TheVariants.{Column, Left, Right, Row}
 use Rattle.wd_step_facts.specs.Facts.{Fact, FactList}
@@ -52,25 +52,13 @@ abbrev pub unions : List Fact → ℕ → List Fact → List (List ℕ)
 unions kept by more = flat_map (λ (fact : Fact). unions_with (columns_in fact.from) by more) kept
 
 abbrev pub unions_at : PlanTree → List Fact → List Fact → List (List ℕ)
-unions_at (Scan table columns) kept more = []
 unions_at (Join condition left right) kept more = unions kept (width left) more
-unions_at (Filter condition input) kept more = []
-unions_at (Map outputs input) kept more = []
-unions_at (Window w input) kept more = []
-unions_at (Group g input) kept more = []
-unions_at (Distinct input) kept more = []
-unions_at (Limit limit input) kept more = []
+unions_at plan kept more = []
 
 -- the outputs of a Map; none at another node
 abbrev pub outputs_in : PlanTree → List Expression
-outputs_in (Scan table columns) = []
-outputs_in (Join condition left right) = []
-outputs_in (Filter condition input) = []
-outputs_in (Map outputs input) = outputs
-outputs_in (Window w input) = []
-outputs_in (Group g input) = []
-outputs_in (Distinct input) = []
-outputs_in (Limit limit input) = []
+outputs_in (Over (Map outputs) input) = outputs
+outputs_in plan = []
 
 -- what is tried at a plan's top node with these given facts, whose children keep these: the left sides, nothing, and at a Join
 -- the unions

@@ -4,7 +4,7 @@ use Rattle.std.specs.HashMap as maps
 use Rattle.std.specs.List.{list_all}
 use Rattle.wd_schema.specs.Tables.{TableRule}
 use Rattle.wd_plan.specs.Fits.{width}
-use Rattle.wd_plan.specs.Plans.{PlanTree, Scan, Join, Filter, Map, Group, Window, Distinct, Limit}
+use Rattle.wd_plan.specs.Plans.{PlanTree, Over, Window, Limit}
 use Rattle.wd_certificate.specs.Certificates.{NodeRecord, node_of}
 use Rattle.wd_step_facts.specs.Facts.{Fact, FactList}
 use Rattle.wd_step_facts.specs.Steps.{both_copied, if_copied}
@@ -85,14 +85,9 @@ Tries facts width X tried claims new_tried new_claims = (before : List (List ℕ
 
 -- neither a Window nor a Limit
 abbrev pub is_without_rules : PlanTree → Bool
-is_without_rules (Scan table columns) = true
-is_without_rules (Join condition left right) = true
-is_without_rules (Filter condition input) = true
-is_without_rules (Map outputs input) = true
-is_without_rules (Window w input) = false
-is_without_rules (Group g input) = true
-is_without_rules (Distinct input) = true
-is_without_rules (Limit limit input) = false
+is_without_rules (Over (Window w) input) = false
+is_without_rules (Over (Limit limit) input) = false
+is_without_rules plan = true
 
 -- the reasons and marks so far
 pub record Told : Type 0 where

@@ -180,7 +180,7 @@ fn window_entry(
     window: &Window,
     findings: &mut Findings,
 ) -> Result<Node, OutOfMemory>
-    requires is { plan_of plan.now ≡ plans.Window (window_of window.now) (plan_of input.now) }
+    requires is { plan_of plan.now ≡ plans.Over (plans.Window (window_of window.now)) (plan_of input.now) }
     requires fits { fitting.fits (schema_of schema.now) (plan_of plan.now) ≡ true }
     requires admits { Admits here.now.facts (fitting.width (plan_of plan.now)) }
     requires few { length here.now.claims.items ≤ 64 }
@@ -306,7 +306,7 @@ fn limit_entry(
     limit: &Limit,
     findings: &mut Findings,
 ) -> Result<Node, OutOfMemory>
-    requires is { plan_of plan.now ≡ plans.Limit (limit_of limit.now) (plan_of input.now) }
+    requires is { plan_of plan.now ≡ plans.Over (plans.Limit (limit_of limit.now)) (plan_of input.now) }
     requires fits { fitting.fits (schema_of schema.now) (plan_of plan.now) ≡ true }
     requires admits { Admits here.now.facts (fitting.width (plan_of plan.now)) }
     requires few { length here.now.claims.items ≤ 64 }

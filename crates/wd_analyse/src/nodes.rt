@@ -137,7 +137,7 @@ fn limit_lack(
     limit: &Limit,
     schema: &Schema,
 ) -> Result<Option<u16>, OutOfMemory>
-    requires is { plan_of plan.now ≡ plans.Limit (limit_of limit.now) (plan_of input.now) }
+    requires is { plan_of plan.now ≡ plans.Over (plans.Limit (limit_of limit.now)) (plan_of input.now) }
     requires fits { fits (schema_of schema.now) (plan_of plan.now) ≡ true }
     ensures { IfOk result (IsLackOf (schema_of schema.now) (limit_of limit.now) (plan_of input.now)) }
 {

@@ -5,7 +5,7 @@ use Rattle.wd_baseline.specs.declared.known.Finding.TheVariants.{Depends, MayTie
 use Rattle.wd_baseline.specs.Findings.{FindingRecord, finding_json, word}
 use Rattle.wd_baseline.specs.Laws.{HasOneList}
 use Rattle.wd_json.specs.Json.{IsJsonOf}
-use Rattle.wd_json_lines.specs.Lines.{behind_line}
+use Rattle.wd_json_lines.specs.Lines.{after_line}
 use Rattle.wd_json_lines.proofs.Reading.{one_list_by, same_json}
 
 first : (a b : List ℕ) → a ≡ b → get_or a 0 0 ≡ get_or b 0 0
@@ -34,4 +34,4 @@ one_line : (f g : FindingRecord) (line : List ℕ) → IsJsonOf (finding_json f)
 one_line f g line h k = one_finding f g (same_json (finding_json f) (finding_json g) line h k)
 
 pub one_list : HasOneList
-one_list bytes fs gs h k = one_list_by finding_json one_line (behind_line bytes) fs gs h.findings k.findings
+one_list bytes fs gs h k = one_list_by finding_json one_line (after_line bytes) fs gs h.findings k.findings

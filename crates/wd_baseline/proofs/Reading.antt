@@ -8,7 +8,7 @@ use Rattle.wd_json.specs.declared.misread.Misread.{Misread}
 use Rattle.wd_json.specs.declared.misread.Misread.TheVariants as misread
 use Rattle.wd_baseline.specs.declared.error.BaselineError.{BaselineError}
 use Rattle.wd_baseline.specs.Findings.{FindingRecord, finding_json, finding_text}
-use Rattle.wd_json_lines.specs.Lines.{first_line, behind_line}
+use Rattle.wd_json_lines.specs.Lines.{first_line, after_line}
 use Rattle.wd_json_lines.proofs.Reading as generic
 use Rattle.wd_baseline.specs.Lines.{AreFindings}
 use Rattle.wd_baseline.specs.Refusals.{refusal_at, HasCause, HasLineCause}
@@ -37,10 +37,10 @@ abbrev pub IsLineOf : List ℕ → String Global → Type 0
 IsLineOf line text = (f : FindingRecord) × IsJsonOf (finding_json f) line × (string_bytes text ≡ finding_text f)
 
 pub one_more : (bytes rest after : List ℕ) (found later : List (String Global)) (text : String Global) → AreReadUpTo bytes rest found → (length rest ≡ 0 → ⊥) → IsLineOf (first_line rest) text
-    → later ≡ found ++ text ∷ [] → after ≡ behind_line rest → AreReadUpTo bytes after later
-one_more bytes rest after found later text h some (f, json, is) e behind = record {
+    → later ≡ found ++ text ∷ [] → after ≡ after_line rest → AreReadUpTo bytes after later
+one_more bytes rest after found later text h some (f, json, is) e following = record {
   read = h.read ++ f ∷ [];
-  lines = generic.one_more finding_json bytes rest after h.read (h.read ++ f ∷ []) f h.lines some json refl behind;
+  lines = generic.one_more finding_json bytes rest after h.read (h.read ++ f ∷ []) f h.lines some json refl following;
   texts = ap (map string_bytes) e ∙ map_push string_bytes found text ∙ ap₂ (λ l x. l ++ x ∷ []) h.texts is ∙ sym (map_push finding_text h.read f);
 }
 
@@ -56,7 +56,7 @@ refused bytes rest found misread.Shape number h some none e =
 
 -- ---- the whole file
 
-pub line_cause : (e : BaselineError) (bytes : List ℕ) → IsVersionLine (first_line bytes) → HasLineCause e (behind_line bytes) → HasCause e bytes
+pub line_cause : (e : BaselineError) (bytes : List ℕ) → IsVersionLine (first_line bytes) → HasLineCause e (after_line bytes) → HasCause e bytes
 line_cause error.Version bytes v h = absurd h
 line_cause (error.Line number) bytes v h = (v, h)
 line_cause error.OutOfMemory bytes v h = tt
@@ -67,7 +67,7 @@ version_cause (error.Line number) bytes h = absurd h
 version_cause error.OutOfMemory bytes h = tt
 
 -- a baseline that counts the lines of the findings which bytes spell
-pub is_of : (bytes : List ℕ) (baseline : Baseline) (lines : List (String Global)) → IsVersionLine (first_line bytes) → (fs : List FindingRecord) × AreFindings fs (behind_line bytes) × (map string_bytes lines ≡ map finding_text fs)
+pub is_of : (bytes : List ℕ) (baseline : Baseline) (lines : List (String Global)) → IsVersionLine (first_line bytes) → (fs : List FindingRecord) × AreFindings fs (after_line bytes) × (map string_bytes lines ≡ map finding_text fs)
     → ((line : List ℕ) → count_of baseline line ≡ count_by (λ s. bytes_eq (string_bytes s) line) lines) → left_of baseline ≡ length lines → IsBaselineOf bytes baseline
 is_of bytes baseline lines version (fs, are, texts) counted left = record {
   findings = fs;

@@ -11,7 +11,7 @@ use Rattle.wd_baseline.specs.declared.error.BaselineError.TheVariants as error
 use Rattle.wd_baseline.specs.Baselines.{IsBaselineOf, IsWritten, Spells, count_of}
 use Rattle.wd_baseline.specs.Findings.{FindingRecord, finding_json, finding_text}
 use Rattle.wd_baseline.specs.Laws.{AreLinesOf, IsFindingLine}
-use Rattle.wd_json_lines.specs.Lines.{behind_line}
+use Rattle.wd_json_lines.specs.Lines.{after_line}
 use Rattle.wd_json_lines.proofs.Reading.{no_failure}
 use Rattle.wd_baseline.specs.Refusals.{HasCause}
 use Rattle.wd_baseline.proofs.Counting.{same_counts}
@@ -54,7 +54,7 @@ same_counted lines bytes b all is h line =
 
 no_cause : (bytes : List ℕ) (fs : List FindingRecord) (e : BaselineError) → Spells bytes fs → HasCause e bytes → e ≡ error.OutOfMemory
 no_cause bytes fs error.Version h cause = absurd (cause h.version)
-no_cause bytes fs (error.Line number) h cause = absurd (no_failure finding_json (behind_line bytes) fs cause.1.0 h.findings cause.1.1)
+no_cause bytes fs (error.Line number) h cause = absurd (no_failure finding_json (after_line bytes) fs cause.1.0 h.findings cause.1.1)
 no_cause bytes fs error.OutOfMemory h cause = refl
 
 pub not_refused : (lines : List (String Global)) (bytes : List ℕ) (e : BaselineError) → All IsFindingLine lines → IsWritten lines bytes → HasCause e bytes → e ≡ error.OutOfMemory

@@ -12,7 +12,7 @@ use Rattle.wd_baseline.specs.Baselines.{Spells, baseline_text, with_feed}
 use Rattle.wd_baseline.specs.Findings.{FindingRecord, finding_json, version_json}
 use Rattle.wd_baseline.specs.Laws.{AreLinesOf, IsReadBack}
 use Rattle.wd_json_lines.specs.Lines.{lines_text}
-use Rattle.wd_json_lines.proofs.Texts.{AreSpelled, are_lines, behind_text, first_of_text}
+use Rattle.wd_json_lines.proofs.Texts.{AreSpelled, are_lines, after_text, first_of_text}
 use Rattle.wd_baseline.specs.Lines.{AreFindings}
 
 -- ---- all lines
@@ -58,5 +58,5 @@ read_back lines fs h =
     let whole : codes "{\"version\":1}" ++ 10 ∷ rest ≡ baseline_text lines = sym (append_assoc (codes "{\"version\":1}") (10 ∷ []) rest) in
     subst (λ bytes. Spells bytes fs) whole (record {
       version = subst (IsJsonOf version_json) (sym (first_of_text (codes "{\"version\":1}") rest refl)) version_read;
-      findings = subst (AreFindings fs) (sym (behind_text (codes "{\"version\":1}") rest refl)) (are_findings lines fs h);
+      findings = subst (AreFindings fs) (sym (after_text (codes "{\"version\":1}") rest refl)) (are_findings lines fs h);
     })

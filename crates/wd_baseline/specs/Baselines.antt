@@ -11,7 +11,7 @@ use Rattle.wd_baseline.specs.declared.error.BaselineError.{BaselineError}
 use Rattle.wd_baseline.specs.declared.error.BaselineError.TheVariants as error
 use Rattle.wd_baseline.specs.Counts.{count_in}
 use Rattle.wd_baseline.specs.Findings.{FindingRecord, finding_text, version_json}
-use Rattle.wd_json_lines.specs.Lines.{first_line, behind_line}
+use Rattle.wd_json_lines.specs.Lines.{first_line, after_line}
 use Rattle.wd_baseline.specs.Lines.{AreFindings}
 
 -- how often a baseline has the finding of a line
@@ -44,7 +44,7 @@ IsWritten lines bytes = (sorted : List (String Global)) × IsPermutation lines s
 -- bytes spell findings: the first line is that of the version, and each line after it is one finding
 pub record Spells (bytes : List ℕ) (fs : List FindingRecord) : Type 0 where
   pub version : IsVersionLine (first_line bytes)
-  pub findings : AreFindings fs (behind_line bytes)
+  pub findings : AreFindings fs (after_line bytes)
 
 -- a baseline has each finding as often as bytes spell it, and all of them are left
 pub record IsBaselineOf (bytes : List ℕ) (baseline : Baseline) : Type 0 where

@@ -9,5 +9,5 @@ abbrev pub AreFindings : List FindingRecord → List ℕ → Type 0
 AreFindings fs bytes = AreLines finding_json fs bytes
 
 -- after lines that spell these findings comes a line that spells none
-abbrev pub FailBehind : List FindingRecord → List ℕ → Type 0
-FailBehind fs bytes = lines.FailBehind finding_json fs bytes
+abbrev pub FailAfter : List FindingRecord → List ℕ → Type 0
+FailAfter fs bytes = lines.FailAfter finding_json fs bytes

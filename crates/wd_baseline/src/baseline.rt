@@ -7,7 +7,7 @@ ghost use Rattle.wd_baseline.specs.Baselines.{IsBaselineOf, IsWritten, count_of,
 ghost use Rattle.wd_baseline.specs.Counts.{one_if};
 ghost use Rattle.wd_baseline.specs.Refusals.{HasCause};
 
-use crate::counts::{counted, take_one};
+use crate::counts::{line_counts, take_one};
 use crate::error::BaselineError;
 use crate::lines::lines_in;
 use crate::read::read_version;
@@ -38,7 +38,7 @@ impl Baseline {
         let (version, rest) = split_line(bytes);
         read_first(alloc, version)?;
         let lines = lines_in(alloc, rest)?;
-        let counts = counted(alloc, &lines)?;
+        let counts = line_counts(alloc, &lines)?;
         Ok(Baseline {
             counts,
             left: lines.len() as u64,
@@ -80,7 +80,7 @@ fn read_first(alloc: Global, line: &[u8]) -> Result<(), BaselineError>
 
 /// Writes a baseline of findings, by the lines that `Known::line` gives them: the line of the version, and then these lines in the
 /// order of their bytes, so that few lines of the file change where few findings do.
-pub fn written(alloc: Global, lines: Vec<String>) -> Result<Vec<u8>, OutOfMemory>
+pub fn baseline_text(alloc: Global, lines: Vec<String>) -> Result<Vec<u8>, OutOfMemory>
     ensures { IfOk result (λ b. IsWritten lines.items b.items) }
 {
     let mut lines = lines;

@@ -45,7 +45,10 @@ pub(crate) fn take_one(counts: &mut HashMap<String, u64>, line: &str) -> bool
 }
 
 /// How often each of these lines appears.
-pub(crate) fn counted(alloc: Global, lines: &[String]) -> Result<HashMap<String, u64>, OutOfMemory>
+pub(crate) fn line_counts(
+    alloc: Global,
+    lines: &[String],
+) -> Result<HashMap<String, u64>, OutOfMemory>
     ensures { IfOk result (λ m. (line : List ℕ) → count_in m line ≡ count_by (λ s. bytes_eq (string_bytes s) line) lines.now) }
 {
     let mut counts = HashMap::new(alloc);

@@ -8,7 +8,7 @@ ghost use Rattle.wd_baseline.specs.Baselines.{count_of};
 ghost use Rattle.wd_baseline.specs.Laws.{HasOneList, IsFindingLine, IsReadBack};
 ghost use Rattle.wd_baseline.specs.declared.error.BaselineError.TheVariants as error;
 
-use crate::baseline::{Baseline, written};
+use crate::baseline::{Baseline, baseline_text};
 use crate::error::BaselineError;
 use std::alloc::Global;
 
@@ -28,6 +28,6 @@ pub fn read_back(alloc: Global, lines: Vec<String>) -> Result<Baseline, Baseline
         → IfOk result (λ b. (line : List ℕ) → count_of b line ≡ count_by (λ s. bytes_eq (string_bytes s) line) lines.items) }
     ensures memory { All IsFindingLine lines.items → IfErr result (λ e. e ≡ error.OutOfMemory) }
 {
-    let bytes = written(alloc, lines)?;
+    let bytes = baseline_text(alloc, lines)?;
     Baseline::read(alloc, &bytes)
 }

@@ -12,6 +12,6 @@ pub mod laws;
 mod lines;
 mod read;
 
-pub use baseline::{Baseline, written};
+pub use baseline::{Baseline, baseline_text};
 pub use error::BaselineError;
 pub use known::{Finding, Known};

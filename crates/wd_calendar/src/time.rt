@@ -151,7 +151,7 @@ fn unit_of(text: &[u8]) -> Option<u64>
 }
 
 /// The microseconds of a number of units, where 64 bits hold them.
-fn counted(number: u64, unit: u64) -> Option<i64>
+fn microseconds_in(number: u64, unit: u64) -> Option<i64>
     ensures { result ≡ spec.counted number unit }
 {
     let span = number.checked_mul(unit)?;
@@ -176,5 +176,5 @@ pub fn interval_of(text: &[u8]) -> Option<i64>
     let number = number_of(digits)?;
     let rest = past(rest, b' ')?;
     let unit = unit_of(rest)?;
-    counted(number, unit)
+    microseconds_in(number, unit)
 }

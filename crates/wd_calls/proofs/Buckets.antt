@@ -37,7 +37,7 @@ module _ (s l p q : ℕ) (from : q * (s + 1) ≤ p) (to : p < (q + 1) * (s + 1))
   before_larger b h = let k = below in let le : b ≤ q = omega arith in let product = mul-le-mul_left s le in omega arith
 
 -- r is the number of whole smaller buckets before the place
-module _ (n s l p r : ℕ) (behind : l * (s + 1) ≤ p) (from : r * s ≤ p - l * (s + 1)) (to : p - l * (s + 1) < (r + 1) * s) (within : p < n * s + l) where
+module _ (n s l p r : ℕ) (after : l * (s + 1) ≤ p) (from : r * s ≤ p - l * (s + 1)) (to : p - l * (s + 1) < (r + 1) * s) (within : p < n * s + l) where
   enough : l + r < n
   enough = elim (cases_lt (l + r) n) [
     | inl less ↦ less

@@ -22,16 +22,16 @@ along_next lists i p list s l e f =
     let at : get_or (lists_of lists) i [] ≡ list.items = get_or-map (λ (v : Vec IndexRange Global). v.items) lists i list [] l ∙ ap (λ (v : Vec IndexRange Global). v.items) (sym e) in
     along-drop (lists_of lists) i p (omega arith) ∙ ap (λ (t : IndexRange). places_in t ++ places_along (drop (i + 1) (lists_of lists)) p) (ap (λ items. range_at items p) at ∙ sym f)
 
--- an element of a list with another behind it
+-- an element of a list with another after it
 pub get-within : (xs ys : List ℕ) (n : ℕ) → n < length xs → slice_get (xs ++ ys) n ≡ slice_get xs n
 get-within [] ys n l = absurd (omega arith)
 get-within (x ∷ xs) ys zero l = refl
 get-within (x ∷ xs) ys (suc n) l = get-within xs ys n (omega arith)
 
-pub get-behind : (xs ys : List ℕ) (n : ℕ) → length xs ≤ n → slice_get (xs ++ ys) n ≡ slice_get ys (n - length xs)
-get-behind [] ys n l = ap (slice_get ys) (omega arith)
-get-behind (x ∷ xs) ys zero l = absurd (omega arith)
-get-behind (x ∷ xs) ys (suc n) l = let less : suc n - suc (length xs) ≡ n - length xs = omega arith in get-behind xs ys n (omega arith) ∙ ap (slice_get ys) (sym less)
+pub get-after : (xs ys : List ℕ) (n : ℕ) → length xs ≤ n → slice_get (xs ++ ys) n ≡ slice_get ys (n - length xs)
+get-after [] ys n l = ap (slice_get ys) (omega arith)
+get-after (x ∷ xs) ys zero l = absurd (omega arith)
+get-after (x ∷ xs) ys (suc n) l = let less : suc n - suc (length xs) ≡ n - length xs = omega arith in get-after xs ys n (omega arith) ∙ ap (slice_get ys) (sym less)
 
 pub get-range : (s k n : ℕ) → n < k → slice_get (range_with_len s k) n ≡ Some (s + n)
 get-range s zero n l = absurd (omega arith)
@@ -42,7 +42,7 @@ pub get_next : (s : IndexRange) (ps : List ℕ) (left : ℕ) → left < s.end - 
 get_next s ps left l = let long = length-range_with_len s.start (s.end - s.start) in get-within (places_in s) ps left (omega arith) ∙ get-range s.start (s.end - s.start) left l
 
 pub get_later : (s : IndexRange) (ps : List ℕ) (left : ℕ) → s.end - s.start ≤ left → slice_get (places_in s ++ ps) left ≡ slice_get ps (left - (s.end - s.start))
-get_later s ps left l = let long = length-range_with_len s.start (s.end - s.start) in get-behind (places_in s) ps left (omega arith) ∙ ap (λ n. slice_get ps (left - n)) long
+get_later s ps left l = let long = length-range_with_len s.start (s.end - s.start) in get-after (places_in s) ps left (omega arith) ∙ ap (λ n. slice_get ps (left - n)) long
 
 pub length_next : (s : IndexRange) (ps : List ℕ) → length (places_in s ++ ps) ≡ (s.end - s.start) + length ps
 length_next s ps = let long = length-range_with_len s.start (s.end - s.start) in length-append (places_in s) ps ∙ ap (λ n. n + length ps) long

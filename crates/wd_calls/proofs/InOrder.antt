@@ -75,7 +75,7 @@ stands_before key x y = by key.desc
     by true e = grind (arith, ints)
     by false e = grind (arith, ints)
 
--- what is no whole number stands before all of them, or behind all
+-- what is no whole number stands before all of them, or after all
 one_side : (key : SortKey) (x y : ℤ) (v : Value) → value_distance key.desc (Int x) v ≡ None → compare key (Int x) v ≡ compare key (Int y) v
 one_side key x y (Int z) e = absurd (cc e)
 one_side key x y Null e = refl

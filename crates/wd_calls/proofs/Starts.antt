@@ -46,7 +46,7 @@ first_start groups = record { first = λ e. refl; start = λ p e. absurd (omega 
 -- ---- counts of members before a point
 
 count_to_point : (p : ℕ → Bool) (xs : List ℕ) (i : ℕ) → i ≤ length xs → ((k : ℕ) → k < i → p (get_or xs k 0) ≡ true) → ((k : ℕ) → i ≤ k → k < length xs → p (get_or xs k 0) ≡ false) → count_by p xs ≡ i
-count_to_point p xs i h below behind =
+count_to_point p xs i h below after =
     ap (count_by p) (sym (take_all (length xs) xs (omega arith))) ∙ up (length xs) h (omega arith)
   where
     before : (n : ℕ) → n ≤ i → count_by p (take n xs) ≡ n
@@ -60,7 +60,7 @@ count_to_point p xs i h below behind =
     up zero le within = before zero (omega arith) ∙ omega arith
     up (suc n) le within = elim (cases_lt i (suc n)) [
       | inl less ↦ (
-          let here = count_by_more_no p xs n 0 (omega arith) (behind n (omega arith) (omega arith)) in
+          let here = count_by_more_no p xs n 0 (omega arith) (after n (omega arith) (omega arith)) in
           let next : n + 1 ≡ suc n = omega arith in
           ap (λ m. count_by p (take m xs)) (sym next) ∙ here ∙ up n (omega arith) (omega arith))
       | inr same ↦ before (suc n) (omega arith) ∙ omega arith

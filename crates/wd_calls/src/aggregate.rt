@@ -13,7 +13,9 @@ ghost use Rattle.wd_value.specs.declared.value.Value.TheVariants as variant;
 use crate::partition::{Partition, column_values};
 use crate::places::count_at;
 use std::alloc::Global;
-use wd_frame::{Answer, Count, Greatest, IndexRange, Least, Sum, over_all, over_lists};
+use wd_frame::{
+    Answer, Ascending, Count, Descending, Extreme, IndexRange, Sum, over_all, over_lists,
+};
 use wd_plan::Aggregate;
 use wd_value::{Fault, OutOfMemory, Value};
 
@@ -45,11 +47,11 @@ pub(crate) fn answers<'a>(
         }
         Aggregate::Min(column) => {
             let values = column_values(alloc, partition, column, count, null)?;
-            over_lists(alloc, lists, &values, Least::new(alloc))
+            over_lists(alloc, lists, &values, Extreme::new(alloc, Ascending))
         }
         Aggregate::Max(column) => {
             let values = column_values(alloc, partition, column, count, null)?;
-            over_lists(alloc, lists, &values, Greatest::new(alloc))
+            over_lists(alloc, lists, &values, Extreme::new(alloc, Descending))
         }
     }
 }
@@ -94,11 +96,11 @@ fn answer_over<'a>(
         }
         Aggregate::Min(column) => {
             let values = column_values(alloc, partition, column, count, null)?;
-            over_all(&values, Least::new(alloc))
+            over_all(&values, Extreme::new(alloc, Ascending))
         }
         Aggregate::Max(column) => {
             let values = column_values(alloc, partition, column, count, null)?;
-            over_all(&values, Greatest::new(alloc))
+            over_all(&values, Extreme::new(alloc, Descending))
         }
     }
 }

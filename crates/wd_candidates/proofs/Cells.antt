@@ -14,7 +14,7 @@ use Rattle.wd_candidates.specs.declared.shape.Style.{Style}
 use Rattle.wd_candidates.specs.declared.tied.TiedColumns.{TiedColumns}
 use Rattle.wd_candidates.specs.Candidates.{alternating, cell, cells, candidate_row, candidate_rows, is_keyed, styled_value}
 use Rattle.wd_candidates.specs.Fixed.{fixed_value}
-use Rattle.wd_candidates.specs.Origins.{is_scanned}
+use Rattle.wd_plan.specs.Plans.{is_scanned}
 use Rattle.wd_candidates.specs.Outlines.{IsCandidate, fixed_in, scanned_in, tied_in}
 use Rattle.wd_candidates.specs.Tied.{is_tied}
 

@@ -9,9 +9,9 @@ use Rattle.std.proofs.lemmas.Option.{slice_get_within}
 use Rattle.wd_schema.specs.Tables.{TableRule}
 use Rattle.wd_plan.specs.declared.window.Call.{Call}
 use Rattle.wd_plan.specs.Expressions.{Expression}
-use Rattle.wd_plan.specs.Fits.{are_outputs, fits, has_table, is_condition, is_group, is_join, is_limit, is_narrow, is_window, kinds_of, width}
+use Rattle.wd_plan.specs.Fits.{fits, has_table, is_join, is_narrow, is_step, kinds_of, width}
 use Rattle.wd_value.specs.Bags.{positions}
-use Rattle.wd_plan.specs.Plans.{GroupCall, PlanTree, Scan, Join, Filter, Map, Group, Window, Distinct, Limit}
+use Rattle.wd_plan.specs.Plans.{GroupCall, PlanTree, Scan, Join, Over, Filter, Map, Group, Window, Distinct, Limit}
 use Rattle.wd_plan.proofs.Ranges.{has_the_table}
 use Rattle.wd_step_facts.specs.Steps.{conjuncts_of}
 use Rattle.wd_candidates.specs.declared.origins.TableColumn.{TableColumn}
@@ -31,12 +31,12 @@ no_group_column call = None
 long : (plan : PlanTree) → length (origins plan) ≡ width plan
 long (Scan table columns) = length-map-range_with_len (λ c. Some (record { table = table; column = c })) 0 columns
 long (Join condition left right) = length-append (origins left) (origins right) ∙ (λ i. long left i + long right i)
-long (Filter condition input) = long input
-long (Map outputs input) = length-map outputs (output_origin (origins input))
-long (Group g input) = length-append (map (origin_in (origins input)) (positions g.columns)) (map no_group_column g.calls) ∙ (λ i. length-map-range_with_len (origin_in (origins input)) 0 g.columns i + length-map g.calls no_group_column i)
-long (Window w input) = length-append (origins input) (map no_column w.calls) ∙ (λ i. long input i + length-map w.calls no_column i)
-long (Distinct input) = long input
-long (Limit limit input) = long input
+long (Over (Filter condition) input) = long input
+long (Over (Map outputs) input) = length-map outputs (output_origin (origins input))
+long (Over (Group g) input) = length-append (map (origin_in (origins input)) (positions g.columns)) (map no_group_column g.calls) ∙ (λ i. length-map-range_with_len (origin_in (origins input)) 0 g.columns i + length-map g.calls no_group_column i)
+long (Over (Window w) input) = length-append (origins input) (map no_column w.calls) ∙ (λ i. long input i + length-map w.calls no_column i)
+long (Over Distinct input) = long input
+long (Over (Limit limit) input) = long input
 
 in_table : (table columns c : ℕ) → origin_in (table_origins table columns) c ≡ origin (Scan table columns) c
 in_table table columns c = by (nat_lt c columns) refl
@@ -80,18 +80,18 @@ split a b n c long_a = by (nat_lt c n) refl
 pub origins_are : (plan : PlanTree) (c : ℕ) → origin_in (origins plan) c ≡ origin plan c
 origins_are (Scan table columns) c = in_table table columns c
 origins_are (Join condition left right) c = split (origins left) (origins right) (width left) c (long left) ∙ (λ i. cond (nat_lt c (width left)) (origins_are left c i) (origins_are right (c - width left) i))
-origins_are (Filter condition input) c = origins_are input c
-origins_are (Map outputs input) c = in_outputs (origins input) (origin input) (origins_are input) outputs c
-origins_are (Group g input) c =
+origins_are (Over (Filter condition) input) c = origins_are input c
+origins_are (Over (Map outputs) input) c = in_outputs (origins input) (origin input) (origins_are input) outputs c
+origins_are (Over (Group g) input) c =
     split (map (origin_in (origins input)) (positions g.columns)) (map no_group_column g.calls) g.columns c (length-map-range_with_len (origin_in (origins input)) 0 g.columns)
     ∙ by (nat_lt c g.columns) refl (origins_are input c)
   where
     by : (t : Bool) → nat_lt c g.columns ≡ t → origin_in (origins input) c ≡ origin input c → cond t (origin_in (map (origin_in (origins input)) (positions g.columns)) c) (origin_in (map no_group_column g.calls) (c - g.columns)) ≡ cond t (origin input c) None
     by true e is = get_or-map-range_with_len (origin_in (origins input)) 0 g.columns c c None (ltb-true c g.columns e) (omega arith) ∙ is
     by false e is = no_group_origin g.calls (c - g.columns)
-origins_are (Window w input) c = split (origins input) (map no_column w.calls) (width input) c (long input) ∙ (λ i. cond (nat_lt c (width input)) (origins_are input c i) (no_origin w.calls (c - width input) i))
-origins_are (Distinct input) c = origins_are input c
-origins_are (Limit limit input) c = origins_are input c
+origins_are (Over (Window w) input) c = split (origins input) (map no_column w.calls) (width input) c (long input) ∙ (λ i. cond (nat_lt c (width input)) (origins_are input c i) (no_origin w.calls (c - width input) i))
+origins_are (Over Distinct input) c = origins_are input c
+origins_are (Over (Limit limit) input) c = origins_are input c
 
 -- ---- fixings
 
@@ -121,9 +121,4 @@ scans_below tables (Join condition left right) f =
     let first = and_parts (fits tables left && fits tables right) (is_join (kinds_of tables (Join condition left right)) (width left + width right) condition) f in
     let sides = and_parts (fits tables left) (fits tables right) first.0 in
     (scans_below tables left sides.0, scans_below tables right sides.1)
-scans_below tables (Filter condition input) f = scans_below tables input (and_parts (fits tables input) (is_condition (kinds_of tables input) condition) f).0
-scans_below tables (Map outputs input) f = scans_below tables input (and_parts (fits tables input) (are_outputs (kinds_of tables input) outputs) f).0
-scans_below tables (Group g input) f = scans_below tables input (and_parts (fits tables input) (is_group (kinds_of tables input) (width input) g) f).0
-scans_below tables (Window w input) f = scans_below tables input (and_parts (fits tables input) (is_window (kinds_of tables input) (width input) w) f).0
-scans_below tables (Distinct input) f = scans_below tables input f
-scans_below tables (Limit limit input) f = scans_below tables input (and_parts (fits tables input) (is_limit (kinds_of tables input) limit) f).0
+scans_below tables (Over step input) f = scans_below tables input (and_parts (fits tables input) (is_step (kinds_of tables input) (width input) step) f).0

@@ -12,7 +12,7 @@ use Rattle.wd_plan.specs.declared.expression.Expr.{Expr}
 use Rattle.wd_plan.specs.declared.window.Call.{Call}
 use Rattle.wd_plan.specs.Expressions.{Expression, expression_of}
 use Rattle.wd_plan.specs.Fits.{width}
-use Rattle.wd_plan.specs.Plans.{GroupRule, WindowRule, PlanTree, Scan, Join, Filter, Map, Group, Window, Distinct, Limit, group_call_of, has}
+use Rattle.wd_plan.specs.Plans.{GroupRule, WindowRule, PlanTree, Scan, Join, Over, Filter, Map, Group, Window, Distinct, Limit, group_call_of, has}
 use Rattle.wd_facts.specs.Given.{table_rule}
 use Rattle.wd_step_facts.specs.Steps.{used}
 use Rattle.wd_candidates.specs.Marks.{MarkMore, MarksMore, is_marked, marks_of}
@@ -40,21 +40,21 @@ source_same (Join condition left right) v w same table c =
     let of_left : is_source left v table c ≡ is_source left w table c = source_same left v w (λ n h. same n (omega arith)) table c in
     let of_right : is_source right (λ n. v (width left + n)) table c ≡ is_source right (λ n. w (width left + n)) table c = source_same right (λ n. v (width left + n)) (λ n. w (width left + n)) (λ n h. same (width left + n) (omega arith)) table c in
     λ i. of_left i || of_right i
-source_same (Filter condition input) v w same table c = source_same input v w same table c
-source_same (Map outputs input) v w same table c =
+source_same (Over (Filter condition) input) v w same table c = source_same input v w same table c
+source_same (Over (Map outputs) input) v w same table c =
     source_same input (is_in_wanted (map used outputs) v) (is_in_wanted (map used outputs) w)
     (λ n h. wanted_same (map used outputs) v w n (λ k l. same k (let e = length-map outputs used in omega arith))) table c
-source_same (Group g input) v w same table c =
+source_same (Over (Group g) input) v w same table c =
     source_same input (is_in_wanted (group_columns g) v) (is_in_wanted (group_columns g) w)
     (λ n h. wanted_same (group_columns g) v w n (λ k l. same k (let e = group_columns_long g in omega arith))) table c
-source_same (Window rule input) v w same table c =
+source_same (Over (Window rule) input) v w same table c =
     source_same input (λ n. v n || is_in_wanted (map (call_columns rule) rule.calls) (λ call. v (width input + call)) n) (λ n. w n || is_in_wanted (map (call_columns rule) rule.calls) (λ call. w (width input + call)) n)
     (λ n h.
     let own : v n ≡ w n = same n (omega arith) in
     let calls : is_in_wanted (map (call_columns rule) rule.calls) (λ call. v (width input + call)) n ≡ is_in_wanted (map (call_columns rule) rule.calls) (λ call. w (width input + call)) n = wanted_same (map (call_columns rule) rule.calls) (λ call. v (width input + call)) (λ call. w (width input + call)) n (λ k l. same (width input + k) (let e = length-map rule.calls (call_columns rule) in omega arith)) in
     λ i. own i || calls i) table c
-source_same (Distinct input) v w same table c = source_same input v w same table c
-source_same (Limit limit input) v w same table c = source_same input v w same table c
+source_same (Over Distinct input) v w same table c = source_same input v w same table c
+source_same (Over (Limit limit) input) v w same table c = source_same input v w same table c
 
 module _ (a b : List (Vec Bool Global)) where
   pub mark_same_as : (f g : ℕ → ℕ → Bool) → ((table c : ℕ) → f table c ≡ g table c) → MarkMore a f b → MarkMore a g b
@@ -72,15 +72,15 @@ module _ (a b : List (Vec Bool Global)) where
       by c true h = refl
       by c false h = past wanted c (let k = ltb-false c columns h in omega arith)
 
-  pub sources_map : (outputs : List Expression) (input : PlanTree) (wanted v : List Bool) → ((c : ℕ) → c < width input → is_marked v c ≡ is_in_wanted (map used outputs) (is_marked wanted) c) → MarkMore a (is_source input (is_marked v)) b → MarkMore a (is_source (Map outputs input) (is_marked wanted)) b
-  sources_map outputs input wanted v is m = mark_same_as (is_source input (is_marked v)) (is_source (Map outputs input) (is_marked wanted)) (source_same input (is_marked v) (is_in_wanted (map used outputs) (is_marked wanted)) is) m
+  pub sources_map : (outputs : List Expression) (input : PlanTree) (wanted v : List Bool) → ((c : ℕ) → c < width input → is_marked v c ≡ is_in_wanted (map used outputs) (is_marked wanted) c) → MarkMore a (is_source input (is_marked v)) b → MarkMore a (is_source (Over (Map outputs) input) (is_marked wanted)) b
+  sources_map outputs input wanted v is m = mark_same_as (is_source input (is_marked v)) (is_source (Over (Map outputs) input) (is_marked wanted)) (source_same input (is_marked v) (is_in_wanted (map used outputs) (is_marked wanted)) is) m
 
-  pub sources_group : (g : GroupRule) (input : PlanTree) (wanted v : List Bool) → ((c : ℕ) → c < width input → is_marked v c ≡ is_in_wanted (group_columns g) (is_marked wanted) c) → MarkMore a (is_source input (is_marked v)) b → MarkMore a (is_source (Group g input) (is_marked wanted)) b
-  sources_group g input wanted v is m = mark_same_as (is_source input (is_marked v)) (is_source (Group g input) (is_marked wanted)) (source_same input (is_marked v) (is_in_wanted (group_columns g) (is_marked wanted)) is) m
+  pub sources_group : (g : GroupRule) (input : PlanTree) (wanted v : List Bool) → ((c : ℕ) → c < width input → is_marked v c ≡ is_in_wanted (group_columns g) (is_marked wanted) c) → MarkMore a (is_source input (is_marked v)) b → MarkMore a (is_source (Over (Group g) input) (is_marked wanted)) b
+  sources_group g input wanted v is m = mark_same_as (is_source input (is_marked v)) (is_source (Over (Group g) input) (is_marked wanted)) (source_same input (is_marked v) (is_in_wanted (group_columns g) (is_marked wanted)) is) m
 
-  pub sources_window : (w : WindowRule) (input : PlanTree) (wanted v : List Bool) → ((c : ℕ) → c < width input → is_marked v c ≡ (is_marked wanted c || is_in_wanted (map (call_columns w) w.calls) (λ call. is_marked wanted (width input + call)) c)) → MarkMore a (is_source input (is_marked v)) b → MarkMore a (is_source (Window w input) (is_marked wanted)) b
+  pub sources_window : (w : WindowRule) (input : PlanTree) (wanted v : List Bool) → ((c : ℕ) → c < width input → is_marked v c ≡ (is_marked wanted c || is_in_wanted (map (call_columns w) w.calls) (λ call. is_marked wanted (width input + call)) c)) → MarkMore a (is_source input (is_marked v)) b → MarkMore a (is_source (Over (Window w) input) (is_marked wanted)) b
   sources_window w input wanted v is m =
-      mark_same_as (is_source input (is_marked v)) (is_source (Window w input) (is_marked wanted))
+      mark_same_as (is_source input (is_marked v)) (is_source (Over (Window w) input) (is_marked wanted))
       (source_same input (is_marked v) (λ n. is_marked wanted n || is_in_wanted (map (call_columns w) w.calls) (λ call. is_marked wanted (width input + call)) n) is) m
 
 -- ---- a list of marks in two parts
@@ -119,19 +119,19 @@ join_marked a b d condition left right p l r wanted v w of_p of_l of_r front bac
     after : w ≡ drop (width left) wanted
     after = back ∙ ap (λ q. drop (width q) wanted) of_p
 
-pub map_marked : (a b : List (Vec Bool Global)) (outputs os : List Expression) (input p q : PlanTree) (wanted items v : List Bool) → os ≡ outputs → p ≡ input → q ≡ input → v ≡ items → ((c : ℕ) → c < width p → is_marked items c ≡ is_in_wanted (map used os) (is_marked wanted) c) → MarkMore a (is_source q (is_marked v)) b → MarkMore a (is_source (Map outputs input) (is_marked wanted)) b
+pub map_marked : (a b : List (Vec Bool Global)) (outputs os : List Expression) (input p q : PlanTree) (wanted items v : List Bool) → os ≡ outputs → p ≡ input → q ≡ input → v ≡ items → ((c : ℕ) → c < width p → is_marked items c ≡ is_in_wanted (map used os) (is_marked wanted) c) → MarkMore a (is_source q (is_marked v)) b → MarkMore a (is_source (Over (Map outputs) input) (is_marked wanted)) b
 map_marked a b outputs os input p q wanted items v of_os of_p of_q of_v each m =
     sources_map a b outputs input wanted items
     (coe 0 1 (i. (c : ℕ) → c < width (of_p i) → is_marked items c ≡ is_in_wanted (map used (of_os i)) (is_marked wanted) c) each)
     (coe 0 1 (i. MarkMore a (is_source (of_q i) (is_marked (of_v i))) b) m)
 
-pub group_marked : (a b : List (Vec Bool Global)) (g : GroupRule) (input p q : PlanTree) (wanted items v : List Bool) → p ≡ input → q ≡ input → v ≡ items → ((c : ℕ) → c < width p → is_marked items c ≡ is_in_wanted (group_columns g) (is_marked wanted) c) → MarkMore a (is_source q (is_marked v)) b → MarkMore a (is_source (Group g input) (is_marked wanted)) b
+pub group_marked : (a b : List (Vec Bool Global)) (g : GroupRule) (input p q : PlanTree) (wanted items v : List Bool) → p ≡ input → q ≡ input → v ≡ items → ((c : ℕ) → c < width p → is_marked items c ≡ is_in_wanted (group_columns g) (is_marked wanted) c) → MarkMore a (is_source q (is_marked v)) b → MarkMore a (is_source (Over (Group g) input) (is_marked wanted)) b
 group_marked a b g input p q wanted items v of_p of_q of_v each m =
     sources_group a b g input wanted items
     (coe 0 1 (i. (c : ℕ) → c < width (of_p i) → is_marked items c ≡ is_in_wanted (group_columns g) (is_marked wanted) c) each)
     (coe 0 1 (i. MarkMore a (is_source (of_q i) (is_marked (of_v i))) b) m)
 
-pub window_marked : (a b : List (Vec Bool Global)) (w : WindowRule) (input p q : PlanTree) (wanted items v : List Bool) → p ≡ input → q ≡ input → v ≡ items → ((c : ℕ) → c < width p → is_marked items c ≡ (is_marked wanted c || is_in_wanted (map (call_columns w) w.calls) (λ call. is_marked wanted (width p + call)) c)) → MarkMore a (is_source q (is_marked v)) b → MarkMore a (is_source (Window w input) (is_marked wanted)) b
+pub window_marked : (a b : List (Vec Bool Global)) (w : WindowRule) (input p q : PlanTree) (wanted items v : List Bool) → p ≡ input → q ≡ input → v ≡ items → ((c : ℕ) → c < width p → is_marked items c ≡ (is_marked wanted c || is_in_wanted (map (call_columns w) w.calls) (λ call. is_marked wanted (width p + call)) c)) → MarkMore a (is_source q (is_marked v)) b → MarkMore a (is_source (Over (Window w) input) (is_marked wanted)) b
 window_marked a b w input p q wanted items v of_p of_q of_v each m =
     sources_window a b w input wanted items
     (coe 0 1 (i. (c : ℕ) → c < width (of_p i) → is_marked items c ≡ (is_marked wanted c || is_in_wanted (map (call_columns w) w.calls) (λ call. is_marked wanted (width (of_p i) + call)) c)) each)
@@ -150,7 +150,7 @@ group_column_at g n h =
     let long = length-map-range_with_len (λ (c : ℕ). c ∷ []) 0 g.columns in
     sym (get_or_append_left (map (λ (c : ℕ). c ∷ []) (positions g.columns)) (map group_call_columns g.calls) [] n (omega (arith, long)) ∙ get_or-map-range_with_len (λ (c : ℕ). c ∷ []) 0 g.columns n n [] h (omega arith))
 
--- and a call behind them
+-- and a call after them
 pub group_call_at : (columns : ℕ) (sets : List (List ℕ)) (calls : List CodeGroupCall) (n : ℕ) (x : CodeGroupCall) → columns ≤ n → n - columns < length calls → x ≡ get_or calls (n - columns) x
     → group_call_columns (group_call_of x) ≡ get_or (group_columns (record { columns = columns; sets = sets; calls = map group_call_of calls })) n []
 group_call_at columns sets calls n x past h is =

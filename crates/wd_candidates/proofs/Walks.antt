@@ -2,8 +2,8 @@
 use Rattle.std.proofs.Common.{◌≡◌, ℕ, zero, suc, ◌+◌, ◌-◌, ◌<◌, ◌≤◌, min, true, false, cond, ◌&&◌, List, nat_eq, nat_lt, refl, ap, subst, arith, Option, Some, None, option_and_then, Result, Ok, Err}
 use Rattle.std.proofs.lemmas.Bool.{and_parts, eq-eqb, ne_eqb, lt-ltb, le-ltb}
 use Rattle.wd_schema.specs.Tables.{TableRule}
-use Rattle.wd_plan.specs.Fits.{fits, is_condition, is_group, is_join, is_limit, is_window, are_outputs, kinds_of, width}
-use Rattle.wd_plan.specs.Plans.{PlanTree, Scan, Join, Filter, Map, Group, Window, Distinct, Limit, node_count}
+use Rattle.wd_plan.specs.Fits.{fits, is_join, is_step, kinds_of, width}
+use Rattle.wd_plan.specs.Plans.{PlanTree, Scan, Join, Over, node_count}
 use Rattle.wd_plan.proofs.Ranges.{narrow}
 use Rattle.wd_candidates.specs.Nodes.{AreNarrow, found, or_own, or_right}
 use Rattle.wd_candidates.specs.Tied.{node_at, ordered_at, ordered_by}
@@ -17,23 +17,13 @@ fits_narrow tables (Join condition left right) f =
     let first = and_parts (fits tables left && fits tables right) (is_join (kinds_of tables (Join condition left right)) (width left + width right) condition) f in
     let sides = and_parts (fits tables left) (fits tables right) first.0 in
     ((fits_narrow tables left sides.0, fits_narrow tables right sides.1), narrow tables (Join condition left right) f)
-fits_narrow tables (Filter condition input) f = fits_narrow tables input (and_parts (fits tables input) (is_condition (kinds_of tables input) condition) f).0
-fits_narrow tables (Map outputs input) f = (fits_narrow tables input (and_parts (fits tables input) (are_outputs (kinds_of tables input) outputs) f).0, narrow tables (Map outputs input) f)
-fits_narrow tables (Group g input) f = (fits_narrow tables input (and_parts (fits tables input) (is_group (kinds_of tables input) (width input) g) f).0, narrow tables (Group g input) f)
-fits_narrow tables (Window w input) f = (fits_narrow tables input (and_parts (fits tables input) (is_window (kinds_of tables input) (width input) w) f).0, narrow tables (Window w input) f)
-fits_narrow tables (Distinct input) f = fits_narrow tables input f
-fits_narrow tables (Limit limit input) f = fits_narrow tables input (and_parts (fits tables input) (is_limit (kinds_of tables input) limit) f).0
+fits_narrow tables (Over step input) f = (fits_narrow tables input (and_parts (fits tables input) (is_step (kinds_of tables input) (width input) step) f).0, narrow tables (Over step input) f)
 
 -- and so its own rows are narrow
 pub narrow_width : (plan : PlanTree) → AreNarrow plan → width plan ≤ 1024
 narrow_width (Scan table columns) n = n
 narrow_width (Join condition left right) n = n.1
-narrow_width (Filter condition input) n = narrow_width input n
-narrow_width (Map outputs input) n = n.1
-narrow_width (Group g input) n = n.1
-narrow_width (Window w input) n = n.1
-narrow_width (Distinct input) n = narrow_width input n
-narrow_width (Limit limit input) n = narrow_width input n
+narrow_width (Over step input) n = n.1
 
 pub width_is : (plan : PlanTree) (n : ℕ) → AreNarrow plan → n ≡ min (width plan) 4294967295 → n ≡ width plan
 width_is plan n narrow e = let few = narrow_width plan narrow in omega arith
@@ -88,12 +78,7 @@ stands (Scan table columns) n = own_stands (Scan table columns) 0 n None (Err n)
 stands (Join condition left right) n =
     own_stands (Join condition left right) (node_count left + node_count right) n _ (or_right (found left n) (found right))
     (right_stands (node_count left) (node_count right) n (node_at left n) (node_at right) (found right) (found left n) (stands left n) (stands right))
-stands (Filter condition input) n = own_stands (Filter condition input) (node_count input) n (node_at input n) (found input n) (stands input n)
-stands (Map outputs input) n = own_stands (Map outputs input) (node_count input) n (node_at input n) (found input n) (stands input n)
-stands (Group g input) n = own_stands (Group g input) (node_count input) n (node_at input n) (found input n) (stands input n)
-stands (Window w input) n = own_stands (Window w input) (node_count input) n (node_at input n) (found input n) (stands input n)
-stands (Distinct input) n = own_stands (Distinct input) (node_count input) n (node_at input n) (found input n) (stands input n)
-stands (Limit limit input) n = own_stands (Limit limit input) (node_count input) n (node_at input n) (found input n) (stands input n)
+stands (Over step input) n = own_stands (Over step input) (node_count input) n (node_at input n) (found input n) (stands input n)
 
 pub found_node : (plan : PlanTree) (n : ℕ) (node : PlanTree) → found plan n ≡ Ok node → node_at plan n ≡ Some node
 unfolding Stands
@@ -130,12 +115,7 @@ narrow_found : (plan : PlanTree) → AreNarrow plan → (n : ℕ) → IsNarrow (
 unfolding IsNarrow
 narrow_found (Scan table columns) w n = own_narrow (Scan table columns) w (Err n) tt
 narrow_found (Join condition left right) w n = own_narrow (Join condition left right) w (or_right (found left n) (found right)) (right_narrow (found right) (found left n) (narrow_found left w.0.0 n) (narrow_found right w.0.1))
-narrow_found (Filter condition input) w n = own_narrow (Filter condition input) w (found input n) (narrow_found input w n)
-narrow_found (Map outputs input) w n = own_narrow (Map outputs input) w (found input n) (narrow_found input w.0 n)
-narrow_found (Group g input) w n = own_narrow (Group g input) w (found input n) (narrow_found input w.0 n)
-narrow_found (Window rule input) w n = own_narrow (Window rule input) w (found input n) (narrow_found input w.0 n)
-narrow_found (Distinct input) w n = own_narrow (Distinct input) w (found input n) (narrow_found input w n)
-narrow_found (Limit limit input) w n = own_narrow (Limit limit input) w (found input n) (narrow_found input w n)
+narrow_found (Over step input) w n = own_narrow (Over step input) w (found input n) (narrow_found input w.0 n)
 
 pub found_narrow : (tables : List TableRule) (plan : PlanTree) (n : ℕ) (node : PlanTree) → fits tables plan ≡ true → found plan n ≡ Ok node → AreNarrow node
 unfolding IsNarrow

@@ -9,10 +9,9 @@ use Rattle.wd_value.specs.Bags.{positions}
 use Rattle.wd_value.specs.Rows.{Row, Instance}
 use Rattle.wd_schema.specs.declared.table.Column.{Column}
 use Rattle.wd_schema.specs.Tables.{KeyRule, TableRule}
-use Rattle.wd_plan.specs.Plans.{PlanTree, has}
+use Rattle.wd_plan.specs.Plans.{PlanTree, has, is_scanned}
 use Rattle.wd_facts.specs.Given.{table_rule}
 use Rattle.wd_candidates.specs.Fixed.{fixed_value}
-use Rattle.wd_candidates.specs.Origins.{is_scanned}
 use Rattle.wd_candidates.specs.Tied.{NodeColumns, is_tied, ordered_by}
 use Rattle.wd_candidates.specs.declared.shape.Shape.{Shape}
 use Rattle.wd_candidates.specs.declared.shape.Style.{Style}

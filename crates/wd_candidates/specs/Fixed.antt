@@ -6,8 +6,8 @@ use Rattle.wd_schema.specs.declared.table.Column.{Column as TableColumnOf}
 use Rattle.wd_schema.specs.Meets.{is_of_type}
 use Rattle.wd_plan.specs.declared.expression.ComparisonOp.{ComparisonOp}
 use Rattle.wd_plan.specs.declared.expression.ComparisonOp.TheVariants as op
-use Rattle.wd_plan.specs.Expressions.{Expression, Column, Literal, Negate, Arithmetic, Compare, Not, And, Or, IsNull, IsNotNull, Case, is_null}
-use Rattle.wd_plan.specs.Plans.{PlanTree, Scan, Join, Filter, Map, Group, Window, Distinct, Limit}
+use Rattle.wd_plan.specs.Expressions.{Expression, Compare, IsNull, is_null}
+use Rattle.wd_plan.specs.Plans.{PlanTree, Scan, Join, Over, Filter}
 use Rattle.wd_step_facts.specs.Steps.{Side, Plain, Fixed, Other, side_of, conjuncts, conjuncts_of}
 use Rattle.wd_candidates.specs.declared.origins.TableColumn.{TableColumn}
 use Rattle.wd_candidates.specs.declared.fixed.Fixing.{Fixing}
@@ -52,17 +52,9 @@ null_sets Other = None
 
 -- the column of a node's input that a conjunct sets, and to what
 abbrev pub sets : Expression → Option Setting
-sets (Column c) = None
-sets (Literal v kind) = None
-sets (Negate a) = None
-sets (Arithmetic o a b) = None
 sets (Compare o a b) = comparison_sets o (side_of a) (side_of b)
-sets (Not a) = None
-sets (And a b) = None
-sets (Or a b) = None
 sets (IsNull a) = null_sets (side_of a)
-sets (IsNotNull a) = None
-sets (Case k a b c) = None
+sets e = None
 
 -- ---- what a plan fixes
 
@@ -80,12 +72,8 @@ fixings_in origins es = flat_map (λ e. option_to_list (fixing origins e)) es
 abbrev pub fixings : PlanTree → List Fixing
 fixings (Scan table columns) = []
 fixings (Join condition left right) = (fixings left ++ fixings right) ++ fixings_in (origin (Join condition left right)) (conjuncts_of condition)
-fixings (Filter condition input) = fixings input ++ fixings_in (origin input) (conjuncts condition)
-fixings (Map outputs input) = fixings input
-fixings (Group g input) = fixings input
-fixings (Window w input) = fixings input
-fixings (Distinct input) = fixings input
-fixings (Limit limit input) = fixings input
+fixings (Over (Filter condition) input) = fixings input ++ fixings_in (origin input) (conjuncts condition)
+fixings (Over step input) = fixings input
 
 -- whether a column of the table with this number is fixed to a value of its type and range
 abbrev pub fixes : List TableColumnOf → ℕ → ℕ → Fixing → Bool

@@ -2,7 +2,7 @@
 use Rattle.std.specs.Prelude.{ℕ, ◌<◌, List, ◌++◌, map, slice_index_or, Option, Some, None, option_and_then}
 use Rattle.wd_value.specs.Bags.{positions}
 use Rattle.wd_plan.specs.Expressions.{Expression}
-use Rattle.wd_plan.specs.Plans.{PlanTree, Scan, Join, Filter, Map, Group, Window, Distinct, Limit}
+use Rattle.wd_plan.specs.Plans.{PlanTree, Scan, Join, Over, Map, Group, Window}
 use Rattle.wd_candidates.specs.declared.origins.TableColumn.{TableColumn}
 use Rattle.wd_candidates.specs.Origins.{plain_column}
 
@@ -22,20 +22,13 @@ output_origin origins e = option_and_then (origin_in origins) (plain_column e)
 abbrev pub origins : PlanTree → List (Option TableColumn)
 origins (Scan table columns) = table_origins table columns
 origins (Join condition left right) = origins left ++ origins right
-origins (Filter condition input) = origins input
-origins (Map outputs input) = map (output_origin (origins input)) outputs
-origins (Group g input) = map (origin_in (origins input)) (positions g.columns) ++ map (λ call. None) g.calls
-origins (Window w input) = origins input ++ map (λ call. None) w.calls
-origins (Distinct input) = origins input
-origins (Limit limit input) = origins input
+origins (Over (Map outputs) input) = map (output_origin (origins input)) outputs
+origins (Over (Group g) input) = map (origin_in (origins input)) (positions g.columns) ++ map (λ call. None) g.calls
+origins (Over (Window w) input) = origins input ++ map (λ call. None) w.calls
+origins (Over step input) = origins input
 
 -- a plan scans only tables with numbers below this
 abbrev pub ScansBelow : ℕ → PlanTree → Type 0
 ScansBelow tables (Scan table columns) = table < tables
 ScansBelow tables (Join condition left right) = ScansBelow tables left × ScansBelow tables right
-ScansBelow tables (Filter condition input) = ScansBelow tables input
-ScansBelow tables (Map outputs input) = ScansBelow tables input
-ScansBelow tables (Group g input) = ScansBelow tables input
-ScansBelow tables (Window w input) = ScansBelow tables input
-ScansBelow tables (Distinct input) = ScansBelow tables input
-ScansBelow tables (Limit limit input) = ScansBelow tables input
+ScansBelow tables (Over step input) = ScansBelow tables input

@@ -6,7 +6,7 @@ use Rattle.wd_plan.specs.Expressions.{Expression}
 use Rattle.wd_plan.specs.Fits.{width}
 use Rattle.wd_plan.specs.Functions.{argument_of, argument_of_aggregate}
 use Rattle.wd_plan.specs.Outcomes.{class_at}
-use Rattle.wd_plan.specs.Plans.{GroupCall, OfRows, Grouping, GroupRule, WindowRule, PlanTree, Scan, Join, Filter, Map, Group, Window, Distinct, Limit, has}
+use Rattle.wd_plan.specs.Plans.{GroupCall, OfRows, Grouping, GroupRule, WindowRule, PlanTree, Scan, Join, Over, Map, Group, Window, has}
 use Rattle.wd_plan.specs.Sorting.{class_columns}
 use Rattle.wd_step_facts.specs.Steps.{Side, Plain, Fixed, Other, side_of, used}
 use Rattle.wd_candidates.specs.declared.origins.TableColumn.{TableColumn}
@@ -26,12 +26,10 @@ plain_column e = of_side (side_of e)
 abbrev pub origin : PlanTree → ℕ → Option TableColumn
 origin (Scan table columns) c = if nat_lt c columns then Some (record { table = table; column = c }) else None
 origin (Join condition left right) c = if nat_lt c (width left) then origin left c else origin right (c - width left)
-origin (Filter condition input) c = origin input c
-origin (Map outputs input) c = option_and_then (origin input) (option_and_then plain_column (slice_get outputs c))
-origin (Group g input) c = if nat_lt c g.columns then origin input c else None
-origin (Window w input) c = if nat_lt c (width input) then origin input c else None
-origin (Distinct input) c = origin input c
-origin (Limit limit input) c = origin input c
+origin (Over (Map outputs) input) c = option_and_then (origin input) (option_and_then plain_column (slice_get outputs c))
+origin (Over (Group g) input) c = if nat_lt c g.columns then origin input c else None
+origin (Over (Window w) input) c = if nat_lt c (width input) then origin input c else None
+origin (Over step input) c = origin input c
 
 -- ---- what columns are computed from
 
@@ -58,20 +56,7 @@ group_columns g = map (λ c. c ∷ []) (positions g.columns) ++ map group_call_c
 abbrev pub is_source : PlanTree → (ℕ → Bool) → ℕ → ℕ → Bool
 is_source (Scan of columns) wanted table c = nat_eq of table && (nat_lt c columns && wanted c)
 is_source (Join condition left right) wanted table c = is_source left wanted table c || is_source right (λ n. wanted (width left + n)) table c
-is_source (Filter condition input) wanted table c = is_source input wanted table c
-is_source (Map outputs input) wanted table c = is_source input (is_in_wanted (map used outputs) wanted) table c
-is_source (Group g input) wanted table c = is_source input (is_in_wanted (group_columns g) wanted) table c
-is_source (Window w input) wanted table c = is_source input (λ n. wanted n || is_in_wanted (map (call_columns w) w.calls) (λ call. wanted (width input + call)) n) table c
-is_source (Distinct input) wanted table c = is_source input wanted table c
-is_source (Limit limit input) wanted table c = is_source input wanted table c
-
--- whether a plan scans a table
-abbrev pub is_scanned : PlanTree → ℕ → Bool
-is_scanned (Scan of columns) table = nat_eq of table
-is_scanned (Join condition left right) table = is_scanned left table || is_scanned right table
-is_scanned (Filter condition input) table = is_scanned input table
-is_scanned (Map outputs input) table = is_scanned input table
-is_scanned (Group g input) table = is_scanned input table
-is_scanned (Window w input) table = is_scanned input table
-is_scanned (Distinct input) table = is_scanned input table
-is_scanned (Limit limit input) table = is_scanned input table
+is_source (Over (Map outputs) input) wanted table c = is_source input (is_in_wanted (map used outputs) wanted) table c
+is_source (Over (Group g) input) wanted table c = is_source input (is_in_wanted (group_columns g) wanted) table c
+is_source (Over (Window w) input) wanted table c = is_source input (λ n. wanted n || is_in_wanted (map (call_columns w) w.calls) (λ call. wanted (width input + call)) n) table c
+is_source (Over step input) wanted table c = is_source input wanted table c

@@ -2,12 +2,11 @@
 use Rattle.std.specs.Prelude.{◌≡◌, ℕ, ◌<◌, Bool, false, List, [], length, map, slice_index_or, Option, Some, None, ⊤}
 use Rattle.wd_value.specs.declared.value.Value.{Value}
 use Rattle.wd_schema.specs.Tables.{TableRule}
-use Rattle.wd_plan.specs.Plans.{PlanTree}
+use Rattle.wd_plan.specs.Plans.{PlanTree, is_scanned}
 use Rattle.wd_facts.specs.Given.{table_rule}
 use Rattle.wd_value.specs.Rows.{Instance}
 use Rattle.wd_candidates.specs.Candidates.{candidate}
 use Rattle.wd_candidates.specs.Fixed.{fixed_value}
-use Rattle.wd_candidates.specs.Origins.{is_scanned}
 use Rattle.wd_candidates.specs.Tied.{NodeColumns, is_tied}
 use Rattle.wd_candidates.specs.declared.outline.Outline.{Outline}
 use Rattle.wd_candidates.specs.declared.shape.Shape.{Shape}

@@ -3,7 +3,7 @@ use Rattle.std.specs.Prelude.{ℕ, ◌+◌, ◌-◌, Bool, List, nat_eq, nat_lt,
 use Rattle.wd_value.specs.Keys.{key_columns}
 use Rattle.wd_plan.specs.declared.window.Call.{Call}
 use Rattle.wd_plan.specs.Outcomes.{class_at}
-use Rattle.wd_plan.specs.Plans.{LimitRule, WindowRule, PlanTree, Scan, Join, Filter, Map, Group, Window, Distinct, Limit, node_count, has}
+use Rattle.wd_plan.specs.Plans.{LimitRule, WindowRule, PlanTree, Scan, Join, Over, Window, Limit, node_count, has}
 use Rattle.wd_plan.specs.Sorting.{class_columns}
 use Rattle.wd_candidates.specs.Origins.{is_source}
 
@@ -26,23 +26,13 @@ of_limit limit input (Some number) = None
 abbrev pub node_at : PlanTree → ℕ → Option PlanTree
 node_at (Scan table columns) number = if nat_eq number 0 then Some (Scan table columns) else None
 node_at (Join condition left right) number = if nat_eq number (node_count left + node_count right) then Some (Join condition left right) else if nat_lt number (node_count left) then node_at left number else node_at right (number - node_count left)
-node_at (Filter condition input) number = if nat_eq number (node_count input) then Some (Filter condition input) else node_at input number
-node_at (Map outputs input) number = if nat_eq number (node_count input) then Some (Map outputs input) else node_at input number
-node_at (Group g input) number = if nat_eq number (node_count input) then Some (Group g input) else node_at input number
-node_at (Window w input) number = if nat_eq number (node_count input) then Some (Window w input) else node_at input number
-node_at (Distinct input) number = if nat_eq number (node_count input) then Some (Distinct input) else node_at input number
-node_at (Limit limit input) number = if nat_eq number (node_count input) then Some (Limit limit input) else node_at input number
+node_at (Over step input) number = if nat_eq number (node_count input) then Some (Over step input) else node_at input number
 
 -- the columns by which a node's call (its number given) or limit (no number) orders rows
 abbrev pub ordered_at : Option ℕ → PlanTree → Option NodeColumns
-ordered_at call (Scan table columns) = None
-ordered_at call (Join condition left right) = None
-ordered_at call (Filter condition input) = None
-ordered_at call (Map outputs input) = None
-ordered_at call (Group g input) = None
-ordered_at call (Window w input) = of_call w input call
-ordered_at call (Distinct input) = None
-ordered_at call (Limit limit input) = of_limit limit input call
+ordered_at call (Over (Window w) input) = of_call w input call
+ordered_at call (Over (Limit limit) input) = of_limit limit input call
+ordered_at call plan = None
 
 -- the columns by which the call or limit of the node with a number orders rows; none where the plan has no such call or limit
 abbrev pub ordered_by : PlanTree → ℕ → Option ℕ → Option NodeColumns

@@ -6,11 +6,10 @@ ghost use Rattle.wd_candidates.specs.Filled as spec;
 ghost use Rattle.wd_candidates.specs.Filled.{AreFilled, HasSlots};
 ghost use Rattle.wd_candidates.specs.Fixed.{fixes};
 ghost use Rattle.wd_candidates.specs.Listed.{ScansBelow};
-ghost use Rattle.wd_candidates.specs.Origins.{is_scanned};
+ghost use Rattle.wd_plan.specs.Plans.{is_scanned, plan_of};
 ghost use Rattle.wd_candidates.specs.Outlines.{IsOutline};
 ghost use Rattle.wd_facts.specs.Given.{table_rule};
 ghost use Rattle.wd_plan.specs.Fits.{fits};
-ghost use Rattle.wd_plan.specs.Plans.{plan_of};
 ghost use Rattle.wd_schema.specs.Schemas.{schema_of};
 
 use crate::fixed::{Fixing, add_plan_fixings};

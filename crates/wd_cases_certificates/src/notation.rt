@@ -2,7 +2,7 @@
 //!
 //! The entries of a certificate are parted by `;`, and the words of one by blanks; `-` is an entry that says nothing.
 //! `0,1>2,0` is a trace from columns 0 and 1 by the facts 2 and 0; `3,row@0` keeps column 3 and the row by trace 0; the rules
-//! are `peers`, `unique@0`, `values@0` and `exchange@0`, and `keys@0` is the limit's trace. Behind `version 2:` stand the entries
+//! are `peers`, `unique@0`, `values@0` and `exchange@0`, and `keys@0` is the limit's trace. After `version 2:` stand the entries
 //! of a certificate of version 2, else they are of version 1. A fact is `0,1>2,row`.
 use std::alloc::Global;
 use wd_cases::{Failure, is_nothing};

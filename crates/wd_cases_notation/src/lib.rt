@@ -17,7 +17,7 @@
 //!   excluded. Calls, each of the class (or `class(1)`) and with the frame said last: `row_number`,
 //!   `rank`, `dense_rank`, `ntile(2)`, `lag(c0,1,null)`, `lead(c0,1,null)`, `first_value(c0)`,
 //!   `last_value(c0)`, `nth_value(c0,2)`, `count(*)`, `count(c0)`, `sum(c0)`, `min(c0)`, `max(c0)`.
-//! - Calls of a Group: an aggregate and behind it `of_group`, as `sum(c1) of_group`, or
+//! - Calls of a Group: an aggregate and after it `of_group`, as `sum(c1) of_group`, or
 //!   `grouping(0,1)`, of the grouping columns 0 and 1.
 //! - Plans: `t0(3)` (the table with number 0, of 3 columns), `filter`, `map`, `join`, `window`,
 //!   `distinct`, `limit(OFFSET,COUNT)` or `limit(OFFSET,all,ties)`, and `group(2;0,1;0;-)`, a Group

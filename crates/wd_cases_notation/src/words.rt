@@ -67,7 +67,7 @@ impl<'a> Word<'a> {
 
     /// The sort key that the arguments are, as `+` or `-last`.
     pub fn key(self) -> Option<SortKey> {
-        let (front, key) = key_behind(self.arguments)?;
+        let (front, key) = key_after(self.arguments)?;
         if front.is_empty() { Some(key) } else { None }
     }
 }
@@ -92,14 +92,14 @@ pub fn table_of(word: &str) -> Option<u16> {
 
 /// The column and the sort key of a word such as `c3-`.
 pub fn item_of(word: &str) -> Option<SortColumn> {
-    let (front, key) = key_behind(word)?;
+    let (front, key) = key_after(word)?;
     let column = column_of(front)?;
     Some(SortColumn { column, key })
 }
 
 /// What stands before a sort key such as `+` or `-last`, and the key: ascending or descending, with
 /// NULL last and first unless it says more.
-fn key_behind(word: &str) -> Option<(&str, SortKey)> {
+fn key_after(word: &str) -> Option<(&str, SortKey)> {
     let (front, desc, nulls) = match word.split_once('+') {
         Some((front, nulls)) => (front, false, nulls),
         None => {

@@ -54,9 +54,8 @@ fn answer(alloc: Global, state: &mut State, line: Line, out: &mut String) -> Res
 /// What is asked of the words and lists that were read.
 fn answer_word(alloc: Global, state: &State, line: Line, out: &mut String) -> Result<(), Failure> {
     match line.word.name {
-        "sorted_positions" | "sorted_from" | "is_sorted" | "compare_rows_at" | "value_numbers" => {
-            sorts::answer(alloc, state, line.word.name, out)
-        }
+        "sorted_positions" | "sort_positions" | "is_sorted" | "compare_rows_at" | "value_numbers" =>
+            { sorts::answer(alloc, state, line.word.name, out) }
         "sorted_ordering" | "is_ordering" | "partitions" => {
             sorts::class_answer(alloc, state, line, out)
         }

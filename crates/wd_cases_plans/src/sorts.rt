@@ -7,10 +7,10 @@ use wd_cases_notation::{Line, State, Word};
 use wd_columns::RowSource;
 use wd_partition::{Member, Partitions, Turn, is_ordering, partitions, sorted_ordering};
 use wd_plan::Class;
-use wd_sort::{compare_rows_at, is_sorted, sorted_from, sorted_positions, value_numbers};
+use wd_sort::{compare_rows_at, is_sorted, sort_positions, sorted_positions, value_numbers};
 use wd_value::{Row, SortColumn};
 
-/// `sorted_positions COLUMNS`, `sorted_from COLUMNS : POSITIONS`, `is_sorted COLUMNS : POSITIONS`,
+/// `sorted_positions COLUMNS`, `sort_positions COLUMNS : POSITIONS`, `is_sorted COLUMNS : POSITIONS`,
 /// `value_numbers COLUMN`, for each row the first one with its number, and
 /// `compare_rows_at COLUMNS : 0 3`, how the first of these rows stands beside the last.
 pub fn answer(alloc: Global, state: &State, name: &str, out: &mut String) -> Result<(), Failure> {
@@ -18,7 +18,7 @@ pub fn answer(alloc: Global, state: &State, name: &str, out: &mut String) -> Res
     let (rows, given) = (state.rows(), state.ordering());
     match name {
         "sorted_positions" => push_numbers(out, &sorted_positions(alloc, rows, &columns)?),
-        "sorted_from" => push_numbers(out, &sorted_from(alloc, rows, &columns, given)?),
+        "sort_positions" => push_numbers(out, &sort_positions(alloc, rows, &columns, given)?),
         "is_sorted" => push_truth(out, is_sorted(rows, &columns, given)),
         "value_numbers" => push_value_numbers(alloc, rows, &columns, out),
         _ => push_compared(rows, &columns, given, out),

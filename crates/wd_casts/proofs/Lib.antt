@@ -2,6 +2,5 @@ pub mod CastFacts
 pub mod GrowFacts
 pub mod KnownFacts
 pub mod LiteralFacts
-pub mod NameFacts
 pub mod WalkFacts
 pub mod WriteFacts

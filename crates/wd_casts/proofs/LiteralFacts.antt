@@ -5,8 +5,8 @@ use Rattle.std.proofs.lemmas.List.{append-nil}
 use Rattle.wd_lex.specs.declared.token.Token.{Token}
 use Rattle.wd_casts.specs.Decimals.{decimal_at, literals_from, next_for}
 
-behind : (token : Token) (tokens : List Token) → take (length (token ∷ tokens) - 1) tokens ≡ tokens
-behind token tokens = grind (arith, common_steps)
+following : (token : Token) (tokens : List Token) → take (length (token ∷ tokens) - 1) tokens ≡ tokens
+following token tokens = grind (arith, common_steps)
 
 abbrev after : List Token → List Token
 after tokens = take (length tokens - 1) (drop 1 tokens)
@@ -17,7 +17,7 @@ literals_one : (query : List ℕ) (said : Option (List ℕ)) (tokens : List Toke
 unfolding literals_from
 literals_one query said [] other le = absurd (omega arith)
 literals_one query said (token ∷ tokens) other le =
-    ap (λ more. (next_for said (decimal_at query (token ∷ tokens)) token).0 ∷ literals_from query (next_for said (decimal_at query (token ∷ tokens)) token).1 more) (sym (behind token tokens))
+    ap (λ more. (next_for said (decimal_at query (token ∷ tokens)) token).0 ∷ literals_from query (next_for said (decimal_at query (token ∷ tokens)) token).1 more) (sym (following token tokens))
 
 literals_next : (query : List ℕ) (said begun : Option (List ℕ)) (tokens : List Token) (first : Token) → first ≡ get_or tokens 0 first → 1 ≤ length tokens → begun ≡ decimal_at query tokens
     → literals_from query said tokens ≡ (next_for said begun first).0 ∷ literals_from query (next_for said begun first).1 (after tokens)

@@ -27,7 +27,7 @@ longer mid part rest total so_far lt =
     let same : length (mid ++ (part ++ rest)) ≡ length total = ap length so_far in
     omega (arith, lt, same, length-append mid (part ++ rest), length-append part rest, length-append mid part)
 
--- where a part is too much behind what was written, so is the whole
+-- where a part is too much after what was written, so is the whole
 pub part_refused : (refusal : RespellError) (mid part rest total : List Token) → Refused refusal (mid ++ part) → mid ++ (part ++ rest) ≡ total → Refused refusal total
 part_refused e.TooLong mid part rest total h so_far = longer mid part rest total so_far h
 part_refused e.OutOfMemory mid part rest total h so_far = tt
@@ -37,11 +37,11 @@ pub more_refused : (refusal : RespellError) (few many : List Token) → length f
 more_refused e.TooLong few many le h = omega (arith, le, h)
 more_refused e.OutOfMemory few many le h = tt
 
-behind_start : (old start few many : List Token) → start ≡ [] → length few ≤ length many → length (start ++ few) ≤ length (old ++ many)
-behind_start old start few many none le =
+after_start : (old start few many : List Token) → start ≡ [] → length few ≤ length many → length (start ++ few) ≤ length (old ++ many)
+after_start old start few many none le =
     let e : length start ≡ 0 = ap length none in
     omega (arith, e, le, length-append start few, length-append old many)
 
--- also behind others
+-- also after others
 pub operand_refused : (refusal : RespellError) (old start few many : List Token) → start ≡ [] → length few ≤ length many → Refused refusal (start ++ few) → Refused refusal (old ++ many)
-operand_refused refusal old start few many none le h = more_refused refusal (start ++ few) (old ++ many) (behind_start old start few many none le) h
+operand_refused refusal old start few many none le h = more_refused refusal (start ++ few) (old ++ many) (after_start old start few many none le) h

@@ -5,9 +5,9 @@ use Rattle.wd_lex.specs.declared.token.Token.{Token}
 use Rattle.wd_lex.specs.declared.token.TokenKind.{TokenKind}
 use Rattle.wd_lex.specs.declared.token.TokenKind.TheVariants as t
 use Rattle.wd_operands.specs.Operands.{is_name}
-use Rattle.wd_amounts.specs.declared.token.Stop.TheVariants.{Comma}
-use Rattle.wd_amounts.specs.Terms.{bracketed, is_picked}
-use Rattle.wd_amounts.specs.Tokens.{◌>>=◌, begins_bracket, brackets_at, is_dot, or_else, part_length}
+use Rattle.wd_units.specs.declared.token.Stop.TheVariants.{Comma}
+use Rattle.wd_amounts.specs.Terms.{bracket_contents, is_picked}
+use Rattle.wd_units.specs.Tokens.{◌>>=◌, begins_bracket, brackets_at, is_dot, or_else, part_length}
 use Rattle.wd_casts.specs.declared.kind.Kind.{Kind}
 use Rattle.wd_casts.specs.declared.kind.Kind.TheVariants as k
 use Rattle.wd_casts.specs.declared.known.Known.{Known}
@@ -62,7 +62,7 @@ picked (token ∷ tokens) = if is_picked token.kind then (brackets_at tokens >>=
 
 -- the smaller operand within this one that has the same values
 unfoldable pub inner_operand : List Token → Option (List Token)
-inner_operand tokens = or_else (bracketed tokens) (picked tokens)
+inner_operand tokens = or_else (bracket_contents tokens) (picked tokens)
 
 -- only what is known of values: a constant in brackets does not count as a constant
 abbrev pub as_value : Known → Known

@@ -5,7 +5,7 @@ use Rattle.wd_lex.specs.declared.token.Terminal.TheVariants as m
 use Rattle.wd_lex.specs.declared.token.Token.{Token}
 use Rattle.wd_lex.specs.declared.token.TokenKind.{TokenKind}
 use Rattle.wd_lex.specs.declared.token.TokenKind.TheVariants as t
-use Rattle.wd_amounts.specs.Tokens.{◌>>=◌, begins_bracket}
+use Rattle.wd_units.specs.Tokens.{◌>>=◌, begins_bracket}
 use Rattle.wd_casts.specs.declared.kind.Kind.{Kind}
 use Rattle.wd_casts.specs.declared.kind.Kind.TheVariants as k
 use Rattle.wd_casts.specs.Kinds.{kind_of_word}

@@ -6,7 +6,7 @@ use Rattle.wd_lex.specs.declared.token.TokenKind.{TokenKind}
 use Rattle.wd_lex.specs.declared.token.TokenKind.TheVariants as t
 use Rattle.wd_operands.specs.Operands.{is_test_word}
 use Rattle.wd_dialect_read.specs.declared.said.Statement.{Statement}
-use Rattle.wd_amounts.specs.Tokens.{◌>>=◌}
+use Rattle.wd_units.specs.Tokens.{◌>>=◌}
 use Rattle.wd_casts.specs.declared.known.Known.{Known}
 use Rattle.wd_casts.specs.declared.known.Known.TheVariants.{Nothing}
 use Rattle.wd_casts.specs.declared.term.Cast.{Cast}

@@ -11,10 +11,9 @@ use crate::equation::equation;
 use crate::kind::Kind;
 use crate::term::{Cast, Term, term_at};
 use std::alloc::{AllocError, Global};
-use wd_amounts::{
-    Stop, begins_bracket, bracketed, brackets_at, is_dot, is_name, is_picked, part_length,
-};
+use wd_amounts::{bracket_contents, is_picked};
 use wd_lex::{Token, TokenKind};
+use wd_units::{Stop, begins_bracket, brackets_at, is_dot, is_name, part_length};
 
 /// How deep brackets and casts are followed.
 const MOST_DEEP: usize = 130;
@@ -45,7 +44,7 @@ fn token_known(kinds: &KnownKinds, kind: &TokenKind) -> Known
 {
     match kind {
         TokenKind::Word(name) | TokenKind::Quoted(name) => {
-            value_of(kinds.kind_named(name.as_str()))
+            value_of(kinds.value_named(name.as_str()))
         }
         TokenKind::Number(number) => Known::Number(*number),
         TokenKind::Literal(_) => Known::Literal,
@@ -117,7 +116,7 @@ fn first_argument(tokens: &[Token]) -> Option<&[Token]>
 
 /// The argument whose values a call returns.
 #[tactic(auto, unfolding(crate::specs::Known::picked))]
-fn picked(tokens: &[Token]) -> Option<&[Token]>
+fn picked_argument(tokens: &[Token]) -> Option<&[Token]>
     ensures { Finds (λ r. r.now) result (spec.picked tokens.now) }
 {
     let [first, rest @ ..] = tokens else {
@@ -137,9 +136,9 @@ fn picked(tokens: &[Token]) -> Option<&[Token]>
 fn inner_operand(tokens: &[Token]) -> Option<&[Token]>
     ensures { Finds (λ r. r.now) result (spec.inner_operand tokens.now) }
 {
-    match bracketed(tokens) {
+    match bracket_contents(tokens) {
         Some(inside) => Some(inside),
-        None => picked(tokens),
+        None => picked_argument(tokens),
     }
 }
 

@@ -20,6 +20,6 @@ mod type_name;
 mod walk;
 
 pub use decimal::with_literals;
-pub use mask::masked;
+pub use mask::mask_query;
 pub use term::has_casts;
 pub use walk::without_casts;

@@ -114,7 +114,7 @@ fn with_percents(alloc: Global, text: &[u8]) -> Result<Vec<u8>, AllocError>
 /// a blank, and all else as it is. `None` where, outside of quotes and comments, two percent signs are side by side, or one is next to
 /// a colon, or two numbers have only white space between them; and where the query has a text E'..'.
 #[tactic(auto, unfolding(crate::specs::Masked::masked))]
-pub fn masked(alloc: Global, text: &[u8]) -> Result<Option<Vec<u8>>, AllocError>
+pub fn mask_query(alloc: Global, text: &[u8]) -> Result<Option<Vec<u8>>, AllocError>
     ensures masked { IfOk result (λ found. option_map (λ v. v.items) found ≡ spec.masked text.now) }
 
     // Each byte stays at its place.

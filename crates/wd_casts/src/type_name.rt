@@ -7,8 +7,8 @@ ghost use Rattle.wd_casts.specs.Types as spec;
 
 use crate::kind::{Kind, kind_of_word};
 use crate::token::is_word;
-use wd_amounts::begins_bracket;
 use wd_lex::{Terminal, Token, TokenKind};
+use wd_units::begins_bracket;
 
 /// VARYING, after CHARACTER.
 #[tactic(auto, unfolding(crate::specs::Types::varying_at))]

@@ -16,10 +16,10 @@ use crate::equation::{Form, add_form, equation};
 use crate::known::{Known, known_after, known_as, known_of};
 use crate::term::{Cast, Term, term_at};
 use std::alloc::{AllocError, Global};
-use wd_amounts::is_test_word;
 use wd_clauses::{RespellError, add, add_all, copy_token};
 use wd_dialect_read::Statement;
 use wd_lex::{Terminal, Token, TokenKind};
+use wd_units::is_test_word;
 
 /// An operand whose casts have equations, and what is known of it.
 #[derive(Drop)]
@@ -187,11 +187,7 @@ fn walk(
 }
 
 /// The tokens with their casts written out, where this is known of names.
-fn walked_all(
-    alloc: Global,
-    kinds: &KnownKinds,
-    tokens: &[Token],
-) -> Result<Vec<Token>, RespellError>
+fn walk_all(alloc: Global, kinds: &KnownKinds, tokens: &[Token]) -> Result<Vec<Token>, RespellError>
     ensures { Makes (λ x. x.items) (λ x. x) result (walked (kinds_seen kinds.now) (length tokens.now) true tokens.now) }
 {
     let mut written = Vec::new(alloc);
@@ -211,7 +207,7 @@ pub fn without_casts(
     ensures { Makes (λ x. x.items) (λ x. x) result (spec.without_casts statements.now tokens.now) }
 {
     match known_kinds(alloc, statements, tokens) {
-        Ok(kinds) => walked_all(alloc, &kinds, tokens),
+        Ok(kinds) => walk_all(alloc, &kinds, tokens),
         Err(_) => Err(RespellError::OutOfMemory),
     }
 }

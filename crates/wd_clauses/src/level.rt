@@ -99,7 +99,7 @@ fn reach(stop: Stop, tokens: &[Token]) -> usize
 /// The part that the tokens begin with, and the tokens after it.
 pub fn split(stop: Stop, tokens: &[Token]) -> (&[Token], &[Token])
     ensures part { result.0.now ≡ take (spec.reach stop tokens.now) tokens.now }
-    ensures behind { result.1.now ≡ drop (spec.reach stop tokens.now) tokens.now }
+    ensures following { result.1.now ≡ drop (spec.reach stop tokens.now) tokens.now }
 {
     let count = reach(stop, tokens);
     (&tokens[..count], &tokens[count..])

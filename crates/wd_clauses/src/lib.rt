@@ -12,4 +12,4 @@ pub use error::RespellError;
 pub use level::{Stop, closing, split};
 pub use list::parts;
 pub use name::{is_name, is_same_name};
-pub use write::{add, add_all, added, copied, copy_token};
+pub use write::{add, add_all, added_terminal, copy_token, copy_tokens};

@@ -28,9 +28,9 @@ pub fn parts(alloc: Global, tokens: &[Token]) -> Result<Option<Vec<&[Token]>>, A
     let mut parts = Vec::new(alloc);
     let mut rest = tokens;
     for _ in 0..MOST_PARTS {
-        let (part, behind) = split(Stop::Comma, rest);
+        let (part, following) = split(Stop::Comma, rest);
         parts.push(part)?;
-        match past_first(behind) {
+        match past_first(following) {
             Some(after) => rest = after,
             None => return Ok(Some(parts)),
         }

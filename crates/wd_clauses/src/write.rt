@@ -29,7 +29,7 @@ pub fn copy_token(token: &Token) -> Result<Token, AllocError>
 }
 
 /// A terminal that is added because of a word.
-pub fn added(terminal: Terminal, word: &Token) -> Token
+pub fn added_terminal(terminal: Terminal, word: &Token) -> Token
     ensures { result ≡ spec.added terminal word.now }
 {
     Token {
@@ -62,7 +62,7 @@ pub fn add_all(written: &mut Vec<Token>, tokens: &[Token]) -> Result<(), Respell
 }
 
 /// Copies of tokens. The error is `TooLong` where there are more than 65,536.
-pub fn copied(alloc: Global, tokens: &[Token]) -> Result<Vec<Token>, RespellError>
+pub fn copy_tokens(alloc: Global, tokens: &[Token]) -> Result<Vec<Token>, RespellError>
     ensures { Makes (λ x. x.items) (λ x. x) result tokens.now }
 {
     let mut written = Vec::new(alloc);

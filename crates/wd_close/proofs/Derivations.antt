@@ -196,7 +196,7 @@ module _ (facts : FactList) (from : List Member) where
     abbrev to : List Member
     to = right_at facts.list i
 
-    -- with the use of a fact behind them where it reached more
+    -- with the use of a fact after them where it reached more
     abbrev WithUse : List Member → Type 0
     WithUse r = IsDerived facts from r (if nat_lt (length q) (length r) then uses ++ i ∷ [] else uses)
 

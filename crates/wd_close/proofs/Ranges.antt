@@ -19,7 +19,7 @@ columns_more q a b h = ap (λ r. all_added q (columns_named r)) (range_more a b 
 pub columns_none : (q : List Member) (a b : ℕ) → b ≤ a → all_added q (columns_between a b) ≡ q
 columns_none q a b h = ap (λ r. all_added q (columns_named r)) (range_none a b h)
 
--- a list with those of a range that pass behind it: one more passes
+-- a list with those of a range that pass after it: one more passes
 pub next_kept : (test : ℕ → Bool) (a b : ℕ) (old new all : List ℕ) → a < b → test a ≡ true → new ≡ old ++ a ∷ [] → old ++ filter test (range_with_len a (b - a)) ≡ all → new ++ filter test (range_with_len (a + 1) (b - (a + 1))) ≡ all
 next_kept test a b old new all h e is before =
     let rest = filter test (range_with_len (a + 1) (b - (a + 1))) in

@@ -54,7 +54,7 @@ pub each_long : (W : List (List ℕ)) (i : ℕ) (d : List Member) → length (pu
 each_long W i [] = refl
 each_long W i (x ∷ d) = each_long (watched_one W i x) i d ∙ length-set W (place x) (get_or W (place x) [] ++ i ∷ [])
 
--- an element behind a list, or none
+-- an element after a list, or none
 abbrev pub with_if : Bool → List ℕ → ℕ → List ℕ
 with_if b l i = if b then l ++ i ∷ [] else l
 

@@ -12,9 +12,9 @@ pub one_more : (columns : List (Vec Value Global)) (i : ℕ) (column : Vec Value
     → All HasRoom (take i columns) → All HasRoom (take (i + 1) (set columns i column))
 one_more columns i column within room before = rw (take_more_set columns i column within) (All-push HasRoom (take i columns) column before room)
 
--- the columns behind the first of these
-pub behind : (columns : List (Vec Value Global)) (i : ℕ) (column : Vec Value Global) → i < length columns → All HasRoom (drop i columns)
+-- the columns after the first of these
+pub after : (columns : List (Vec Value Global)) (i : ℕ) (column : Vec Value Global) → i < length columns → All HasRoom (drop i columns)
     → All HasRoom (drop (i + 1) (set columns i column))
-behind columns i column within rooms =
+after columns i column within rooms =
     let all = rw (drop_more columns i column within) at rooms in
     rw (drop-set-lt (i + 1) columns i column (omega arith)) (λ k d h. all (suc k) d (omega arith))

@@ -102,7 +102,7 @@ last (c ∷ columns) (v ∷ row) n long wide =
     let same : get_or (c ++ v ∷ []) n Null ≡ v = get_or_push c v Null n here in
     λ i. same i ∷ last columns row n (λ k d within. long (suc k) d (omega arith)) (omega arith) i
 
--- the rows, and the new one behind them
+-- the rows, and the new one after them
 pub more : (columns : List Row) (row : Row) (n : ℕ) → AreLong n columns → length row ≡ length columns → rows_along (with_row columns row) (n + 1) ≡ rows_along columns n ++ row ∷ []
 more columns row n long wide =
     map-range_with_len_more (row_along (with_row columns row)) 0 n n (zero-add n)

@@ -89,7 +89,7 @@ impl Columns {
         ensures { IfOk result (λ c. c ≡ with_values self values.items) }
     {
         let Columns { columns, count } = self;
-        let grown = pushed(columns, values)?;
+        let grown = push_column(columns, values)?;
         Ok(Columns {
             columns: grown,
             count,
@@ -97,7 +97,7 @@ impl Columns {
     }
 
     /// The rows with these of their columns. Each column is moved: none is named twice.
-    pub fn selected(self, alloc: Global, columns: &[u64]) -> Result<Columns, OutOfMemory>
+    pub fn select(self, alloc: Global, columns: &[u64]) -> Result<Columns, OutOfMemory>
         requires { AreDifferent columns.now }
         ensures { IfOk result (λ c. c ≡ map (columns_of columns.now) self) }
     {
@@ -113,7 +113,7 @@ impl Columns {
     }
 
     /// The rows at these positions, in their order. Values are moved: no position is there twice, and each is one of a row.
-    pub fn picked(self, alloc: Global, positions: &[u64]) -> Result<Columns, OutOfMemory>
+    pub fn pick(self, alloc: Global, positions: &[u64]) -> Result<Columns, OutOfMemory>
         requires different { AreDifferent positions.now }
         requires within { AreWithin (length self) positions.now }
         ensures { IfOk result (λ c. c ≡ rows_at self positions.now) }
@@ -136,7 +136,7 @@ impl Columns {
     }
 }
 
-fn pushed(columns: Vec<Vec<Value>>, column: Vec<Value>) -> Result<Vec<Vec<Value>>, OutOfMemory>
+fn push_column(columns: Vec<Vec<Value>>, column: Vec<Value>) -> Result<Vec<Vec<Value>>, OutOfMemory>
     ensures { IfOk result (λ v. rows_of v.items ≡ rows_of columns.items ++ column.items ∷ []) }
 {
     let mut grown = columns;

@@ -16,13 +16,13 @@ pub fn moved_rows(alloc: Global, rows: Vec<Row>, positions: &[u64]) -> Result<Ve
     let mut picked = Vec::with_capacity(alloc, positions.len())?;
     let mut left = rows;
     for i in 0..positions.len() {
-        picked.push(taken(alloc, &mut left, positions[i]))?;
+        picked.push(take_row(alloc, &mut left, positions[i]))?;
     }
     Ok(picked)
 }
 
 /// Takes the row at a position out; past the last there is the empty row.
-fn taken(alloc: Global, rows: &mut Vec<Row>, position: u64) -> Row
+fn take_row(alloc: Global, rows: &mut Vec<Row>, position: u64) -> Row
     ensures taken { result.items ≡ row_at (rows_of rows.old.items) position }
     ensures others { (p : ℕ) → (p ≡ position → ⊥) → row_at (rows_of rows.new.items) p ≡ row_at (rows_of rows.old.items) p }
 {

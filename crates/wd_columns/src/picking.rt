@@ -5,7 +5,7 @@ ghost use Rattle.wd_columns.specs.Along as along;
 ghost use Rattle.wd_columns.specs.Moves.{AreDifferent};
 ghost use Rattle.wd_value.specs.Rows.{rows_of};
 
-use crate::taking::taken;
+use crate::taking::take_value;
 use std::alloc::Global;
 use wd_value::{OutOfMemory, Value};
 
@@ -38,7 +38,7 @@ fn values_at(
     let mut picked = Vec::with_capacity(alloc, positions.len())?;
     let mut left = column;
     for i in 0..positions.len() {
-        picked.push(taken(&mut left, positions[i] as usize))?;
+        picked.push(take_value(&mut left, positions[i] as usize))?;
     }
     Ok(picked)
 }

@@ -21,14 +21,14 @@ pub fn taken_rows(
     let mut rows = Vec::with_capacity(alloc, count)?;
     let mut left = columns;
     for position in 0..count {
-        let row = taken_row(alloc, &mut left, position, room)?;
+        let row = take_row(alloc, &mut left, position, room)?;
         rows.push(row)?;
     }
     Ok(rows)
 }
 
 /// Takes the row at a position out.
-fn taken_row(
+fn take_row(
     alloc: Global,
     columns: &mut Vec<Vec<Value>>,
     position: usize,
@@ -40,27 +40,27 @@ fn taken_row(
     let width = columns.len();
     let mut row = Vec::with_capacity(alloc, width.saturating_add(room))?;
     for place in 0..width {
-        let value = taken_at(columns, place, position);
+        let value = take_value_at(columns, place, position);
         row.push(value)?;
     }
     Ok(row)
 }
 
 /// Takes the value at a position of the column at a place out; past the last there is NULL.
-fn taken_at(columns: &mut Vec<Vec<Value>>, place: usize, position: usize) -> Value
+fn take_value_at(columns: &mut Vec<Vec<Value>>, place: usize, position: usize) -> Value
     ensures taken { result ≡ slice_index_or (row_at (rows_of columns.old.items) place) position value.Null }
     ensures others { (p : ℕ) → (p ≡ position → ⊥) → row_along (rows_of columns.new.items) p ≡ row_along (rows_of columns.old.items) p }
-    ensures behind { (k : ℕ) → place < k → row_at (rows_of columns.new.items) k ≡ row_at (rows_of columns.old.items) k }
+    ensures after { (k : ℕ) → place < k → row_at (rows_of columns.new.items) k ≡ row_at (rows_of columns.old.items) k }
     ensures long { length columns.new.items ≡ length columns.old.items }
 {
     if place >= columns.len() {
         return Value::Null;
     }
-    taken(&mut columns[place], position)
+    take_value(&mut columns[place], position)
 }
 
 /// Takes the value at a position out; past the last there is NULL.
-pub fn taken(column: &mut Vec<Value>, position: usize) -> Value
+pub fn take_value(column: &mut Vec<Value>, position: usize) -> Value
     ensures taken { result ≡ slice_index_or column.old.items position value.Null }
     ensures others { (p : ℕ) → (p ≡ position → ⊥) → slice_index_or column.new.items p value.Null ≡ slice_index_or column.old.items p value.Null }
 {

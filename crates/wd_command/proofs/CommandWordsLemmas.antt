@@ -42,7 +42,7 @@ abbrev seen : Bool → List Row
 seen true = row (filled (flag (codes "list"))) (codes "true" ∷ []) ∷ []
 seen false = []
 
--- behind it
+-- after it
 abbrev pub start_with : Bool → Walk
 start_with given = between (record nothing_held { rows = seen given }) idle 1
 
@@ -50,10 +50,10 @@ start_with given = between (record nothing_held { rows = seen given }) idle 1
 abbrev TakesFlag : Shape → Type 0
 TakesFlag s = Takes s start (codes "--list") (start_with true)
 
-behind_flag : {X : Type 0} (s : Shape) (f : Walk → List Text → X) → Follows s f → (given : Bool) → (given ≡ true → TakesFlag s) → (words : List Text)
+after_flag : {X : Type 0} (s : Shape) (f : Walk → List Text → X) → Follows s f → (given : Bool) → (given ≡ true → TakesFlag s) → (words : List Text)
     → f start (flagged given words) ≡ f (start_with given) words
-behind_flag s f follows true takes words = follows start (start_with true) (codes "--list") words (takes refl)
-behind_flag s f follows false takes words = refl
+after_flag s f follows true takes words = follows start (start_with true) (codes "--list") words (takes refl)
+after_flag s f follows false takes words = refl
 
 -- ---- commands that want just so many words
 
@@ -123,14 +123,14 @@ module _ (name : Text) (more : List Rule) where
   module _ (given : Bool) (takes : given ≡ true → TakesFlag with_more) where
     walk_two : {X : Type 0} (f : Walk → List Text → X) → Follows with_more f → (s q : Text) (words : List Text) → All IsPlain (s ∷ q ∷ words)
         → f start (flagged given (s ∷ q ∷ words)) ≡ f (after_paths given s q) words
-    walk_two f follows s q words plain = behind_flag with_more f follows given takes (s ∷ q ∷ words) ∙ after_two f follows given s q words plain
+    walk_two f follows s q words plain = after_flag with_more f follows given takes (s ∷ q ∷ words) ∙ after_two f follows given s q words plain
 
     -- there are no more words and no less
     pub two_words : Wants with_more 2 (start_with given) → (words : List Text) → All IsPlain words → level with_more (flagged given words) ≡ []
         → (s : Text) × (q : Text) × (words ≡ s ∷ q ∷ [])
     two_words wants words plain none =
         two_of words (wanted_words with_more 2 (start_with given) wants words plain
-        (sym (behind_flag with_more (rest_fault with_more) (fault_follows with_more) given takes words) ∙ none))
+        (sym (after_flag with_more (rest_fault with_more) (fault_follows with_more) given takes words) ∙ none))
 
     pub two_pass : (s q : Text) → end_fault with_more (after_paths given s q).held ≡ [] → All IsPlain (s ∷ q ∷ []) → level with_more (flagged given (s ∷ q ∷ [])) ≡ []
     two_pass s q fine plain =
@@ -222,7 +222,7 @@ module _ (name : Text) (rest : List Rule) where
         → (s : Text) × (q : Text) × (f : Text) × (words ≡ s ∷ q ∷ f ∷ [])
     three_words wants words plain none =
         three_of words (wanted_words with_file 3 (start_with given) wants words plain
-        (sym (behind_flag with_file (rest_fault with_file) (fault_follows with_file) given takes words) ∙ none))
+        (sym (after_flag with_file (rest_fault with_file) (fault_follows with_file) given takes words) ∙ none))
 
     pub three_pass : (s q f : Text) → end_fault with_file (after_file given s q f).held ≡ [] → All IsPlain (s ∷ q ∷ f ∷ []) → level with_file (flagged given (s ∷ q ∷ f ∷ [])) ≡ []
     three_pass s q f fine plain =

@@ -107,11 +107,11 @@ module _ (Q : Causes) where
         unwritten = none.unwritten;
       }) failure h
 
--- a read that failed after files that were handed over before
-pub IsUnread-behind : (before middle after : Reads) (first : List File) (Known Wanted : List File → List ℕ → Type 0) → AllRead before middle first
+-- a read that failed after files that were read before
+pub IsUnread-after : (before middle after : Reads) (first : List File) (Known Wanted : List File → List ℕ → Type 0) → AllRead before middle first
     → ((files : List File) (path : List ℕ) → Known files path → Wanted (first ++ files) path)
     → (failure : Failure) → IsUnread Known middle after failure → IsUnread Wanted before after failure
-IsUnread-behind before middle after first Known Wanted read step =
+IsUnread-after before middle after first Known Wanted read step =
     by_read (record no_cause { unread = StopsAt Wanted before after }) Known middle after (λ path h. record {
       files = first ++ h.files;
       read = HandsOver-trans before.handed middle.handed after.handed first h.files read.handed h.read;

@@ -1,4 +1,4 @@
--- What was handed over by several reads.
+-- What several reads gave.
 use Rattle.std.proofs.Common.{◌∙◌, ◌++◌, ℕ, List, [], ◌∷◌, Option, Some, None, ap, append_assoc, append-nil, map, refl, sym}
 use Rattle.std.proofs.lemmas.List.{map-append}
 use Rattle.wd_command.specs.Files.{AllRead, File, HandsOver, Reads, ReadsNothing, StandsNext}
@@ -34,9 +34,9 @@ StandsNext-before paths more files path (rest, is) =
     (rest ++ more, ap (λ ps. ps ++ more) is ∙ append_assoc (map path_of files) (path ∷ rest) more)
 
 -- and where files were read before
-pub StandsNext-behind : (first : List File) (paths : List (List ℕ)) (files : List File) (path : List ℕ) → StandsNext paths files path
+pub StandsNext-after : (first : List File) (paths : List (List ℕ)) (files : List File) (path : List ℕ) → StandsNext paths files path
     → StandsNext (map path_of first ++ paths) (first ++ files) path
-StandsNext-behind first paths files path (rest, is) = (
+StandsNext-after first paths files path (rest, is) = (
   rest,
   ap (λ ps. map path_of first ++ ps) is ∙ sym (append_assoc (map path_of first) (map path_of files) (path ∷ rest)) ∙ ap (λ front. front ++ path ∷ rest) (sym (map-append path_of first files)),
 )

@@ -1,4 +1,4 @@
--- The lines of the commands, where no word but a flag behind the name begins with a hyphen: `clap` takes them and no others, and finds what they ask for.
+-- The lines of the commands, where no word but a flag after the name begins with a hyphen: `clap` takes them and no others, and finds what they ask for.
 use Rattle.std.proofs.Common.{arith, ◌≡◌, ◌∙◌, ◌≤◌, Bool, true, false, List, [], ◌∷◌, Some, inl, inr, length, map, codes, refl, sym, ap, subst}
 use Rattle.std.specs.Prelude.{⊤, drop, unwrap_or}
 use Rattle.std.specs.List.{All}
@@ -49,9 +49,9 @@ line_is : (name : Text) (s : Shape) (given : Bool) (words rest : List Text) → 
 line_is name s given words rest command is finds =
     subst (λ (ws : List Text). IsLine (name ∷ flagged given ws)) (sym is) (ap line_in (command_rows name s command (flagged given rest)) ∙ finds)
 
--- the words behind the name have no fault
-behind_name : (name : Text) (s : Shape) → IsCommand name s → (words : List Text) → fault_of command_line (name ∷ words) ≡ [] → level s words ≡ []
-behind_name name s command words none = sym (command_fault name s command words) ∙ none
+-- the words after the name have no fault
+after_name : (name : Text) (s : Shape) → IsCommand name s → (words : List Text) → fault_of command_line (name ∷ words) ≡ [] → level s words ≡ []
+after_name name s command words none = sym (command_fault name s command words) ∙ none
 
 not_given : {X : Type 0} → false ≡ true → X
 not_given same = cc
@@ -60,15 +60,15 @@ line_of_check : IsLineAfter (codes "check")
 line_of_check given words plain none =
     let s = list_shape (codes "check") in
     let takes = λ (is : given ≡ true). list_taken (codes "check") in
-    let paths = two_words (codes "check") (drop 2 s.rules) given takes (list_wanted (codes "check") given) words plain (behind_name (codes "check") s check (flagged given words) none) in
+    let paths = two_words (codes "check") (drop 2 s.rules) given takes (list_wanted (codes "check") given) words plain (after_name (codes "check") s check (flagged given words) none) in
     line_is (codes "check") s given words (paths.0 ∷ paths.1 ∷ []) check paths.2
     (ap (line_after (codes "check")) (two_rows (codes "check") (drop 2 s.rules) given takes paths.0 paths.1 (subst (All IsPlain) paths.2 plain)) ∙ check_found given paths.0 paths.1)
 
 line_of_explain : IsLineAfter (codes "explain")
-line_of_explain true words plain none = absurd (paths_refuse (codes "explain") words (behind_name (codes "explain") (paths_shape (codes "explain")) explain (flagged true words) none))
+line_of_explain true words plain none = absurd (paths_refuse (codes "explain") words (after_name (codes "explain") (paths_shape (codes "explain")) explain (flagged true words) none))
 line_of_explain false words plain none =
     let s = paths_shape (codes "explain") in
-    let paths = two_words (codes "explain") (drop 2 s.rules) false not_given (paths_wanted (codes "explain")) words plain (behind_name (codes "explain") s explain words none) in
+    let paths = two_words (codes "explain") (drop 2 s.rules) false not_given (paths_wanted (codes "explain")) words plain (after_name (codes "explain") s explain words none) in
     line_is (codes "explain") s false words (paths.0 ∷ paths.1 ∷ []) explain paths.2
     (ap (line_after (codes "explain")) (two_rows (codes "explain") (drop 2 s.rules) false not_given paths.0 paths.1 (subst (All IsPlain) paths.2 plain)) ∙ explain_found paths.0 paths.1)
 
@@ -76,23 +76,23 @@ line_of_verify : IsLineAfter (codes "verify")
 line_of_verify given words plain none =
     let s = list_file_shape (codes "verify") in
     let takes = λ (is : given ≡ true). list_file_taken (codes "verify") in
-    let paths = three_words (codes "verify") (drop 3 s.rules) given takes (list_file_wanted (codes "verify") given) words plain (behind_name (codes "verify") s verify (flagged given words) none) in
+    let paths = three_words (codes "verify") (drop 3 s.rules) given takes (list_file_wanted (codes "verify") given) words plain (after_name (codes "verify") s verify (flagged given words) none) in
     line_is (codes "verify") s given words (paths.0 ∷ paths.1 ∷ paths.2 ∷ []) verify paths.3
     (ap (line_after (codes "verify")) (three_rows (codes "verify") (drop 3 s.rules) given takes paths.0 paths.1 paths.2 (subst (All IsPlain) paths.3 plain)) ∙ verify_found given paths.0 paths.1 paths.2)
 
 line_of_refute : IsLineAfter (codes "refute")
-line_of_refute true words plain none = absurd (file_refuses (codes "refute") words (behind_name (codes "refute") (file_shape (codes "refute")) refute (flagged true words) none))
+line_of_refute true words plain none = absurd (file_refuses (codes "refute") words (after_name (codes "refute") (file_shape (codes "refute")) refute (flagged true words) none))
 line_of_refute false words plain none =
     let s = file_shape (codes "refute") in
-    let paths = three_words (codes "refute") (drop 3 s.rules) false not_given (file_wanted (codes "refute")) words plain (behind_name (codes "refute") s refute words none) in
+    let paths = three_words (codes "refute") (drop 3 s.rules) false not_given (file_wanted (codes "refute")) words plain (after_name (codes "refute") s refute words none) in
     line_is (codes "refute") s false words (paths.0 ∷ paths.1 ∷ paths.2 ∷ []) refute paths.3
     (ap (line_after (codes "refute")) (three_rows (codes "refute") (drop 3 s.rules) false not_given paths.0 paths.1 paths.2 (subst (All IsPlain) paths.3 plain)) ∙ refute_found paths.0 paths.1 paths.2)
 
 line_of_run : IsLineAfter (codes "run")
-line_of_run true words plain none = absurd (tables_refuse (codes "run") words (behind_name (codes "run") (tables_shape (codes "run")) run (flagged true words) none))
+line_of_run true words plain none = absurd (tables_refuse (codes "run") words (after_name (codes "run") (tables_shape (codes "run")) run (flagged true words) none))
 line_of_run false words plain none =
     let name = codes "run" in
-    let given = tables_words name words plain (behind_name name (tables_shape name) run words none) in
+    let given = tables_words name words plain (after_name name (tables_shape name) run words none) in
     line_is name (tables_shape name) false words (given.0 ∷ given.1 ∷ given.2) run given.3
     (tables_rows name given.0 given.1 given.2 (subst (All IsPlain) given.3 plain))
 

@@ -38,6 +38,6 @@ first_at-Some path given i found =
 pub bytes_at : (given : List (Bor (List ℕ) × Bor (List ℕ))) (i : ℕ) → (file_at (data_of given) i).1 ≡ (get_or given i (nothing, nothing)).1.now
 bytes_at given i = ap (λ (f : File). f.1) (get_or-map shown given i (nothing, nothing))
 
--- what is handed over next comes after the others
+-- what is read next comes after the others
 pub map-after : (f : ℕ → File) (before after : List ℕ) (i : ℕ) (file : File) → after ≡ before ++ i ∷ [] → f i ≡ file → map f after ≡ map f before ++ file ∷ []
 map-after f before after i file more same = ap (map f) more ∙ map-append f before (i ∷ []) ∙ ap (λ (x : File). map f before ++ x ∷ []) same

@@ -14,14 +14,14 @@ taken_between first text rest n =
     subst (λ l. take (length (first ++ take n text)) l ≡ first ++ take n text) parts (take-append_seam (first ++ take n text) (drop n text ++ rest))
 
 -- a beginning of the next text, after a text that was written whole
-pub AppendsPart-behind : (before middle after : Option (List ℕ)) (first text rest : List ℕ) → Appends before middle first → AppendsPart middle after text
+pub AppendsPart-after : (before middle after : Option (List ℕ)) (first text rest : List ℕ) → Appends before middle first → AppendsPart middle after text
     → AppendsPart before after (first ++ (text ++ rest))
-AppendsPart-behind before middle after first text rest written more =
+AppendsPart-after before middle after first text rest written more =
     (length (first ++ take more.0 text), subst (Appends before after) (sym (taken_between first text rest more.0)) (Appends-trans before middle after first (take more.0 text) written more.1))
 
 -- a beginning of the first text
 pub AppendsPart-first : (before after : Option (List ℕ)) (text rest : List ℕ) → AppendsPart before after text → AppendsPart before after (text ++ rest)
-AppendsPart-first before after text rest part = AppendsPart-behind before before after [] text rest (Appends-nil before) part
+AppendsPart-first before after text rest part = AppendsPart-after before before after [] text rest (Appends-nil before) part
 
 -- the whole is a beginning
 pub AppendsPart-whole : (before after : Option (List ℕ)) (text : List ℕ) → Appends before after text → AppendsPart before after text

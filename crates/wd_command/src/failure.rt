@@ -113,7 +113,7 @@ impl From<RunError> for Failure<'_> {
 
     fn from(error: RunError) -> Self {
         let (number, place) = (error.number(), error.place());
-        refused(run_input(error), number, place)
+        refusal_of(run_input(error), number, place)
     }
 }
 
@@ -121,7 +121,7 @@ impl From<DecideError> for Failure<'_> {
     ghost from_gives = { λ e failure. IsRefusal (SaysDecide e) failure };
 
     fn from(error: DecideError) -> Self {
-        refused(decide_input(&error), error.number(), error.place())
+        refusal_of(decide_input(&error), error.number(), error.place())
     }
 }
 
@@ -129,7 +129,7 @@ impl From<VerifyError> for Failure<'_> {
     ghost from_gives = { λ e failure. IsRefusal (SaysVerify e) failure };
 
     fn from(error: VerifyError) -> Self {
-        refused(verify_input(&error), error.number(), error.place())
+        refusal_of(verify_input(&error), error.number(), error.place())
     }
 }
 
@@ -137,12 +137,12 @@ impl From<WitnessError> for Failure<'_> {
     ghost from_gives = { λ e failure. IsRefusal (SaysWitness e) failure };
 
     fn from(error: WitnessError) -> Self {
-        refused(witness_input(&error), error.number(), error.place())
+        refusal_of(witness_input(&error), error.number(), error.place())
     }
 }
 
 // A refusal; running out of memory where there is no number.
-fn refused<'a>(input: Input, number: Option<u32>, place: Option<u64>) -> Failure<'a>
+fn refusal_of<'a>(input: Input, number: Option<u32>, place: Option<u64>) -> Failure<'a>
     ensures { IsRefusal (Says input number place) result }
 {
     match number {

@@ -203,14 +203,14 @@ fn verify_output<'a>(
 {
     if listed {
         verify_list(alloc, schema, query, certificate)?;
-        return Ok(accepted(alloc)?);
+        return Ok(valid_output(alloc)?);
     }
     verify(alloc, schema, query, certificate)?;
-    Ok(accepted(alloc)?)
+    Ok(valid_output(alloc)?)
 }
 
 // What is printed of a certificate that is accepted.
-fn accepted(alloc: Global) -> Result<Output, AllocError>
+fn valid_output(alloc: Global) -> Result<Output, AllocError>
     ensures text { IfOk result (λ output. output.text.items ≡ line (codes "ACCEPTED")) }
     ensures status { IfOk result (λ output. output.status ≡ 0) }
 {

@@ -26,7 +26,7 @@ pub fn read_words<'a>(alloc: Global, words: &'a [&'a str]) -> Result<Task<'a, &'
     }
     let mut command = command_line(alloc)?;
     let matches = command.try_get_matches_from_mut(words)?;
-    match found(alloc, &matches)? {
+    match parsed_task(alloc, &matches)? {
         Some(task) => Ok(task),
         None => {
             let error = command.error(ErrorKind::MissingSubcommand, "no command was given")?;
@@ -160,7 +160,7 @@ fn list_flag<'a>(alloc: Global) -> Arg<'a>
 }
 
 // The task in what a parse has found, if any.
-fn found<'a>(
+fn parsed_task<'a>(
     alloc: Global,
     matches: &ArgMatches<'a>,
 ) -> Result<Option<Task<'a, &'a str>>, Failure<'a>>
@@ -285,7 +285,7 @@ fn tables_named<'a>(
 {
     let mut tables = Vec::with_capacity(alloc, words.len())?;
     for word in words {
-        let Some(table) = cut(word) else {
+        let Some(table) = table_from(word) else {
             return Err(Failure::Unassigned(word));
         };
         tables.push(table)?;
@@ -293,7 +293,7 @@ fn tables_named<'a>(
     Ok(tables)
 }
 
-fn cut<'a>(word: &'a str) -> Option<Table<'a, &'a str>>
+fn table_from<'a>(word: &'a str) -> Option<Table<'a, &'a str>>
     ensures joined { IfSome result (λ table. word.entry.now ≡ word_of (table_by (λ path. path.now) table)) }
     ensures first { IfSome result (λ table. HasNoEquals table.name.now) }
     ensures none { IfNone result (HasNoEquals word.entry.now) }

@@ -1,15 +1,14 @@
 -- Where no rule justifies the call of a plain plan, the first candidate shows two answers, and the search finds them.
-use Rattle.std.proofs.Common.{◌≡◌, ◌≢◌, ◌⊎◌, inl, inr, ℕ, zero, suc, ◌+◌, ◌<◌, Bool, true, false, cond, List, [], ◌∷◌, ◌++◌, drop, filter, length, map, nat_eq, refl, sym, ◌∙◌, ap, subst, arith, true≢false, None, Some, Ok}
-use Rattle.std.specs.List.{AllByRecursion}
+use Rattle.std.proofs.Common.{◌≡◌, ◌≢◌, ◌⊎◌, inl, inr, ℕ, zero, suc, ◌+◌, ◌<◌, Bool, true, false, cond, List, [], ◌∷◌, ◌++◌, drop, filter, length, map, nat_eq, refl, sym, ◌∙◌, ap, subst, arith, true≢false, None, Some, Ok, Err}
 use Rattle.wd_value.specs.Bags.{EachOnce, times}
 use Rattle.wd_value.specs.Rows.{Instance, Row, columns_of}
 use Rattle.wd_value.specs.Keys.{compare_keys, key_columns}
 use Rattle.wd_value.proofs.KeyLaws.{compare_keys-ties}
 use Rattle.wd_schema.specs.Tables.{TableRule}
 use Rattle.std.specs.Ordering.{is_gt}
-use Rattle.wd_plan.specs.Choices.{AreOrderings, AtRows, IsValidChoice}
+use Rattle.wd_plan.specs.Choices.{AreOrderingsOver, IsValidChoice}
 use Rattle.wd_plan.specs.Outcomes.{Agree, RowsOrFault, class_at, ordering_at, outcome}
-use Rattle.wd_plan.specs.Plans.{ClassRule}
+use Rattle.wd_plan.specs.Plans.{ClassRule, Window, Scan, Over}
 use Rattle.wd_plan.specs.Sorting.{IsOrdering, class_columns, order_columns}
 use Rattle.wd_rules.specs.Laws.{IsTrueWitness}
 use Rattle.wd_analyse.specs.declared.analysis.Analysis.TheVariants.{Certified, Open}
@@ -50,11 +49,16 @@ module _ (class : ClassRule) (a b : Row) (same : Tie (class_columns class) a b) 
   in_flipped : IsOrdering class (a ∷ b ∷ []) (1 ∷ 0 ∷ [])
   in_flipped = record { once = flipped_once; in_order = ((λ e. not_greater b a (λ c at. sym (same c at)), tt), (tt, tt)) }
 
+-- over any input no classes have no orderings
+none_over : (r : RowsOrFault) → AreOrderingsOver [] r []
+none_over (Ok rows) = record { number = refl; each = λ n h. absurd (omega arith) }
+none_over (Err fault) = tt
+
 module _ (p : PlainPlan) (instance : Instance) (a b : Row) (input : (choice : List (List ℕ)) → outcome (input_of p) instance choice ≡ Ok (a ∷ b ∷ [])) where
   valid_by : (o : List ℕ) → IsOrdering p.class (a ∷ b ∷ []) o → IsValidChoice (plan_by p) instance (o ∷ [])
   valid_by o is = record {
     number = refl;
-    lawful = (tt, subst (λ (x : RowsOrFault). AtRows x (λ rows. AreOrderings (window_rule p) rows (o ∷ [])) (AllByRecursion (λ (u : List ℕ). u ≡ []) (o ∷ []))) (sym (input (o ∷ []))) (record { number = refl; each = each }));
+    lawful = (((tt, none_over (outcome (Scan p.table p.columns) instance (o ∷ []))), subst (λ (x : RowsOrFault). AreOrderingsOver (window_rule p).classes x (o ∷ [])) (sym (input (o ∷ []))) (record { number = refl; each = each })), none_over (outcome (Over (Window (window_rule p)) (input_of p)) instance (o ∷ [])));
   }
     where
       each : (n : ℕ) → n < length (window_rule p).classes → IsOrdering (class_at (window_rule p) n) (a ∷ b ∷ []) (ordering_at (o ∷ []) n)
@@ -139,7 +143,7 @@ module _ (tables : List TableRule) (p : PlainPlan) (over : IsPlainOver tables p)
   keep_head : (test : Instance → Bool) (x : Instance) (xs : List Instance) → test x ≡ true → filter test (x ∷ xs) ≡ x ∷ filter test xs
   keep_head test x xs e = ap (λ c. cond c (x ∷ filter test xs) (filter test xs)) e
 
-  -- the candidates behind the first
+  -- the candidates after the first
   abbrev others : List Instance
   others = map (candidate tables (plan_by p) (record { node = input_of p; columns = class_columns p.class })) (drop 1 shapes) ++ []
 

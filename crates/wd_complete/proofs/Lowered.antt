@@ -15,7 +15,7 @@ use Rattle.wd_value.specs.declared.order.SortColumn.{SortColumn}
 use Rattle.wd_value.specs.Keys.{key_columns}
 use Rattle.wd_schema.specs.Tables.{TableRule}
 use Rattle.wd_plan.specs.Expressions.{Column}
-use Rattle.wd_plan.specs.Plans.{ClassRule, Scan, Map, Window}
+use Rattle.wd_plan.specs.Plans.{Over, ClassRule, Scan, Map, Window}
 use Rattle.wd_plan.specs.Sorting.{class_columns, order_columns}
 use Rattle.wd_plan.specs.declared.function.Function.TheVariants.{Ranking as Ranked}
 use Rattle.wd_plan.specs.declared.function.FunctionName.TheVariants.{RowNumber}
@@ -447,7 +447,7 @@ module _ (before : List ℕ) (w : BoundWindow) (after : List ℕ) (plain : IsPla
   plan_is : mapped_over column_of (projected_of (map Reference (references_by before k after))) (map Reference (references_by before k after)) (Scan table columns) ≡ plan_by the_plan
   plan_is =
       ap (λ n. mapped_over column_of n (map Reference (references_by before k after)) (Scan table columns)) projected_are
-      ∙ (λ i. Map (over_references (references_by before k after) i) (Window (window_is i) (Map (rows_rebased read i) (Scan table columns))))
+      ∙ (λ i. Over (Map (over_references (references_by before k after) i)) (Over (Window (window_is i)) (Over (Map (rows_rebased read i)) (Scan table columns))))
 
   -- ---- it is plain
 
@@ -543,11 +543,11 @@ module _ (from : JoinedTables) (quantifier : Option Quantifier) (windows : List 
   abbrev the_parts : Parts
   the_parts = plain_parts quantifier windows before function over output after
 
-  abbrev behind : Option GroupedBy → Meant Lowered
-  behind grouped = below_meant from.scope grouped None >>= λ below. all_defined from.scope (option_map grouped_rule grouped) [] windows >>= λ known. selected from.scope below from.plan known the_parts
+  abbrev following : Option GroupedBy → Meant Lowered
+  following grouped = below_meant from.scope grouped None >>= λ below. all_defined from.scope (option_map grouped_rule grouped) [] windows >>= λ known. selected from.scope below from.plan known the_parts
 
   after_is : is_grouped the_parts ≡ false → after_from from the_parts ≡ (all_defined from.scope None [] windows >>= λ known. selected from.scope not_grouped from.plan known the_parts)
-  after_is h = ap (λ b. cond b (Ok (Some no_groups)) (Ok None) >>= behind) h
+  after_is h = ap (λ b. cond b (Ok (Some no_groups)) (Ok None) >>= following) h
 
 pub plain_plan : QueriesArePlain
 plain_plan tables q a pq h =
@@ -557,8 +557,8 @@ plain_plan tables q a pq h =
     let part = bound (named_table tables pq.table.text (called_by pq.table pq.alias)) (λ part. first_admitted part >>= λ start. after_from (together start.before start.current) parts) l.0 l.1 in
     let start = bound (first_admitted part.0) (λ start. after_from (together start.before start.current) parts) l.0 part.2 in
     let from = start_is part.0 start.0 start.1 in
-    let behind = subst (λ (s : FromSoFar). after_from (together s.before s.current) parts ≡ Ok l.0) from start.2 in
-    let alone = sym (after_is part.0 pq.quantifier pq.windows pq.before pq.function pq.over pq.output pq.after pq.not_grouped) ∙ behind in
+    let following = subst (λ (s : FromSoFar). after_from (together s.before s.current) parts ≡ Ok l.0) from start.2 in
+    let alone = sym (after_is part.0 pq.quantifier pq.windows pq.before pq.function pq.over pq.output pq.after pq.not_grouped) ∙ following in
     let known = bound (all_defined part.0.scope None [] pq.windows) (λ known. selected part.0.scope not_grouped part.0.plan known parts) l.0 alone in
     let context = in_list part.0.scope known.0 in
     let outputs = bound (list_meant not_grouped context parts.items) (λ outputs. shown_sorted (shown_by part.0.scope not_grouped (is_distinct pq.quantifier) outputs) no_keys None part.0.plan) l.0 known.2 in

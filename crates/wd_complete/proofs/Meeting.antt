@@ -17,7 +17,7 @@ use Rattle.wd_schema.specs.WellFormed.{IsKeyOf, IsWellFormedTable}
 use Rattle.wd_schema.specs.declared.table.Column.{Column as TableColumn}
 use Rattle.wd_plan.specs.Expressions.{Column}
 use Rattle.wd_plan.specs.Fits.{are_outputs, fits, has_table, is_narrow, is_typed, is_window, kind_of_type, kinds_of, table_kind, width}
-use Rattle.wd_plan.specs.Plans.{PlanTree, Window}
+use Rattle.wd_plan.specs.Plans.{PlanTree, Over, Window, is_scanned}
 use Rattle.wd_close.specs.Closure.{Follows}
 use Rattle.wd_seek.proofs.Building.{rule_at}
 use Rattle.wd_seek.proofs.Meeting.{rule_of}
@@ -27,7 +27,6 @@ use Rattle.wd_facts.specs.Given.{table_rule}
 use Rattle.wd_candidates.specs.Candidates.{candidate_rows}
 use Rattle.wd_candidates.specs.declared.shape.Style.TheVariants.{TiedNull}
 use Rattle.wd_candidates.specs.Fixed.{fixed_value}
-use Rattle.wd_candidates.specs.Origins.{is_scanned}
 use Rattle.wd_candidates.specs.Tied.{is_tied}
 use Rattle.wd_complete.specs.Laws.{IsPlainOver, two_rows}
 use Rattle.wd_complete.specs.Plain.{PlainPlan, input_of, plan_by, window_rule}
@@ -71,7 +70,7 @@ module _ (tables : List TableRule) (p : PlainPlan) (over : IsPlainOver tables p)
   t = rule tables p
 
   abbrev windowed : PlanTree
-  windowed = Window (window_rule p) (input_of p)
+  windowed = Over (Window (window_rule p)) (input_of p)
 
   window_fits : fits tables windowed ≡ true
   window_fits = (and_parts (fits tables windowed) (are_outputs (kinds_of tables windowed) (map Column p.shown)) over.fitting).0

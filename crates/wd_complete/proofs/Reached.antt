@@ -5,7 +5,7 @@ use Rattle.std.proofs.lemmas.Bool.{ltb-true, ltb-false}
 use Rattle.std.proofs.lemmas.List.{append_assoc, length-map}
 use Rattle.wd_schema.specs.Tables.{KeyRule, TableRule}
 use Rattle.wd_plan.specs.Expressions.{Expression, Column}
-use Rattle.wd_plan.specs.Plans.{PlanTree, Scan, Window}
+use Rattle.wd_plan.specs.Plans.{PlanTree, Over, Scan, Window}
 use Rattle.wd_plan.specs.Sorting.{class_columns}
 use Rattle.wd_step_facts.specs.declared.facts.Member.TheVariants as member
 use Rattle.wd_step_facts.specs.Facts.{Fact, FactList, Holds, Same, columns_named, key_fact, moved_fact, moved_facts}
@@ -87,7 +87,7 @@ abbrev map_kept : PlainPlan → Finding → List Fact
 map_kept p f = facts_kept (input_of p) f
 
 abbrev pub window_facts : List TableRule → PlainPlan → Finding → FactList
-window_facts tables p f = given tables (Window (window_rule p) (input_of p)) (map_kept p f) []
+window_facts tables p f = given tables (Over (Window (window_rule p)) (input_of p)) (map_kept p f) []
 
 module _ (tables : List TableRule) (p : PlainPlan) (columns : p.columns ≡ length (rule tables p).columns) (few : length (rule tables p).keys ≤ 64) (key : KeyRule) (k : IsOrderedKey tables p key) where
   -- ---- at the Scan

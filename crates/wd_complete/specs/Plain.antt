@@ -5,7 +5,7 @@ use Rattle.wd_plan.specs.declared.window.Frame.{Frame}
 use Rattle.wd_plan.specs.declared.function.Function.TheVariants.{Ranking as Ranked}
 use Rattle.wd_plan.specs.declared.function.Ranking.TheVariants.{RowNumber}
 use Rattle.wd_plan.specs.Expressions.{Column}
-use Rattle.wd_plan.specs.Plans.{ClassRule, WindowRule, PlanTree, Scan, Map, Window}
+use Rattle.wd_plan.specs.Plans.{ClassRule, WindowRule, PlanTree, Over, Scan, Map, Window}
 use Rattle.wd_plan.specs.Sorting.{class_columns}
 
 pub record PlainPlan : Type 0 where
@@ -29,11 +29,11 @@ window_rule p = record { classes = p.class ∷ []; calls = number_call p.frame �
 
 -- the input of the Window
 abbrev pub input_of : PlainPlan → PlanTree
-input_of p = Map (map Column p.read) (Scan p.table p.columns)
+input_of p = Over (Map (map Column p.read)) (Scan p.table p.columns)
 
 -- the plan: a Scan, a Map of the columns that are read, the Window, and a Map of what is selected
 abbrev pub plan_by : PlainPlan → PlanTree
-plan_by p = Map (map Column p.shown) (Window (window_rule p) (input_of p))
+plan_by p = Over (Map (map Column p.shown)) (Over (Window (window_rule p)) (input_of p))
 
 -- each column is read once, the number is selected, and each column that is read is used by the window or the select list
 pub record IsPlain (p : PlainPlan) : Type 0 where

@@ -15,14 +15,14 @@ use crate::tail::read_marks;
 use crate::words::{eat_text, expect_text, read_identifier};
 use std::alloc::Global;
 use wd_lex::{Terminal, Token};
-use wd_read_cursor::{Reader, Refusal, expect, unexpected};
+use wd_read_cursor::{Reader, Refusal, expect, unexpected_token};
 
 /// Passes over a change if everything that was read holds after it; else refuses its first token.
 fn read_kept(alloc: Global, is_kept: bool, tokens: &[Token]) -> Result<(Item, &[Token]), Refusal>
     ensures { Gives (λ x. (item_said x.0, kinds_of x.1.now)) result (if is_kept then pass (kinds_of tokens.now) (Some note.Statement) else refused (kinds_of tokens.now)) }
 {
     if !is_kept {
-        return Err(unexpected(tokens));
+        return Err(unexpected_token(tokens));
     }
     let (_, rest) = read_marks(alloc, tokens)?;
     Ok((Item::Passed(Note::Statement), rest))

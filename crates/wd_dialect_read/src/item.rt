@@ -14,7 +14,7 @@ use std::alloc::Global;
 use wd_declaration::Identifier;
 use wd_lex::{Terminal, Token, TokenKind};
 use wd_read_cursor::{
-    KeyWord, Reader, Refusal, eat, eat_word, expect, expect_word, list_at, unexpected,
+    KeyWord, Reader, Refusal, eat, eat_word, expect, expect_word, list_at, unexpected_token,
 };
 use wd_read_statements::{KeyWords, Nulls};
 
@@ -161,7 +161,7 @@ fn read_rule(alloc: Global, tokens: &[Token]) -> Result<(Item, &[Token]), Refusa
         return Ok((Item::Key(key), rest));
     }
     let Some(note) = note_at(tokens) else {
-        return Err(unexpected(tokens));
+        return Err(unexpected_token(tokens));
     };
     let (_, rest) = read_marks(alloc, tokens)?;
     Ok((Item::Passed(note), rest))

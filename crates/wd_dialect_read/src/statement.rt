@@ -14,7 +14,7 @@ use crate::said::{Note, SaidTable, Statement};
 use crate::words::{eat_text, expect_text, past_table_words};
 use std::alloc::Global;
 use wd_lex::{Terminal, Token};
-use wd_read_cursor::{KeyWord, Refusal, eat, eat_word, expect, list_at, unexpected};
+use wd_read_cursor::{KeyWord, Refusal, eat, eat_word, expect, list_at, unexpected_token};
 
 /// The tokens after a statement's semicolon.
 #[tactic(auto, unfolding(crate::specs::Reading::past_statement, wd_read_cursor::specs::Cursor::eat))]
@@ -44,7 +44,7 @@ fn read_kept(is_kept: bool, tokens: &[Token]) -> Result<(Statement, &[Token]), R
     ensures { Gives (λ x. (statement_said x.0, kinds_of x.1.now)) result (if is_kept then passed_at (kinds_of tokens.now) else refused (kinds_of tokens.now)) }
 {
     if !is_kept {
-        return Err(unexpected(tokens));
+        return Err(unexpected_token(tokens));
     }
     Ok(pass(tokens))
 }
@@ -55,7 +55,7 @@ fn past_table(tokens: &[Token]) -> Result<&[Token], Refusal>
     ensures { Gives (λ r. kinds_of r.now) result (table_end (kinds_of tokens.now)) }
 {
     if eat_text(tokens, "inherits").is_some() {
-        return Err(unexpected(tokens));
+        return Err(unexpected_token(tokens));
     }
     Ok(past_statement(tokens))
 }

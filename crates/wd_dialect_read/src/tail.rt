@@ -9,7 +9,7 @@ ghost use Rattle.wd_dialect_read.specs.Reading.{begins_tail, marks_at, tail_at, 
 use crate::said::{Mark, Note};
 use std::alloc::Global;
 use wd_lex::{Terminal, Token, TokenKind};
-use wd_read_cursor::{Refusal, unexpected};
+use wd_read_cursor::{Refusal, unexpected_token};
 
 // The words that begin what is passed over after a column's type.
 const COLUMN_NOTES: [(&[u8], Note); 9] = [
@@ -149,7 +149,7 @@ pub fn read_tail(alloc: Global, tokens: &[Token]) -> Result<(Vec<Mark>, &[Token]
     ensures { Gives (λ x. (x.0.items, kinds_of x.1.now)) result (tail_at (kinds_of tokens.now)) }
 {
     if !begins_tail(tokens) {
-        return Err(unexpected(tokens));
+        return Err(unexpected_token(tokens));
     }
     let (marks, rest) = read_marks(alloc, tokens)?;
     Ok((marks, rest))

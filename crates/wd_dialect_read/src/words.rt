@@ -9,7 +9,7 @@ ghost use Rattle.wd_dialect_read.specs.Reading.{begins_among, eat_text, expect_t
 use std::alloc::Global;
 use wd_declaration::Identifier;
 use wd_lex::{Token, TokenKind};
-use wd_read_cursor::{Name, Refusal, name_at, unexpected};
+use wd_read_cursor::{Name, Refusal, name_at, unexpected_token};
 
 /// The tokens after this word, if they begin with it.
 #[tactic(auto, unfolding(crate::specs::Reading::eat_text))]
@@ -43,7 +43,7 @@ pub fn read_identifier(alloc: Global, tokens: &[Token]) -> Result<(Identifier, &
     let Name { text, quoted: _ } = name;
     match Identifier::new(text) {
         Some(identifier) => Ok((identifier, rest)),
-        None => Err(unexpected(tokens)),
+        None => Err(unexpected_token(tokens)),
     }
 }
 
@@ -54,7 +54,7 @@ pub fn expect_text<'t>(tokens: &'t [Token], word: &str) -> Result<&'t [Token], R
 {
     match eat_text(tokens, word) {
         Some(rest) => Ok(rest),
-        None => Err(unexpected(tokens)),
+        None => Err(unexpected_token(tokens)),
     }
 }
 

@@ -16,7 +16,7 @@ use crate::table::declared_tables;
 use std::alloc::Global;
 use wd_declaration::{TextError, schema_text};
 use wd_dialect_read::{Statement, read_statements};
-use wd_dialect_text::masked;
+use wd_dialect_text::mask_text;
 use wd_lex::{LexError, Token, lex};
 use wd_read_cursor::{Refusal, token_place};
 
@@ -46,7 +46,7 @@ pub fn read_dialect(alloc: Global, text: &[u8]) -> Result<DialectSchema, Dialect
     ensures refused { OnOk result ((refusal : Refused) → refusal ≢ DialectError.TooLong → HasCause text.now refusal → ⊥) }
 {
     let statements = statements_of(alloc, text)?;
-    let text = respelled(alloc, &statements)?;
+    let text = respell(alloc, &statements)?;
     Ok(DialectSchema { statements, text })
 }
 
@@ -55,7 +55,7 @@ fn statements_of(alloc: Global, text: &[u8]) -> Result<Vec<Statement>, DialectEr
     ensures says { IfOk result (λ statements. Says text.now (map statement_said statements.items)) }
     ensures cause { IfErr result (λ refusal. refusal ≢ DialectError.OutOfMemory → HasCause text.now refusal) }
 {
-    let other = masked(alloc, text)?;
+    let other = mask_text(alloc, text)?;
     let tokens = match lex(alloc, &other) {
         Ok(tokens) => tokens,
         Err(error) => return Err(lexer_refusal(error)),
@@ -90,7 +90,7 @@ fn refusal_at(tokens: &[Token], refusal: Refusal) -> DialectError
 }
 
 /// The text of the profile that spells the tables of statements.
-fn respelled(alloc: Global, statements: &[Statement]) -> Result<String, DialectError>
+fn respell(alloc: Global, statements: &[Statement]) -> Result<String, DialectError>
     ensures spells { IfOk result (λ text. Spells (string_bytes text) (tables_of (map statement_said statements.now))) }
     ensures long { IfErr result (λ refusal. refusal ≢ DialectError.OutOfMemory → (refusal ≡ DialectError.TooLong) × (most_bytes < length (printed (spell_schema (schema_of (tables_of (map statement_said statements.now))))))) }
 {

@@ -4,4 +4,4 @@
 mod characters;
 mod mask;
 
-pub use mask::{State, Step, masked, step};
+pub use mask::{State, Step, mask_text, step};

@@ -83,7 +83,7 @@ fn between(byte: u8, next: u8) -> Step
 
 /// The step of a byte in a text E'..'.
 #[tactic(auto, unfolding(crate::specs::Masked::step))]
-fn escaped(byte: u8, next: u8) -> Step
+fn in_escape_string(byte: u8, next: u8) -> Step
     ensures { result ≡ spec.step State.Escaped byte next }
 {
     if byte == b'\\' {
@@ -128,7 +128,7 @@ pub fn step(state: State, byte: u8, next: u8) -> Step
         State::Command => (b' ', State::Command),
         State::Text | State::Name | State::Line => (byte, state),
         State::Prefix => (byte, State::Escaped),
-        State::Escaped => escaped(byte, next),
+        State::Escaped => in_escape_string(byte, next),
         State::Skipped if byte == b'\'' => (b'_', State::Escaped),
         State::Skipped => (byte, State::Escaped),
         State::Opening(depth) => (byte, State::Block(depth)),
@@ -139,7 +139,7 @@ pub fn step(state: State, byte: u8, next: u8) -> Step
 }
 
 /// The text in the characters of the profile.
-pub fn masked(alloc: Global, text: &[u8]) -> Result<Vec<u8>, AllocError>
+pub fn mask_text(alloc: Global, text: &[u8]) -> Result<Vec<u8>, AllocError>
     ensures masked { IfOk result (λ found. found.items ≡ spec.masked text.now) }
 
     // Each byte stays at its place.

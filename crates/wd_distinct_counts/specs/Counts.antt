@@ -36,7 +36,7 @@ closes_call [] = false
 closes_call (bracket ∷ tokens) = closes bracket.kind && not (begins goes_on tokens)
 
 abbrev pub if_closed : List Token → List Token → Option (List Token)
-if_closed column behind = if is_column column && closes_call behind then Some column else None
+if_closed column following = if is_column column && closes_call following then Some column else None
 
 -- the first `count` tokens, if they are a column and the call closes after them
 abbrev pub closed_after : ℕ → List Token → Option (List Token)

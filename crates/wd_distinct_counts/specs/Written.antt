@@ -13,13 +13,13 @@ use Rattle.wd_distinct_counts.specs.Counts.{counted}
 use Rattle.wd_distinct_counts.specs.Pieces.{Grouping, condition_of}
 
 -- a comma after keys
-abbrev pub comma_behind : List Token → Token → List Token
-comma_behind [] word = []
-comma_behind (key ∷ keys) word = added m.Comma word ∷ []
+abbrev pub comma_after : List Token → Token → List Token
+comma_after [] word = []
+comma_after (key ∷ keys) word = added m.Comma word ∷ []
 
 -- keys, c
 abbrev pub columns : List Token → List Token → Token → List Token
-columns keys column word = all_placed keys word ++ comma_behind keys word ++ all_placed column word
+columns keys column word = all_placed keys word ++ comma_after keys word ++ all_placed column word
 
 -- FROM ( SELECT
 unfoldable pub opening : Token → List Token

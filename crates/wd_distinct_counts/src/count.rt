@@ -7,7 +7,7 @@ ghost use Rattle.wd_distinct_counts.specs.Counts as spec;
 ghost use Rattle.wd_distinct_on.specs.Kinds as kinds;
 
 use wd_clauses::RespellError;
-use wd_distinct_on::{cut, strip};
+use wd_distinct_on::{split_at_place, strip};
 use wd_grouping::{add_its_table, begins_dot, is_column, is_over};
 use wd_lex::{Terminal, Token, TokenKind};
 use wd_using::{begins_distinct, opens};
@@ -83,8 +83,8 @@ fn closes_call(tokens: &[Token]) -> bool
 fn if_closed(count: usize, tokens: &[Token]) -> Option<&[Token]>
     ensures { Finds (λ column. column.now) result (spec.closed_after count tokens.now) }
 {
-    let (column, behind) = cut(count, tokens);
-    if is_column(column) && closes_call(behind) {
+    let (column, following) = split_at_place(count, tokens);
+    if is_column(column) && closes_call(following) {
         return Some(column);
     }
     None
@@ -128,7 +128,7 @@ fn is_same_column(column: &[Token], other: &[Token]) -> bool
 }
 
 /// The one column that is counted, with that of a further call.
-fn joined<'t>(so_far: Option<&'t [Token]>, found: Option<&'t [Token]>) -> Option<&'t [Token]>
+fn common_column<'t>(so_far: Option<&'t [Token]>, found: Option<&'t [Token]>) -> Option<&'t [Token]>
     ensures { Finds (λ column. column.now) result (spec.joined (option_map (λ column. column.now) so_far.entry) (option_map (λ column. column.now) found.entry)) }
 {
     match (so_far, found) {
@@ -153,7 +153,7 @@ pub fn column_in<'t>(
     let mut rest = tokens;
     while let [first, after @ ..] = rest {
         if begins_call(last, first, after) {
-            match joined(column, counted_at(last, after)) {
+            match common_column(column, counted_at(last, after)) {
                 Some(one) => column = Some(one),
                 None => return None,
             }
@@ -211,7 +211,7 @@ pub fn are_theirs(column: &[Token], columns: &[&[Token]], tokens: &[Token]) -> b
 {
     let mut rest = tokens;
     while let [_first, after @ ..] = rest {
-        let (found, _behind) = cut(3, rest);
+        let (found, _after) = split_at_place(3, rest);
         if begins_dot(after) && !is_one_of(found, column, columns) {
             return false;
         }

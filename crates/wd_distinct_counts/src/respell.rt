@@ -10,10 +10,12 @@ ghost use Rattle.wd_using.specs.Named.{pieces};
 
 use crate::count::{are_theirs, column_in};
 use crate::select::{Grouping, grouping_of};
-use crate::write::written;
+use crate::write::write_select;
 use std::alloc::{AllocError, Global};
 use wd_clauses::{RespellError, parts};
-use wd_distinct_on::{Selects, added_name, cut, respelled_backwards, starts_with_select};
+use wd_distinct_on::{
+    Selects, added_name, respelled_backwards, split_at_place, starts_with_select,
+};
 use wd_grouping::{is_column, one_table, tables_called};
 use wd_lex::Token;
 use wd_using::{Select, select_at};
@@ -67,7 +69,7 @@ fn over_tables(
         [from, ..] if are_known(select, grouping, column, keys) => {
             let alias = added_name(alloc, "grouped", from)?;
             let one = tables_called(from, &alias);
-            let tokens = written(alloc, front, select, grouping, &one, column)?;
+            let tokens = write_select(alloc, front, select, grouping, &one, column)?;
             Ok(Some(tokens))
         }
         _ => Ok(None),
@@ -87,7 +89,7 @@ fn over_table(
 {
     match one_table(select.tables) {
         Some(one) => {
-            let tokens = written(alloc, front, select, grouping, &one, column)?;
+            let tokens = write_select(alloc, front, select, grouping, &one, column)?;
             Ok(Some(tokens))
         }
         None => {
@@ -153,7 +155,7 @@ fn respelled_at(
 ) -> Result<Option<Vec<Token>>, RespellError>
     ensures { MayWrite (λ x. x.items) result (spec.respelled_at place tokens.now) }
 {
-    let (front, rest) = cut(place, tokens);
+    let (front, rest) = split_at_place(place, tokens);
     match select_at(rest) {
         Some(select) => {
             let tokens = respelled_select(alloc, front, &select)?;

@@ -42,7 +42,7 @@ fn grouping_at(tokens: &[Token]) -> Grouping<'_>
 pub fn condition_of(clauses: &[Token]) -> &[Token]
     ensures { result.now ≡ spec.condition_of clauses.now }
 {
-    let (condition, _behind) = split(Stop::Later, clauses);
+    let (condition, _after) = split(Stop::Later, clauses);
     condition
 }
 
@@ -50,6 +50,6 @@ pub fn condition_of(clauses: &[Token]) -> &[Token]
 pub fn grouping_of(clauses: &[Token]) -> Grouping<'_>
     ensures { grouping_pieces result ≡ spec.grouping_of clauses.now }
 {
-    let (_condition, behind) = split(Stop::Later, clauses);
-    grouping_at(behind)
+    let (_condition, following) = split(Stop::Later, clauses);
+    grouping_at(following)
 }

@@ -10,22 +10,22 @@ ghost use Rattle.wd_using.specs.Named.{pieces};
 use crate::count::add_counted;
 use crate::select::{Grouping, condition_of};
 use std::alloc::Global;
-use wd_clauses::{RespellError, add, add_all, added, copied, copy_token};
+use wd_clauses::{RespellError, add, add_all, added_terminal, copy_token, copy_tokens};
 use wd_distinct_on::{add_all_placed, add_terminals};
 use wd_grouping::{OneTable, add_closing, add_qualified};
 use wd_lex::{Terminal, Token};
 use wd_using::Select;
 
 /// Adds a comma after keys.
-fn add_comma_behind(
+fn add_comma_after(
     written: &mut Vec<Token>,
     keys: &[Token],
     word: &Token,
 ) -> Result<(), RespellError>
-    ensures { Writes written.old.items written.new.items result (spec.comma_behind keys.now word.now) }
+    ensures { Writes written.old.items written.new.items result (spec.comma_after keys.now word.now) }
 {
     if !keys.is_empty() {
-        add(written, added(Terminal::Comma, word))?;
+        add(written, added_terminal(Terminal::Comma, word))?;
     }
     Ok(())
 }
@@ -40,7 +40,7 @@ fn add_columns(
     ensures { Writes written.old.items written.new.items result (spec.columns keys.now column.now word.now) }
 {
     add_all_placed(written, keys, word)?;
-    add_comma_behind(written, keys, word)?;
+    add_comma_after(written, keys, word)?;
     add_all_placed(written, column, word)?;
     Ok(())
 }
@@ -118,7 +118,7 @@ fn add_tail(
 }
 
 /// The select that counts each value of a column once, and what follows it, after these tokens.
-pub fn written(
+pub fn write_select(
     alloc: Global,
     front: &[Token],
     select: &Select,
@@ -128,7 +128,7 @@ pub fn written(
 ) -> Result<Vec<Token>, RespellError>
     ensures { Makes (λ x. x.items) (λ x. x) result (front.now ++ spec.written (pieces select.now) (grouping_pieces grouping.now) (one_table one.now) column.now) }
 {
-    let mut written = copied(alloc, front)?;
+    let mut written = copy_tokens(alloc, front)?;
     add_head(&mut written, select, one.qualifier)?;
     add_inner(&mut written, select, one, grouping.keys, column)?;
     add_by_columns(&mut written, one, grouping.keys, column)?;

@@ -1,4 +1,4 @@
--- Tokens written one behind another.
+-- Tokens written one after another.
 use Rattle.std.proofs.Common.{◌≡◌, ◌++◌, List, [], ◌∷◌, append_assoc}
 use Rattle.wd_lex.specs.declared.token.Token.{Token}
 

@@ -20,9 +20,9 @@ column_of (x ∷ dot ∷ c ∷ []) = if is_name x.kind && is_dot dot.kind && is_
 column_of _ = None
 
 -- the name after AS
-abbrev pub behind_as : List Token → Option Token
-behind_as (word ∷ name ∷ []) = if is_as word.kind && is_name name.kind then Some name else None
-behind_as _ = None
+abbrev pub after_as : List Token → Option Token
+after_as (word ∷ name ∷ []) = if is_as word.kind && is_name name.kind then Some name else None
+after_as _ = None
 
 abbrev pub item_with : List Token → Option Token → Option NamedItem
 item_with tokens None = column_of tokens
@@ -30,7 +30,7 @@ item_with tokens (Some name) = Some (record { name = name; value = take (length 
 
 -- value AS c, or a column
 abbrev pub item_of : List Token → Option NamedItem
-item_of tokens = item_with tokens (behind_as (drop (length tokens - 2) tokens))
+item_of tokens = item_with tokens (after_as (drop (length tokens - 2) tokens))
 
 abbrev pub with_item : Option NamedItem → Option (List NamedItem) → Option (List NamedItem)
 with_item None items = None

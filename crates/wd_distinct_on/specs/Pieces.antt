@@ -36,18 +36,18 @@ ends [] = true
 ends (token ∷ tokens) = ends_level token.kind
 
 -- the select, by the FROM clause, the order, and the end of the level after its items
-abbrev pub behind_items : Token → Token → List Token → List Token → List Token → Option Pieces
-behind_items select distinct keys items tokens =
+abbrev pub after_items : Token → Token → List Token → List Token → List Token → Option Pieces
+after_items select distinct keys items tokens =
     let order = order_at (drop (reach Later tokens) tokens) in
     if begins is_from tokens && ends order.after then Some (record { select = select; distinct = distinct; keys = keys; items = items; from = take (reach Later tokens) tokens; order = order })
     else None
 
 -- the select, by the items after the bracket that closes its keys
-abbrev pub behind_keys : Token → Token → List Token → Option ℕ → Option Pieces
-behind_keys select distinct tokens None = None
-behind_keys select distinct tokens (Some place) =
-    let behind = drop (place + 1) tokens in
-    behind_items select distinct (take place tokens) (take (reach From behind) behind) (drop (reach From behind) behind)
+abbrev pub after_keys : Token → Token → List Token → Option ℕ → Option Pieces
+after_keys select distinct tokens None = None
+after_keys select distinct tokens (Some place) =
+    let following = drop (place + 1) tokens in
+    after_items select distinct (take place tokens) (take (reach From following) following) (drop (reach From following) following)
 
 -- whether tokens begin with SELECT DISTINCT ON (
 abbrev pub begins_select : List Token → Bool
@@ -57,5 +57,5 @@ begins_select _ = false
 -- the select with DISTINCT ON that begins here
 unfoldable pub select_at : List Token → Option Pieces
 select_at (select ∷ distinct ∷ on ∷ bracket ∷ tokens) =
-    if is_select select.kind && is_distinct distinct.kind && is_on on.kind && opens bracket.kind then behind_keys select distinct tokens (closing tokens) else None
+    if is_select select.kind && is_distinct distinct.kind && is_on on.kind && opens bracket.kind then after_keys select distinct tokens (closing tokens) else None
 select_at _ = None

@@ -38,8 +38,8 @@ pub fn column_of(tokens: &[Token]) -> Option<Item<'_>>
 }
 
 /// The name after AS.
-fn behind_as(tokens: &[Token]) -> Option<&Token>
-    ensures { Finds (λ name. name.now) result (spec.behind_as tokens.now) }
+fn after_as(tokens: &[Token]) -> Option<&Token>
+    ensures { Finds (λ name. name.now) result (spec.after_as tokens.now) }
 {
     match tokens {
         [word, name] if is_as(&word.kind) && is_name(&name.kind) => Some(name),
@@ -52,7 +52,7 @@ pub fn item_of(tokens: &[Token]) -> Option<Item<'_>>
     ensures { Finds named_item result (spec.item_of tokens.now) }
 {
     let count = tokens.len().saturating_sub(2);
-    match behind_as(&tokens[count..]) {
+    match after_as(&tokens[count..]) {
         Some(name) => Some(Item {
             name,
             value: &tokens[..count],

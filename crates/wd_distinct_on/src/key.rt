@@ -97,14 +97,14 @@ pub fn strip<'t>(value: &[Token], tokens: &'t [Token]) -> Option<&'t [Token]>
     let mut left = value;
     let mut rest = tokens;
     while let [first, after @ ..] = left {
-        let [token, behind @ ..] = rest else {
+        let [token, following @ ..] = rest else {
             return None;
         };
         if !is_same(&first.kind, &token.kind) {
             return None;
         }
         left = after;
-        rest = behind;
+        rest = following;
     }
     Some(rest)
 }

@@ -8,8 +8,8 @@ ghost use Rattle.wd_distinct_on.specs.Respelled as spec;
 use crate::item::{Item, are_distinct, items_of};
 use crate::key::{Key, fits, keys_of};
 use crate::select::{Select, begins_select, select_at};
-use crate::selects::{Selects, cut, respelled_backwards};
-use crate::write::written;
+use crate::selects::{Selects, respelled_backwards, split_at_place};
+use crate::write::write_select;
 use std::alloc::{AllocError, Global};
 use wd_clauses::{RespellError, parts};
 use wd_lex::Token;
@@ -62,7 +62,7 @@ fn if_fit(
     ensures { spec.MayWrite (λ x. x.items) result (spec.if_fit front.now (pieces select.now) (map named_item items.now) (map sort_key keys.now) (map sort_key orders.now)) }
 {
     if are_distinct(items) && fits(keys, orders) {
-        let tokens = written(alloc, front, select, items, keys, orders)?;
+        let tokens = write_select(alloc, front, select, items, keys, orders)?;
         return Ok(Some(tokens));
     }
     Ok(None)
@@ -132,7 +132,7 @@ fn respelled_at(
 ) -> Result<Option<Vec<Token>>, RespellError>
     ensures { spec.MayWrite (λ x. x.items) result (spec.respelled_at place tokens.now) }
 {
-    let (front, rest) = cut(place, tokens);
+    let (front, rest) = split_at_place(place, tokens);
     match select_at(rest) {
         Some(select) => {
             let tokens = respelled_select(alloc, front, &select)?;

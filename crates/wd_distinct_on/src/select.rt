@@ -75,17 +75,17 @@ fn begins_from(tokens: &[Token]) -> bool
 }
 
 /// A select, by what follows its items.
-fn behind_items<'t>(
+fn after_items<'t>(
     select: &'t Token,
     distinct: &'t Token,
     keys: &'t [Token],
     items: &'t [Token],
     tokens: &'t [Token],
 ) -> Option<Select<'t>>
-    ensures { Finds pieces result (spec.behind_items select.now distinct.now keys.now items.now tokens.now) }
+    ensures { Finds pieces result (spec.after_items select.now distinct.now keys.now items.now tokens.now) }
 {
-    let (from, behind) = split(Stop::Later, tokens);
-    let order = order_at(behind);
+    let (from, following) = split(Stop::Later, tokens);
+    let order = order_at(following);
     if begins_from(tokens) && ends(order.after) {
         return Some(Select {
             select,
@@ -100,17 +100,13 @@ fn behind_items<'t>(
 }
 
 /// A select, by what follows the bracket that opens before its keys.
-fn behind_keys<'t>(
-    select: &'t Token,
-    distinct: &'t Token,
-    tokens: &'t [Token],
-) -> Option<Select<'t>>
-    ensures { Finds pieces result (spec.behind_keys select.now distinct.now tokens.now (closing tokens.now)) }
+fn after_keys<'t>(select: &'t Token, distinct: &'t Token, tokens: &'t [Token]) -> Option<Select<'t>>
+    ensures { Finds pieces result (spec.after_keys select.now distinct.now tokens.now (closing tokens.now)) }
 {
     match closing(tokens) {
         Some(place) => {
             let (items, rest) = split(Stop::From, &tokens[place + 1..]);
-            behind_items(select, distinct, &tokens[..place], items, rest)
+            after_items(select, distinct, &tokens[..place], items, rest)
         }
         None => None,
     }
@@ -149,7 +145,7 @@ pub fn select_at(tokens: &[Token]) -> Option<Select<'_>>
                 && is_on(&on.kind)
                 && opens(&bracket.kind)
             {
-                return behind_keys(select, distinct, rest);
+                return after_keys(select, distinct, rest);
             }
             None
         }

@@ -6,7 +6,7 @@ ghost use Rattle.wd_distinct_on.specs.Respelled.{Gives, MayWrite};
 ghost use Rattle.wd_distinct_on.specs.Selects as spec;
 
 use std::alloc::Global;
-use wd_clauses::{RespellError, copied};
+use wd_clauses::{RespellError, copy_tokens};
 use wd_lex::Token;
 
 // The most tokens of a query.
@@ -35,9 +35,9 @@ pub trait Selects {
 }
 
 /// The tokens before a place, and those from there on.
-pub fn cut(place: usize, tokens: &[Token]) -> (&[Token], &[Token])
+pub fn split_at_place(place: usize, tokens: &[Token]) -> (&[Token], &[Token])
     ensures before { result.0.now ≡ take place tokens.now }
-    ensures behind { result.1.now ≡ drop place tokens.now }
+    ensures following { result.1.now ≡ drop place tokens.now }
 {
     let place = place.min(tokens.len());
     (&tokens[..place], &tokens[place..])
@@ -47,7 +47,7 @@ pub fn cut(place: usize, tokens: &[Token]) -> (&[Token], &[Token])
 fn fewer<S: Selects>(selects: &S, left: usize, place: usize, tokens: &[Token]) -> usize
     ensures { result ≡ spec.fewer (S.starts selects.now) left (drop place tokens.now) }
 {
-    let (_, rest) = cut(place, tokens);
+    let (_, rest) = split_at_place(place, tokens);
     if selects.begins(rest) {
         return left.saturating_sub(1);
     }
@@ -68,7 +68,7 @@ pub fn respelled_backwards<S: Selects>(
     if tokens.len() > MOST_TOKENS {
         return Err(RespellError::TooLong);
     }
-    let mut query = copied(alloc, tokens)?;
+    let mut query = copy_tokens(alloc, tokens)?;
     let mut left = most;
     let mut place = tokens.len();
     while place > 0 {

@@ -9,7 +9,7 @@ use crate::item::Item;
 use crate::key::Key;
 use crate::select::Select;
 use std::alloc::{AllocError, Global};
-use wd_clauses::{RespellError, add, add_all, added, copied, copy_token};
+use wd_clauses::{RespellError, add, add_all, added_terminal, copy_token, copy_tokens};
 use wd_lex::{Terminal, Token, TokenKind};
 use wd_value::Text;
 
@@ -45,7 +45,7 @@ pub fn add_terminals(
 {
     let mut rest = terminals;
     while let [terminal, after @ ..] = rest {
-        add(written, added(*terminal, word))?;
+        add(written, added_terminal(*terminal, word))?;
         rest = after;
     }
     Ok(())
@@ -90,7 +90,7 @@ fn add_names(written: &mut Vec<Token>, items: &[Item], word: &Token) -> Result<(
     while let [item, after @ ..] = rest {
         add(written, copy_token(item.name)?)?;
         if !after.is_empty() {
-            add(written, added(Terminal::Comma, word))?;
+            add(written, added_terminal(Terminal::Comma, word))?;
         }
         rest = after;
     }
@@ -106,7 +106,7 @@ fn add_keys(written: &mut Vec<Token>, keys: &[Key], word: &Token) -> Result<(), 
         add_all(written, key.value)?;
         add_all(written, key.rest)?;
         if !after.is_empty() {
-            add(written, added(Terminal::Comma, word))?;
+            add(written, added_terminal(Terminal::Comma, word))?;
         }
         rest = after;
     }
@@ -117,7 +117,7 @@ fn add_keys(written: &mut Vec<Token>, keys: &[Key], word: &Token) -> Result<(), 
 fn add_head(written: &mut Vec<Token>, select: &Select, items: &[Item]) -> Result<(), RespellError>
     ensures { Writes written.old.items written.new.items result (spec.head (pieces select.now) (map named_item items.now)) }
 {
-    add(written, added(Terminal::Select, select.distinct))?;
+    add(written, added_terminal(Terminal::Select, select.distinct))?;
     add_names(written, items, select.distinct)?;
     add_terminals(
         written,
@@ -155,7 +155,7 @@ fn add_number(
 ) -> Result<(), RespellError>
     ensures { Writes written.old.items written.new.items result (spec.number (map sort_key keys.now) word.now) }
 {
-    add(written, added(Terminal::Comma, word))?;
+    add(written, added_terminal(Terminal::Comma, word))?;
     add(written, added_word(alloc, "row_number", word)?)?;
     add_over(written, word)?;
     add_keys(written, keys, word)?;
@@ -187,7 +187,7 @@ fn add_is_first(alloc: Global, written: &mut Vec<Token>, word: &Token) -> Result
     ensures { Writes written.old.items written.new.items result (spec.is_first word.now) }
 {
     add(written, added_name(alloc, "distinct on", word)?)?;
-    add(written, added(Terminal::Equals, word))?;
+    add(written, added_terminal(Terminal::Equals, word))?;
     add(
         written,
         Token {
@@ -203,7 +203,7 @@ fn add_first(alloc: Global, written: &mut Vec<Token>, word: &Token) -> Result<()
     ensures { Writes written.old.items written.new.items result (spec.first word.now) }
 {
     add(written, added_name(alloc, "distinct", word)?)?;
-    add(written, added(Terminal::Where, word))?;
+    add(written, added_terminal(Terminal::Where, word))?;
     add_is_first(alloc, written, word)?;
     Ok(())
 }
@@ -224,7 +224,7 @@ fn add_tail(alloc: Global, written: &mut Vec<Token>, select: &Select) -> Result<
 
 /// The select that replaces one with DISTINCT ON, and what follows it, after these tokens.
 #[tactic(auto, unfolding(crate::specs::Written::written))]
-pub fn written(
+pub fn write_select(
     alloc: Global,
     front: &[Token],
     select: &Select,
@@ -234,7 +234,7 @@ pub fn written(
 ) -> Result<Vec<Token>, RespellError>
     ensures { Makes (λ x. x.items) (λ x. x) result (front.now ++ spec.written (pieces select.now) (map named_item items.now) (map sort_key keys.now) (map sort_key orders.now)) }
 {
-    let mut written = copied(alloc, front)?;
+    let mut written = copy_tokens(alloc, front)?;
     add_head(&mut written, select, items)?;
     add_number(alloc, &mut written, keys, select.distinct)?;
     add_order(alloc, &mut written, select, orders)?;

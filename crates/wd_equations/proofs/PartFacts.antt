@@ -9,30 +9,30 @@ use Rattle.wd_equations.specs.Parts.{and_parts, part_from, parts_of}
 abbrev pub now : Bor (List Token) → List Token
 now part = part.now
 
-behind_one : (token : Token) (tokens : List Token) → take (length (token ∷ tokens) - 1) tokens ≡ tokens
-behind_one token tokens = grind (arith, common_steps)
+after_one : (token : Token) (tokens : List Token) → take (length (token ∷ tokens) - 1) tokens ≡ tokens
+after_one token tokens = grind (arith, common_steps)
 
-and_some : (tokens behind : List Token) (more : List Token → List (List Token)) → 1 ≤ length behind → and_parts tokens behind more ≡ more (take (length behind - 1) (drop 1 behind))
+and_some : (tokens following : List Token) (more : List Token → List (List Token)) → 1 ≤ length following → and_parts tokens following more ≡ more (take (length following - 1) (drop 1 following))
 and_some tokens [] more le = absurd (omega arith)
-and_some tokens (token ∷ behind) more le = ap more (sym (behind_one token behind))
+and_some tokens (token ∷ following) more le = ap more (sym (after_one token following))
 
-pub parts_more : (n i count : ℕ) (first next : Terminal) (front : List (Bor (List Token))) (part : Bor (List Token)) (rest behind : List Token) (total : List (List Token))
-    → i < n → count ≡ part_from first 0 0 rest → part.now ≡ take count rest → behind ≡ drop count rest → 1 ≤ length behind
+pub parts_more : (n i count : ℕ) (first next : Terminal) (front : List (Bor (List Token))) (part : Bor (List Token)) (rest following : List Token) (total : List (List Token))
+    → i < n → count ≡ part_from first 0 0 rest → part.now ≡ take count rest → following ≡ drop count rest → 1 ≤ length following
     → map now front ++ parts_of (n - i) first next rest ≡ total
-    → map now (front ++ part ∷ []) ++ parts_of (n - (i + 1)) next first (take (length behind - 1) (drop 1 behind)) ≡ total
+    → map now (front ++ part ∷ []) ++ parts_of (n - (i + 1)) next first (take (length following - 1) (drop 1 following)) ≡ total
 unfolding parts_of
-parts_more n i count first next front part rest behind total lt counted front_is back le so_far =
+parts_more n i count first next front part rest following total lt counted front_is back le so_far =
     let k : n - i ≡ suc (n - (i + 1)) = omega arith in
-    let after = parts_of (n - (i + 1)) next first (take (length behind - 1) (drop 1 behind)) in
+    let after = parts_of (n - (i + 1)) next first (take (length following - 1) (drop 1 following)) in
     let one : parts_of (n - i) first next rest ≡ take count rest ∷ after =
-    rw (k, ← counted, ← back) (and_some rest behind (λ b. take count rest ∷ parts_of (n - (i + 1)) next first b) le) in
+    rw (k, ← counted, ← back) (and_some rest following (λ b. take count rest ∷ parts_of (n - (i + 1)) next first b) le) in
     rw (map_push now front part, append_assoc (map now front) (part.now ∷ []) after, front_is) (ap (λ ys. map now front ++ ys) (sym one) ∙ so_far)
 
-pub parts_none : (n count : ℕ) (first next : Terminal) (tokens behind : List Token) → count ≡ part_from first 0 0 tokens → behind ≡ drop count tokens → length behind < 1 → parts_of n first next tokens ≡ tokens ∷ []
+pub parts_none : (n count : ℕ) (first next : Terminal) (tokens following : List Token) → count ≡ part_from first 0 0 tokens → following ≡ drop count tokens → length following < 1 → parts_of n first next tokens ≡ tokens ∷ []
 unfolding parts_of
-parts_none zero count first next tokens behind counted back lt = refl
+parts_none zero count first next tokens following counted back lt = refl
 parts_none (suc n) count first next tokens [] counted back lt = rw (← counted, ← back) refl
-parts_none (suc n) count first next tokens (token ∷ behind) counted back lt = absurd (omega arith)
+parts_none (suc n) count first next tokens (token ∷ following) counted back lt = absurd (omega arith)
 
 pub parts_over : (n i : ℕ) (first next : Terminal) (tokens : List Token) → n ≤ i → parts_of (n - i) first next tokens ≡ tokens ∷ []
 unfolding parts_of

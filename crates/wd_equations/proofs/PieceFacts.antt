@@ -9,14 +9,14 @@ use Rattle.wd_equations.specs.Given.{Fails}
 use Rattle.wd_equations.specs.Expanded.{piece_tokens, pieces_tokens}
 use Rattle.wd_equations.proofs.AddFacts.{adds_fail, adds_more}
 
-behind : (piece : Piece) (pieces : List Piece) → take (length (piece ∷ pieces) - 1) pieces ≡ pieces
-behind piece pieces = grind (arith, common_steps)
+following : (piece : Piece) (pieces : List Piece) → take (length (piece ∷ pieces) - 1) pieces ≡ pieces
+following piece pieces = grind (arith, common_steps)
 
 pieces_one : (inner : List Token → List Token) (at : Span) (parts : List (List Token)) (pieces : List Piece) (other : Piece) → 1 ≤ length pieces
     → pieces_tokens inner at parts pieces ≡ piece_tokens inner at parts (get_or pieces 0 other) ++ pieces_tokens inner at parts (take (length pieces - 1) (drop 1 pieces))
 unfolding pieces_tokens
 pieces_one inner at parts [] other le = absurd (omega arith)
-pieces_one inner at parts (piece ∷ pieces) other le = ap (λ more. piece_tokens inner at parts piece ++ pieces_tokens inner at parts more) (sym (behind piece pieces))
+pieces_one inner at parts (piece ∷ pieces) other le = ap (λ more. piece_tokens inner at parts piece ++ pieces_tokens inner at parts more) (sym (following piece pieces))
 
 pub pieces_more : (inner : List Token → List Token) (at : Span) (parts : List (List Token)) (pieces : List Piece) (other : Piece) (old mid new total : List Token) → 1 ≤ length pieces
     → new ≡ mid ++ piece_tokens inner at parts (get_or pieces 0 other) → mid ++ pieces_tokens inner at parts pieces ≡ old ++ total

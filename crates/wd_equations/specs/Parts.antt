@@ -25,19 +25,19 @@ part_from separator count depth (token ∷ tokens) =
 abbrev pub first_part : Terminal → List Token → List Token
 first_part separator tokens = take (part_from separator 0 0 tokens) tokens
 
-abbrev pub behind_part : Terminal → List Token → List Token
-behind_part separator tokens = drop (part_from separator 0 0 tokens) tokens
+abbrev pub after_part : Terminal → List Token → List Token
+after_part separator tokens = drop (part_from separator 0 0 tokens) tokens
 
 -- the parts: where no separator is left the rest is the last part
 abbrev pub and_parts : List Token → List Token → (List Token → List (List Token)) → List (List Token)
 and_parts tokens [] more = tokens ∷ []
-and_parts tokens (separator ∷ behind) more = more behind
+and_parts tokens (separator ∷ following) more = more following
 
 -- the parts of tokens: the first goes up to the one separator, the next up to the other, and so on in turn; the number bounds the
 -- parts, and the count of the tokens is always enough
 unfoldable pub parts_of : ℕ → Terminal → Terminal → List Token → List (List Token)
 parts_of zero first second tokens = tokens ∷ []
-parts_of (suc turns) first second tokens = and_parts tokens (behind_part first tokens) (λ behind. first_part first tokens ∷ parts_of turns second first behind)
+parts_of (suc turns) first second tokens = and_parts tokens (after_part first tokens) (λ following. first_part first tokens ∷ parts_of turns second first following)
 
 -- the values of a list, between commas
 abbrev pub values_of : List Token → List (List Token)

@@ -106,7 +106,7 @@ fn begins_value(tokens: &[Token]) -> bool
 
 /// The form of a call with FILTER and this argument.
 #[tactic(auto, unfolding(crate::specs::Calls::filtered))]
-fn filtered<'t>(
+fn filter_call<'t>(
     alloc: Global,
     at: Span,
     name: &'t [Token],
@@ -130,7 +130,7 @@ fn filtered<'t>(
 }
 
 /// The form of `COUNT ( * )` with FILTER.
-fn counted<'t>(
+fn count_all_call<'t>(
     alloc: Global,
     at: Span,
     name: &'t [Token],
@@ -179,11 +179,11 @@ fn filter_after<'t>(
         return Ok(None);
     };
     if is_count && is_all(argument) {
-        counted(alloc, at, name, condition, rest)
+        count_all_call(alloc, at, name, condition, rest)
     } else if is_all(argument) {
         Ok(None)
     } else {
-        filtered(alloc, at, name, condition, argument, rest)
+        filter_call(alloc, at, name, condition, argument, rest)
     }
 }
 

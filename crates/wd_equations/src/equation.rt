@@ -277,7 +277,7 @@ pub fn pieces_of(alloc: Global, form: Form, count: usize) -> Result<Vec<Piece>, 
 }
 
 /// The pieces, or with NOT that they do not hold.
-pub fn stated(alloc: Global, is_not: bool, pieces: &[Piece]) -> Result<Vec<Piece>, AllocError>
+pub fn negate_if(alloc: Global, is_not: bool, pieces: &[Piece]) -> Result<Vec<Piece>, AllocError>
     ensures { IfOk result (λ all. all.items ≡ spec.stated is_not pieces.now) }
 {
     if !is_not {

@@ -13,7 +13,7 @@ ghost use Rattle.wd_equations.specs.Places.{seen};
 ghost use Rattle.wd_equations.specs.Expanded.{expanded, part_tokens, piece_tokens, pieces_tokens, place_at, step, walked, written};
 
 use crate::calls::call_at;
-use crate::equation::{Piece, pieces_of, stated};
+use crate::equation::{Piece, negate_if, pieces_of};
 use crate::error::ExpandError;
 use crate::found::{Before, Found, after};
 use crate::tests::test_at;
@@ -37,11 +37,11 @@ fn place_at<'t>(
 }
 
 /// The right side of an equation, as pieces.
-fn said(alloc: Global, found: &Found) -> Result<Vec<Piece>, AllocError>
+fn right_side(alloc: Global, found: &Found) -> Result<Vec<Piece>, AllocError>
     ensures { IfOk result (λ pieces. pieces.items ≡ stated found.now.is_not (equation found.now.form (length found.now.parts.items))) }
 {
     let pieces = pieces_of(alloc, found.form, found.parts.len())?;
-    stated(alloc, found.is_not, &pieces)
+    negate_if(alloc, found.is_not, &pieces)
 }
 
 /// Writes a part, expanded.
@@ -132,7 +132,7 @@ fn push_found(out: &mut Vec<Token>, turns: usize, found: &Found) -> Result<(), E
     requires { length out.old.items ≤ most_tokens }
     ensures { Adds result out.old.items out.new.items (written (walked turns Before.Open) (seen found.now)) }
 {
-    let pieces = said(*out.allocator(), found)?;
+    let pieces = right_side(*out.allocator(), found)?;
     push_pieces(out, turns, found.at, &found.parts, &pieces)
 }
 

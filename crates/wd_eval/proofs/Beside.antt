@@ -23,24 +23,24 @@ use Rattle.wd_eval.specs.ClassIndexes.{calls_at, first_calls}
 use Rattle.wd_eval.proofs.CallColumns.{one_at}
 
 -- a result with a row in front
-abbrev behind : Row → Result Row Fault → Result Row Fault
-behind row r = and_then r (λ values. Ok (row ++ values))
+abbrev after : Row → Result Row Fault → Result Row Fault
+after row r = and_then r (λ values. Ok (row ++ values))
 
-same_fault : (row : Row) (r : Result Row Fault) → (has_fault DivisionByZero (behind row r) ≡ has_fault DivisionByZero r) × (has_fault OutOfRange (behind row r) ≡ has_fault OutOfRange r)
+same_fault : (row : Row) (r : Result Row Fault) → (has_fault DivisionByZero (after row r) ≡ has_fault DivisionByZero r) × (has_fault OutOfRange (after row r) ≡ has_fault OutOfRange r)
 same_fault row (Ok x) = (refl, refl)
 same_fault row (Err DivisionByZero) = (refl, refl)
 same_fault row (Err OutOfRange) = (refl, refl)
 
 module _ (f : ℕ → Result Row Fault) (g : ℕ → Row) where
-  division : (qs : List ℕ) → list_any (has_fault DivisionByZero) (map (λ p. behind (g p) (f p)) qs) ≡ list_any (has_fault DivisionByZero) (map f qs)
+  division : (qs : List ℕ) → list_any (has_fault DivisionByZero) (map (λ p. after (g p) (f p)) qs) ≡ list_any (has_fault DivisionByZero) (map f qs)
   division [] = refl
   division (q ∷ qs) = λ i. (same_fault (g q) (f q)).0 i || division qs i
 
-  range : (qs : List ℕ) → list_any (has_fault OutOfRange) (map (λ p. behind (g p) (f p)) qs) ≡ list_any (has_fault OutOfRange) (map f qs)
+  range : (qs : List ℕ) → list_any (has_fault OutOfRange) (map (λ p. after (g p) (f p)) qs) ≡ list_any (has_fault OutOfRange) (map f qs)
   range [] = refl
   range (q ∷ qs) = λ i. (same_fault (g q) (f q)).1 i || range qs i
 
-  least_same : (ps : List ℕ) → least_fault (map (λ p. behind (g p) (f p)) ps) ≡ least_fault (map f ps)
+  least_same : (ps : List ℕ) → least_fault (map (λ p. after (g p) (f p)) ps) ≡ least_fault (map f ps)
   least_same ps = λ i. cond (division ps i) (Some DivisionByZero) (cond (range ps i) (Some OutOfRange) None)
 
 range_fault : (b : Bool) → cond b (Some DivisionByZero) (Some OutOfRange) ≡ None → ⊥
@@ -60,7 +60,7 @@ each_ok (r ∷ rs) h (suc k) d l = each_ok rs (no_fault r rs h).1 k d (omega ari
 
 module _ (f : ℕ → Result Row Fault) where
   one_beside : (row : Row) (rows : List Row) (a : ℕ) (g : ℕ → Row) (r : Result Row Fault) (x : Row) → r ≡ Ok x → g a ≡ row → (xs ys : List Row) → xs ≡ beside rows ys
-      → values_among (behind (g a) r ∷ []) ++ xs ≡ beside (row ∷ rows) (values_among (r ∷ []) ++ ys)
+      → values_among (after (g a) r ∷ []) ++ xs ≡ beside (row ∷ rows) (values_among (r ∷ []) ++ ys)
   one_beside row rows a g (Ok y) x e here xs ys below = λ i. (here i ++ y) ∷ below i
   one_beside row rows a g (Err fault) x e here xs ys below = absurd (cc)
 
@@ -69,7 +69,7 @@ module _ (f : ℕ → Result Row Fault) where
   first_value (Err fault) rs = refl
 
   values_beside : (rows : List Row) (a : ℕ) (g : ℕ → Row) → ((k : ℕ) → k < length rows → g (a + k) ≡ get_or rows k []) → least_fault (map f (range_with_len a (length rows))) ≡ None
-      → values_among (map (λ p. behind (g p) (f p)) (range_with_len a (length rows))) ≡ beside rows (values_among (map f (range_with_len a (length rows))))
+      → values_among (map (λ p. after (g p) (f p)) (range_with_len a (length rows))) ≡ beside rows (values_among (map f (range_with_len a (length rows))))
   values_beside [] a g is h = refl
   values_beside (row ∷ rows) a g is h =
       let ps = range_with_len (a + 1) (length rows) in
@@ -78,8 +78,8 @@ module _ (f : ℕ → Result Row Fault) where
       let here : g a ≡ row = ap g (sym start) ∙ is 0 (omega arith) in
       let later : (k : ℕ) → k < length rows → g (a + 1 + k) ≡ get_or rows k [] = λ k lt. (let e : a + 1 + k ≡ a + suc k = omega arith in ap g e ∙ is (suc k) (omega arith)) in
       let below = values_beside rows (a + 1) g later parts.1 in
-      first_value (behind (g a) (f a)) (map (λ p. behind (g p) (f p)) ps)
-      ∙ one_beside row rows a g (f a) parts.0.0 parts.0.1 here (values_among (map (λ p. behind (g p) (f p)) ps)) (values_among (map f ps)) below
+      first_value (after (g a) (f a)) (map (λ p. after (g p) (f p)) ps)
+      ∙ one_beside row rows a g (f a) parts.0.0 parts.0.1 here (values_among (map (λ p. after (g p) (f p)) ps)) (values_among (map f ps)) below
       ∙ sym (ap (beside (row ∷ rows)) (first_value (f a) (map f ps)))
 
   module _ (rows : List Row) where
@@ -87,7 +87,7 @@ module _ (f : ℕ → Result Row Fault) where
     every = positions (length rows)
 
     abbrev whole : ℕ → Result Row Fault
-    whole p = behind (row_at rows p) (f p)
+    whole p = after (row_at rows p) (f p)
 
     by_fault : (o : Option Fault) → least_fault (map f every) ≡ o → all_ok (map whole every) ≡ and_then (all_ok (map f every)) (λ values. Ok (beside rows values))
     by_fault None e =

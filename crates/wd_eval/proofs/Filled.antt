@@ -58,7 +58,7 @@ module _ (class : ClassRule) (rows : List Row) (ordering : List ℕ) (lawful : I
       long = filled.long;
       each = λ p other h lt. elim (cases_lt (first_of class rows ordering p) position) [
         | inl before ↦ filled.each p other h before
-        | inr behind ↦ (
+        | inr after ↦ (
             let here : first_of class rows ordering p ≡ position = omega arith in
             absurd (later (ap (λ q. place_in (members class rows ordering q) q) (sym here) ∙ first_place p h)))
       ];
@@ -86,7 +86,7 @@ module _ (class : ClassRule) (rows : List Row) (ordering : List ℕ) (lawful : I
       long = long ∙ filled.long;
       each = λ p other h lt. elim (cases_lt (first_of class rows ordering p) position) [
         | inl before ↦ spread.kept p other (filled.each p other h before)
-        | inr behind ↦ (
+        | inr after ↦ (
             let here : first_of class rows ordering p ≡ position = omega arith in
             let same : members class rows ordering position ≡ members class rows ordering p = ap (members class rows ordering) (sym here) ∙ alike p 0 (has_members p h) in
             let part = in_part class rows ordering p lawful.once h in

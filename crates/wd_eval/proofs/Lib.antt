@@ -14,4 +14,5 @@ pub mod Putting
 pub mod SomeSort
 pub mod SomeTied
 pub mod Walks
+pub mod Walking
 pub mod Taking

@@ -1,84 +1,61 @@
--- Sorted orderings put after those that are there serve a Window, or a Limit, over its input.
+-- Sorted orderings put after those that are there serve a step over its input.
 use Rattle.std.proofs.Common.{◌≡◌, ℕ, ◌+◌, ◌<◌, List, [], ◌∷◌, ◌++◌, take, drop, length, get_or, Option, Ok, Err, refl, sym, ap, ◌∙◌, subst, arith, append_assoc, below_more, length-append}
-use Rattle.std.specs.List.{AllByRecursion}
 use Rattle.std.proofs.Math.Seq.{drop-append_seam, get_or-append_seam}
 use Rattle.std.proofs.lemmas.List.{append-nil, get_or_append_left, take_all}
 use Rattle.wd_value.specs.declared.value.Fault.{Fault}
 use Rattle.wd_value.specs.Rows.{Row}
-use Rattle.wd_plan.specs.Choices.{AtRows, AreOrderings}
-use Rattle.wd_plan.specs.Outcomes.{RowsOrFault, class_at, ordering_at}
-use Rattle.wd_plan.specs.Plans.{ClassRule, LimitRule, WindowRule}
+use Rattle.wd_plan.specs.Choices.{AtRows, AreOrderingsOver}
+use Rattle.wd_plan.specs.Outcomes.{RowsOrFault, class_among, ordering_at}
+use Rattle.wd_plan.specs.Plans.{ClassRule, Step, Window, Limit, LimitRule, WindowRule, step_classes}
 use Rattle.wd_plan.specs.Sorting.{IsOrdering, limit_class}
 use Rattle.wd_partition.proofs.Grouping.{IsOrdering-from_given}
-use Rattle.wd_eval.specs.Nodes.{IsLimited, cut_over}
-use Rattle.wd_eval.specs.Windows.{HasOrdering, IsWindowServed}
+use Rattle.wd_eval.specs.Nodes.{cut_over}
+use Rattle.wd_eval.specs.Windows.{AreServed, step_over}
 use Rattle.wd_eval.specs.ClassIndexes.{AreClassIndexes, IsClassIndexIn}
 use Rattle.wd_eval.specs.declared.class_index.ClassIndex.{ClassIndex}
 use Rattle.wd_eval.specs.Tied.{IsSortedOver, turn_of}
-use Rattle.wd_eval.specs.Ties.{ArePut, AreSortedOver, IsPutEmpty, IsStableLimit, IsStableWindow}
+use Rattle.wd_eval.specs.Ties.{AreAllPut, ArePut, AreSortedOver, IsPutEmpty, IsStableStep}
 use Rattle.wd_partition.specs.declared.turn.Turn.{Turn}
 use Rattle.wd_eval.specs.declared.turned.Turned.{Turned}
-use Rattle.wd_eval.proofs.Serving.{all_from_each, indexes_more}
+use Rattle.wd_eval.proofs.Serving.{all_from_each, bare_stepped, indexes_more}
 
 pub lawful_over : (class : ClassRule) (turn : Turn) (input : RowsOrFault) (ordering : List ℕ) → IsSortedOver class turn input ordering → AtRows input (λ rows. IsOrdering class rows ordering) (ordering ≡ [])
 lawful_over class turn (Ok rows) ordering s = IsOrdering-from_given class rows turn ordering s
 lawful_over class turn (Err fault) ordering s = s
 
--- ---- a Limit
+-- ---- the classes of a step
 
-module _ (limit : LimitRule) (input : RowsOrFault) (turned : Option Turned) (old new : List (List ℕ)) (own : List ℕ) (number : ℕ) (turn : Turn) (at : number ≡ length old) (grown : new ≡ old ++ own ∷ []) (sorted : IsSortedOver (limit_class limit) turn input own) where
-  own_is : ordering_at new number ≡ own
-  own_is = (λ i. ordering_at (grown i) (at i)) ∙ get_or-append_seam old own [] []
-
-  pub limit_put : HasOrdering (limit_class limit) input new number
-  limit_put =
-      let long = ap length grown ∙ length-append old (own ∷ []) in
-      record {
-        present = omega arith;
-        lawful = subst (λ (o : List ℕ). AtRows input (λ rows. IsOrdering (limit_class limit) rows o) (o ≡ [])) (sym own_is) (lawful_over (limit_class limit) turn input own sorted);
-      }
-
-  pub limit_tied_from : (found : RowsOrFault) → turn ≡ turn_of turned number → found ≡ cut_over limit own input → IsStableLimit limit input turned old new found
-  limit_tied_from found e is = record {
-    own = own;
-    grown = grown;
-    sorted = subst (λ (t : Turn). IsSortedOver (limit_class limit) t input own) (e ∙ ap (turn_of turned) at) sorted;
-    is = subst (λ (n : ℕ). IsLimited limit input new n found) at (record { served = limit_put; is = is ∙ ap (λ ordering. cut_over limit ordering input) (sym own_is) });
-  }
-
--- ---- a Window
-
-lawful_all : (w : WindowRule) (input : RowsOrFault) (turned : Option Turned) (first : ℕ) (own : List (List ℕ)) → AreSortedOver w input turned first (length w.classes) own → AtRows input (λ rows. AreOrderings w rows own) (AllByRecursion (λ o. o ≡ []) own)
-lawful_all w (Ok rows) turned first own s = record {
+lawful_all : (classes : List ClassRule) (input : RowsOrFault) (turned : Option Turned) (first : ℕ) (own : List (List ℕ)) → AreSortedOver classes input turned first (length classes) own → AreOrderingsOver classes input own
+lawful_all classes (Ok rows) turned first own s = record {
   number = s.long;
-  each = λ k h. IsOrdering-from_given (class_at w k) rows (turn_of turned (first + k)) (ordering_at own k) (s.each k h);
+  each = λ k h. IsOrdering-from_given (class_among classes k) rows (turn_of turned (first + k)) (ordering_at own k) (s.each k h);
 }
-lawful_all w (Err fault) turned first own s = all_from_each own (λ k h. (let long = s.long in s.each k (omega arith)))
+lawful_all classes (Err fault) turned first own s = all_from_each own (λ k h. (let long = s.long in s.each k (omega arith)))
 
-pub window_put : (w : WindowRule) (input : RowsOrFault) (turned : Option Turned) (old new : List (List ℕ)) → ArePut w input turned (length w.classes) old new → IsWindowServed w input new (length old)
-window_put w input turned old new p =
+taken_back : (old own new : List (List ℕ)) → new ≡ old ++ own → take (length own) (drop (length old) new) ≡ own
+taken_back old own new e = ap (λ ch. take (length own) (drop (length old) ch)) e ∙ ap (take (length own)) (drop-append_seam old own) ∙ take_all (length own) own (omega arith)
+
+pub all_put : (classes : List ClassRule) (input : RowsOrFault) (turned : Option Turned) (old new : List (List ℕ)) → AreAllPut classes input turned old new → AreServed classes input new (length old)
+all_put classes input turned old new p =
     let own = p.own in
     let size = p.sorted.long in
     let long = ap length p.grown ∙ length-append old own in
-    let taken : take (length w.classes) (drop (length old) new) ≡ own = ap (λ ch. take (length w.classes) (drop (length old) ch)) p.grown ∙ ap (take (length w.classes)) (drop-append_seam old own) ∙ take_all (length w.classes) own (omega arith) in
-    record {
-      present = omega arith;
-      lawful = subst (λ (os : List (List ℕ)). AtRows input (λ rows. AreOrderings w rows os) (AllByRecursion (λ o. o ≡ []) os)) (sym taken) (lawful_all w input turned (length old) own p.sorted);
-    }
+    let taken : take (length classes) (drop (length old) new) ≡ own = ap (λ n. take n (drop (length old) new)) (sym size) ∙ taken_back old own new p.grown in
+    record { present = omega arith; lawful = subst (AreOrderingsOver classes input) (sym taken) (lawful_all classes input turned (length old) own p.sorted) }
 
 -- ---- a Window over a fault
 
-pub empty_put : (w : WindowRule) (fault : Fault) (turned : Option Turned) (count : ℕ) (old new : List (List ℕ)) → count ≡ length w.classes → IsPutEmpty count old new → ArePut w (Err fault) turned (length w.classes) old new
-empty_put w fault turned count old new e p = record {
+empty_put : (classes : List ClassRule) (fault : Fault) (turned : Option Turned) (count : ℕ) (old new : List (List ℕ)) → count ≡ length classes → IsPutEmpty count old new → AreAllPut classes (Err fault) turned old new
+empty_put classes fault turned count old new e p = record {
   own = p.own;
   grown = p.grown;
   sorted = record { long = p.long ∙ e; each = λ k h. p.empty k (omega arith) };
 }
 
-pub fault_tied : (w : WindowRule) (fault : Fault) (turned : Option Turned) (count : ℕ) (old new : List (List ℕ)) → count ≡ length w.classes → IsPutEmpty count old new → IsStableWindow w (Err fault) turned old new (Err fault)
+pub fault_tied : (w : WindowRule) (fault : Fault) (turned : Option Turned) (count : ℕ) (old new : List (List ℕ)) → count ≡ length w.classes → IsPutEmpty count old new → IsStableStep (Window w) (Err fault) turned old new (Err fault)
 fault_tied w fault turned count old new e p =
-    let put = empty_put w fault turned count old new e p in
-    record { put = put; extended = record { served = window_put w (Err fault) turned old new put; is = refl } }
+    let put = empty_put w.classes fault turned count old new e p in
+    record { put = put; stepped = record { served = all_put w.classes (Err fault) turned old new put; is = refl } }
 
 pub none_empty : (old : List (List ℕ)) → IsPutEmpty 0 old old
 none_empty old = record { own = []; grown = sym (append-nil old); long = refl; empty = λ k h. absurd (omega arith) }
@@ -100,34 +77,54 @@ one_empty count old mid new p e =
 
 -- ---- one class after another
 
-pub none_put : (w : WindowRule) (input : RowsOrFault) (turned : Option Turned) (old : List (List ℕ)) → ArePut w input turned 0 old old
-none_put w input turned old = record {
+pub none_put : (classes : List ClassRule) (input : RowsOrFault) (turned : Option Turned) (old : List (List ℕ)) → ArePut classes input turned 0 old old
+none_put classes input turned old = record {
   own = [];
   grown = sym (append-nil old);
   sorted = record { long = refl; each = λ k h. absurd (omega arith) };
 }
 
-pub one_put : (w : WindowRule) (input : RowsOrFault) (turned : Option Turned) (n number : ℕ) (old mid new : List (List ℕ)) (turn : Turn) (ordering : List ℕ)
-    → ArePut w input turned n old mid → number ≡ length mid → turn ≡ turn_of turned number → IsSortedOver (class_at w n) turn input ordering → new ≡ mid ++ ordering ∷ [] → ArePut w input turned (n + 1) old new
-one_put w input turned n number old mid new turn ordering p at taken sorted e =
+pub one_put : (classes : List ClassRule) (input : RowsOrFault) (turned : Option Turned) (n number : ℕ) (old mid new : List (List ℕ)) (turn : Turn) (ordering : List ℕ)
+    → ArePut classes input turned n old mid → number ≡ length mid → turn ≡ turn_of turned number → IsSortedOver (class_among classes n) turn input ordering → new ≡ mid ++ ordering ∷ [] → ArePut classes input turned (n + 1) old new
+one_put classes input turned n number old mid new turn ordering p at taken sorted e =
     let own = p.own in
     let size = p.sorted.long in
     let all = own ++ ordering ∷ [] in
     let long = length-append own (ordering ∷ []) in
     let here_number : number ≡ length old + n = at ∙ ap length p.grown ∙ length-append old own ∙ ap (λ k. length old + k) size in
     let last : ordering_at all n ≡ ordering = ap (ordering_at all) (sym size) ∙ get_or-append_seam own ordering [] [] in
-    let earlier : (k : ℕ) → k < n → IsSortedOver (class_at w k) (turn_of turned (length old + k)) input (ordering_at all k) =
-    λ k h. subst (IsSortedOver (class_at w k) (turn_of turned (length old + k)) input) (sym (get_or_append_left own (ordering ∷ []) [] k (omega arith))) (p.sorted.each k h) in
-    let here : IsSortedOver (class_at w n) (turn_of turned (length old + n)) input (ordering_at all n) =
-    subst (IsSortedOver (class_at w n) (turn_of turned (length old + n)) input) (sym last)
-    (subst (λ (t : Turn). IsSortedOver (class_at w n) t input ordering) (taken ∙ ap (turn_of turned) here_number) sorted) in
+    let earlier : (k : ℕ) → k < n → IsSortedOver (class_among classes k) (turn_of turned (length old + k)) input (ordering_at all k) =
+    λ k h. subst (IsSortedOver (class_among classes k) (turn_of turned (length old + k)) input) (sym (get_or_append_left own (ordering ∷ []) [] k (omega arith))) (p.sorted.each k h) in
+    let here : IsSortedOver (class_among classes n) (turn_of turned (length old + n)) input (ordering_at all n) =
+    subst (IsSortedOver (class_among classes n) (turn_of turned (length old + n)) input) (sym last)
+    (subst (λ (t : Turn). IsSortedOver (class_among classes n) t input ordering) (taken ∙ ap (turn_of turned) here_number) sorted) in
     record {
       own = all;
       grown = e ∙ ap (λ ch. ch ++ ordering ∷ []) p.grown ∙ append_assoc old own (ordering ∷ []);
       sorted = record {
         long = long ∙ ap (λ k. k + 1) size;
-        each = λ k h. below_more (λ i. IsSortedOver (class_at w i) (turn_of turned (length old + i)) input (ordering_at all i)) n earlier here k h;
+        each = λ k h. below_more (λ i. IsSortedOver (class_among classes i) (turn_of turned (length old + i)) input (ordering_at all i)) n earlier here k h;
       };
+    }
+
+-- ---- a step without classes
+
+pub bare_stable : (step : Step) (input : RowsOrFault) (turned : Option Turned) (old : List (List ℕ)) (found : RowsOrFault) → step_classes step ≡ [] → found ≡ step_over step [] input → IsStableStep step input turned old old found
+bare_stable step input turned old found bare is = record {
+  put = subst (λ (classes : List ClassRule). AreAllPut classes input turned old old) (sym bare) (none_put [] input turned old);
+  stepped = bare_stepped step input old (length old) found bare (omega arith) is;
+}
+
+-- ---- a Limit
+
+pub limit_tied_from : (limit : LimitRule) (input : RowsOrFault) (turned : Option Turned) (old new : List (List ℕ)) (own : List ℕ) (number : ℕ) (turn : Turn) (found : RowsOrFault)
+    → number ≡ length old → turn ≡ turn_of turned number → IsSortedOver (limit_class limit) turn input own → new ≡ old ++ own ∷ [] → found ≡ cut_over limit own input → IsStableStep (Limit limit) input turned old new found
+limit_tied_from limit input turned old new own number turn found at taken sorted grown is =
+    let classes = limit_class limit ∷ [] in
+    let put = one_put classes input turned 0 number old old new turn own (none_put classes input turned old) at taken sorted grown in
+    record {
+      put = put;
+      stepped = record { served = all_put classes input turned old new put; is = is ∙ ap (λ os. step_over (Limit limit) os input) (sym (taken_back old (own ∷ []) new grown)) };
     }
 
 -- ---- the partitions under them

@@ -1,11 +1,10 @@
 -- Each plan has a choice of sorted orderings over each instance, and all of them give one outcome.
-use Rattle.std.proofs.Common.{◌≡◌, ℕ, zero, suc, ◌+◌, ◌<◌, ◌≤◌, List, [], ◌∷◌, ◌++◌, drop, length, get_or, Option, Ok, Err, refl, sym, ap, ◌∙◌, subst, arith, length-append}
-use Rattle.std.proofs.Math.Seq.{drop-append_seam, get_or-append_seam}
+use Rattle.std.proofs.Common.{◌≡◌, ℕ, zero, suc, ◌+◌, ◌<◌, ◌≤◌, List, [], ◌∷◌, ◌++◌, drop, length, Option, Ok, Err, refl, sym, ap, ◌∙◌, subst, arith, length-append}
+use Rattle.std.proofs.Math.Seq.{drop-append_seam}
 use Rattle.std.proofs.lemmas.List.{get_or-append-add}
 use Rattle.wd_value.specs.Rows.{Instance}
-use Rattle.wd_plan.specs.Outcomes.{RowsOrFault, class_at, ordering_at, outcome}
-use Rattle.wd_plan.specs.Plans.{ClassRule, PlanTree, Scan, Join, Filter, Map, Group, Window, Distinct, Limit, ordering_count}
-use Rattle.wd_plan.specs.Sorting.{limit_class}
+use Rattle.wd_plan.specs.Outcomes.{RowsOrFault, class_among, ordering_at, outcome}
+use Rattle.wd_plan.specs.Plans.{ClassRule, PlanTree, Scan, Join, Over, step_classes, ordering_count}
 use Rattle.wd_plan.proofs.ChoiceLaws.{outcome-append}
 use Rattle.wd_partition.specs.Columns.{given_positions, sort_columns}
 use Rattle.wd_eval.specs.Laws.{HasOneStableOutcome, HasStableChoice}
@@ -22,20 +21,16 @@ some_sorted : (class : ClassRule) (turn : Turn) (input : RowsOrFault) → (order
 some_sorted class turn (Ok rows) = some_stable_sort (sort_columns class) rows (given_positions turn (length rows))
 some_sorted class turn (Err fault) = ([], refl)
 
--- the class with this number
-abbrev numbered : List ClassRule → ℕ → ClassRule
-numbered classes n = get_or classes n (record { partition = []; order = [] })
-
--- one for each class of a Window
-some_own : (classes : List ClassRule) (turn : ℕ → Turn) (input : RowsOrFault) → (own : List (List ℕ)) × (length own ≡ length classes) × ((k : ℕ) → k < length classes → IsSortedOver (numbered classes k) (turn k) input (ordering_at own k))
+-- one for each class
+some_own : (classes : List ClassRule) (turn : ℕ → Turn) (input : RowsOrFault) → (own : List (List ℕ)) × (length own ≡ length classes) × ((k : ℕ) → k < length classes → IsSortedOver (class_among classes k) (turn k) input (ordering_at own k))
 some_own [] turn input = ([], refl, λ k h. absurd (omega arith))
 some_own (class ∷ classes) turn input =
     let one = some_sorted class (turn 0) input in
     let others = some_own classes (λ k. turn (suc k)) input in
     (one.0 ∷ others.0, ap suc others.1, at_place one.0 others.0 one.1 others.2)
   where
-    at_place : (first : List ℕ) (own : List (List ℕ)) → IsSortedOver class (turn 0) input first → ((k : ℕ) → k < length classes → IsSortedOver (numbered classes k) (turn (suc k)) input (ordering_at own k))
-        → (k : ℕ) → k < length (class ∷ classes) → IsSortedOver (numbered (class ∷ classes) k) (turn k) input (ordering_at (first ∷ own) k)
+    at_place : (first : List ℕ) (own : List (List ℕ)) → IsSortedOver class (turn 0) input first → ((k : ℕ) → k < length classes → IsSortedOver (class_among classes k) (turn (suc k)) input (ordering_at own k))
+        → (k : ℕ) → k < length (class ∷ classes) → IsSortedOver (class_among (class ∷ classes) k) (turn k) input (ordering_at (first ∷ own) k)
     at_place first own s each zero h = s
     at_place first own s each (suc k) h = each k (omega arith)
 
@@ -48,47 +43,27 @@ module _ (instance : Instance) (turned : Option Turned) where
       let r = some_tied right (first + n) in
       let long : length l.0 ≡ n = l.1 in
       let size : length r.0 ≡ ordering_count right = r.1 in
-      let behind : drop n (l.0 ++ r.0) ≡ r.0 = subst (λ k. drop k (l.0 ++ r.0) ≡ r.0) long (drop-append_seam l.0 r.0) in (
+      let after : drop n (l.0 ++ r.0) ≡ r.0 = subst (λ k. drop k (l.0 ++ r.0) ≡ r.0) long (drop-append_seam l.0 r.0) in (
         l.0 ++ r.0,
         length-append l.0 r.0 ∙ omega arith,
-        (tied_append instance turned left first l.0 r.0 (omega arith) l.2, subst (AreTied right instance turned (first + n)) (sym behind) r.2),
+        (tied_append instance turned left first l.0 r.0 (omega arith) l.2, subst (AreTied right instance turned (first + n)) (sym after) r.2),
       )
-  some_tied (Filter condition input) first = some_tied input first
-  some_tied (Map outputs input) first = some_tied input first
-  some_tied (Group g input) first = some_tied input first
-  some_tied (Window w input) first =
+  some_tied (Over step input) first =
       let n = ordering_count input in
+      let class = class_among (step_classes step) in
       let b = some_tied input first in
       let long : length b.0 ≡ n = b.1 in
       let turn = λ (k : ℕ). turn_of turned (first + n + k) in
-      let own = some_own w.classes turn (outcome input instance b.0) in
-      let size : length own.0 ≡ length w.classes = own.1 in
+      let own = some_own (step_classes step) turn (outcome input instance b.0) in
+      let size : length own.0 ≡ length (step_classes step) = own.1 in
       let below : outcome input instance (b.0 ++ own.0) ≡ outcome input instance b.0 = outcome-append input instance b.0 own.0 (omega arith) in
       let at : (k : ℕ) → ordering_at (b.0 ++ own.0) (n + k) ≡ ordering_at own.0 k = λ k. ap (λ m. ordering_at (b.0 ++ own.0) (m + k)) (sym long) ∙ get_or-append-add b.0 own.0 k [] in (
         b.0 ++ own.0,
         length-append b.0 own.0 ∙ omega arith,
         (
           tied_append instance turned input first b.0 own.0 (omega arith) b.2,
-          λ k h. subst (IsSortedOver (class_at w k) (turn k) (outcome input instance (b.0 ++ own.0))) (sym (at k))
-              (subst (λ (r : RowsOrFault). IsSortedOver (class_at w k) (turn k) r (ordering_at own.0 k)) (sym below) (own.2 k h)),
-        ),
-      )
-  some_tied (Distinct input) first = some_tied input first
-  some_tied (Limit limit input) first =
-      let n = ordering_count input in
-      let b = some_tied input first in
-      let long : length b.0 ≡ n = b.1 in
-      let turn = turn_of turned (first + n) in
-      let one = some_sorted (limit_class limit) turn (outcome input instance b.0) in
-      let all = b.0 ++ one.0 ∷ [] in
-      let below : outcome input instance all ≡ outcome input instance b.0 = outcome-append input instance b.0 (one.0 ∷ []) (omega arith) in
-      let at : ordering_at all n ≡ one.0 = ap (ordering_at all) (sym long) ∙ get_or-append_seam b.0 one.0 [] [] in (
-        all,
-        length-append b.0 (one.0 ∷ []) ∙ ap (λ k. k + 1) long,
-        (
-          tied_append instance turned input first b.0 (one.0 ∷ []) (omega arith) b.2,
-          subst (IsSortedOver (limit_class limit) turn (outcome input instance all)) (sym at)
-              (subst (λ (r : RowsOrFault). IsSortedOver (limit_class limit) turn r one.0) (sym below) one.1),
+          λ k h. subst (IsSortedOver (class k) (turn k) (outcome input instance (b.0 ++ own.0))) (sym (at k))
+              (subst (λ (r : RowsOrFault). IsSortedOver (class k) (turn k) r (ordering_at own.0 k)) (sym below) (own.2 k h)),
         ),
       )
 

@@ -1,35 +1,32 @@
 -- What a node gives under its sorted orderings, and why it stops, from what the nodes below it give.
-use Rattle.std.proofs.Common.{◌≡◌, ℕ, ◌+◌, ◌<◌, ◌≤◌, true, ◌||◌, List, [], ◌∷◌, ◌++◌, take, drop, length, get_or, Option, Ok, Err, refl, sym, ap, ◌∙◌, subst, arith, append_assoc, length-append, length-drop, drop-drop, length-take}
+use Rattle.std.proofs.Common.{◌≡◌, ℕ, ◌+◌, ◌<◌, ◌≤◌, true, ◌||◌, List, [], ◌++◌, take, drop, length, get_or, Option, Ok, Err, refl, sym, ap, ◌∙◌, subst, arith, append_assoc, length-append, length-drop, drop-drop, length-take}
 use Rattle.std.proofs.lemmas.List.{append-nil, drop-append-le, get_or-append-add, get_or-drop, get_or-take, get_or_append_left, ext_get_or}
 use Rattle.wd_value.specs.Rows.{Instance, table_at}
-use Rattle.wd_plan.specs.declared.plan.Outcome.{Outcome}
 use Rattle.wd_plan.specs.Choices.{AreLawful}
 use Rattle.wd_plan.specs.Expressions.{Expression}
-use Rattle.wd_plan.specs.Faults.{and_then}
-use Rattle.wd_plan.specs.Outcomes.{RowsOrFault, class_at, distinct, filter_outcome, map_outcome, ordering_at, outcome, outcome_of}
-use Rattle.wd_plan.specs.Plans.{ClassRule, PlanTree, Scan, Join, Filter, Map, Group, Window, Distinct, Limit, GroupRule, LimitRule, WindowRule, ordering_count}
-use Rattle.wd_plan.specs.Sorting.{limit_class}
+use Rattle.wd_plan.specs.Outcomes.{RowsOrFault, class_among, ordering_at, outcome}
+use Rattle.wd_plan.specs.Plans.{ClassRule, Step, Group, PlanTree, Scan, Join, Over, GroupRule, step_classes, ordering_count, own_orderings}
 use Rattle.wd_plan.proofs.ChoiceLaws.{AreLawful-append, outcome-append}
 use Rattle.wd_partition.specs.Columns.{given_positions, sort_columns}
 use Rattle.wd_join.specs.Joins.{has_more_rows}
 use Rattle.wd_join.specs.declared.error.StepError.{StepError}
-use Rattle.wd_join.specs.declared.error.StepError.TheVariants as step
+use Rattle.wd_join.specs.declared.error.StepError.TheVariants as error
 use Rattle.wd_eval.specs.Errors.{error_of}
 use Rattle.wd_eval.specs.Judged.{IsOutcome}
 use Rattle.wd_nodes.specs.Relation.{relation_of, IsLarge, IsSmall, group_over, join_over, most_rows}
-use Rattle.wd_eval.specs.Nodes.{IsEvaluated, cut_over}
-use Rattle.wd_eval.specs.Windows.{window_over}
+use Rattle.wd_eval.specs.Nodes.{IsEvaluated}
+use Rattle.wd_eval.specs.Windows.{step_over}
 use Rattle.wd_eval.specs.Steps.{has_large_step, is_large}
 use Rattle.wd_eval.specs.Tied.{AreTied, IsSortedOver, IsValidTurnedChoice, turn_of}
-use Rattle.wd_eval.specs.Ties.{IsUnderStable, IsStableLimit, IsStableWindow, IsUntied, IsOutOfMemory}
+use Rattle.wd_eval.specs.Ties.{IsUnderStable, IsStableStep, IsUntied, IsOutOfMemory}
 use Rattle.wd_eval.specs.declared.error.EvalError.{EvalError}
 use Rattle.wd_eval.specs.declared.error.EvalError.TheVariants.{NotValid, TooManyRows, OutOfMemory}
 use Rattle.wd_nodes.specs.declared.relation.Relation.{Relation}
-use Rattle.wd_nodes.specs.declared.relation.Relation.TheVariants.{Made}
 use Rattle.wd_eval.specs.declared.node.Evaluated.{Evaluated}
 use Rattle.wd_partition.specs.declared.turn.Turn.{Turn}
 use Rattle.wd_eval.specs.declared.turned.Turned.{Turned}
-use Rattle.wd_eval.proofs.Nodes.{or_left, or_right, scan_done, filter_done, map_done, group_done, distinct_done, window_done, limit_done, join_done}
+use Rattle.wd_eval.proofs.Nodes.{or_left, or_right, scan_done, step_done, join_done}
+use Rattle.wd_eval.proofs.Sizes.{IsFew}
 use Rattle.wd_eval.proofs.Stable.{one_stable_sort}
 
 -- ---- the sorted ordering is the only one
@@ -38,7 +35,7 @@ one_sorted : (class : ClassRule) (turn : Turn) (input : RowsOrFault) (a b : List
 one_sorted class turn (Ok rows) a b s t = one_stable_sort (sort_columns class) rows (given_positions turn (length rows)) a b s t
 one_sorted class turn (Err fault) a b s t = s ∙ sym t
 
--- the orderings of a Window in a choice
+-- the orderings of a step in a choice
 own_at : (choice : List (List ℕ)) (c m k : ℕ) → k < m → ordering_at (take m (drop c choice)) k ≡ ordering_at choice (c + k)
 own_at choice c m k h = get_or-take m (drop c choice) k [] h ∙ get_or-drop c choice k []
 
@@ -55,28 +52,19 @@ module _ (instance : Instance) (turned : Option Turned) where
       let on_left = one_outcome left first a b (omega arith) (omega arith) s.0 t.0 in
       let on_right = one_outcome right (first + n) (drop n a) (drop n b) (omega arith) (omega arith) s.1 t.1 in
       λ i. join_over condition (on_left i) (on_right i)
-  one_outcome (Filter condition input) first a b h g s t = ap (λ o. and_then o (filter_outcome condition)) (one_outcome input first a b h g s t)
-  one_outcome (Map outputs input) first a b h g s t = ap (λ o. and_then o (map_outcome outputs)) (one_outcome input first a b h g s t)
-  one_outcome (Group rule input) first a b h g s t = ap (group_over rule) (one_outcome input first a b h g s t)
-  one_outcome (Window w input) first a b h g s t =
+  one_outcome (Over step input) first a b h g s t =
       let n = ordering_count input in
-      let m = length w.classes in
+      let m = length (step_classes step) in
+      let class = class_among (step_classes step) in
       let below = one_outcome input first a b (omega arith) (omega arith) s.0 t.0 in
       let long_a = length_own a n m h in
       let long_b = length_own b n m g in
       let same_at : (k : ℕ) → k < m → ordering_at a (n + k) ≡ ordering_at b (n + k) =
-      λ k l. one_sorted (class_at w k) (turn_of turned (first + n + k)) (outcome input instance b) (ordering_at a (n + k)) (ordering_at b (n + k))
-      (subst (λ (r : RowsOrFault). IsSortedOver (class_at w k) (turn_of turned (first + n + k)) r (ordering_at a (n + k))) below (s.1 k l)) (t.1 k l) in
-      let own : take m (drop n a) ≡ take m (drop n b) =
+      λ k l. one_sorted (class k) (turn_of turned (first + n + k)) (outcome input instance b) (ordering_at a (n + k)) (ordering_at b (n + k))
+      (subst (λ (r : RowsOrFault). IsSortedOver (class k) (turn_of turned (first + n + k)) r (ordering_at a (n + k))) below (s.1 k l)) (t.1 k l) in
+      let own : own_orderings step input a ≡ own_orderings step input b =
       ext_get_or [] (take m (drop n a)) (take m (drop n b)) (long_a ∙ sym long_b) (λ k l. (let small : k < m = omega arith in own_at a n m k small ∙ same_at k small ∙ sym (own_at b n m k small))) in
-      λ i. window_over w (own i) (below i)
-  one_outcome (Distinct input) first a b h g s t = ap (λ o. and_then o (λ rows. Ok (distinct rows))) (one_outcome input first a b h g s t)
-  one_outcome (Limit limit input) first a b h g s t =
-      let n = ordering_count input in
-      let below = one_outcome input first a b (omega arith) (omega arith) s.0 t.0 in
-      let own = one_sorted (limit_class limit) (turn_of turned (first + n)) (outcome input instance b) (ordering_at a n) (ordering_at b n)
-      (subst (λ (r : RowsOrFault). IsSortedOver (limit_class limit) (turn_of turned (first + n)) r (ordering_at a n)) below s.1) t.1 in
-      λ i. cut_over limit (own i) (below i)
+      λ i. step_over step (own i) (below i)
 
   -- ---- a choice may be made longer
 
@@ -88,26 +76,15 @@ module _ (instance : Instance) (turned : Option Turned) where
         tied_append left first choice more (omega arith) s.0,
         subst (AreTied right instance turned (first + n)) (sym (drop-append-le n choice more (omega arith))) (tied_append right (first + n) (drop n choice) more (omega arith) s.1),
       )
-  tied_append (Filter condition input) first choice more h s = tied_append input first choice more h s
-  tied_append (Map outputs input) first choice more h s = tied_append input first choice more h s
-  tied_append (Group rule input) first choice more h s = tied_append input first choice more h s
-  tied_append (Window w input) first choice more h s =
+  tied_append (Over step input) first choice more h s =
       let n = ordering_count input in
+      let class = class_among (step_classes step) in
       let below = outcome-append input instance choice more (omega arith) in (
         tied_append input first choice more (omega arith) s.0,
         λ k l. (
             let at : ordering_at (choice ++ more) (n + k) ≡ ordering_at choice (n + k) = get_or_append_left choice more [] (n + k) (omega arith) in
-            subst (IsSortedOver (class_at w k) (turn_of turned (first + n + k)) (outcome input instance (choice ++ more))) (sym at)
-            (subst (λ (r : RowsOrFault). IsSortedOver (class_at w k) (turn_of turned (first + n + k)) r (ordering_at choice (n + k))) (sym below) (s.1 k l))),
-      )
-  tied_append (Distinct input) first choice more h s = tied_append input first choice more h s
-  tied_append (Limit limit input) first choice more h s =
-      let n = ordering_count input in
-      let below = outcome-append input instance choice more (omega arith) in
-      let at : ordering_at (choice ++ more) n ≡ ordering_at choice n = get_or_append_left choice more [] n (omega arith) in (
-        tied_append input first choice more (omega arith) s.0,
-        subst (IsSortedOver (limit_class limit) (turn_of turned (first + n)) (outcome input instance (choice ++ more))) (sym at)
-            (subst (λ (r : RowsOrFault). IsSortedOver (limit_class limit) (turn_of turned (first + n)) r (ordering_at choice n)) (sym below) s.1),
+            subst (IsSortedOver (class k) (turn_of turned (first + n + k)) (outcome input instance (choice ++ more))) (sym at)
+            (subst (λ (r : RowsOrFault). IsSortedOver (class k) (turn_of turned (first + n + k)) r (ordering_at choice (n + k))) (sym below) (s.1 k l))),
       )
 
 -- orderings after a plan's own change no step's size
@@ -119,12 +96,7 @@ large-append instance (Join condition left right) choice more h =
     let rest = ap (has_large_step right instance) (drop-append-le n choice more (omega arith)) ∙ large-append instance right (drop n choice) more (omega arith) in
     let here = ap (has_more_rows most_rows) (outcome-append (Join condition left right) instance choice more h) in
     λ i. (large-append instance left choice more (omega arith) i || rest i) || here i
-large-append instance (Filter condition input) choice more h = λ i. large-append instance input choice more h i || has_more_rows most_rows (outcome-append (Filter condition input) instance choice more h i)
-large-append instance (Map outputs input) choice more h = λ i. large-append instance input choice more h i || has_more_rows most_rows (outcome-append (Map outputs input) instance choice more h i)
-large-append instance (Group rule input) choice more h = λ i. large-append instance input choice more h i || has_more_rows most_rows (outcome-append (Group rule input) instance choice more h i)
-large-append instance (Window w input) choice more h = λ i. large-append instance input choice more (omega arith) i || has_more_rows most_rows (outcome-append (Window w input) instance choice more h i)
-large-append instance (Distinct input) choice more h = λ i. large-append instance input choice more h i || has_more_rows most_rows (outcome-append (Distinct input) instance choice more h i)
-large-append instance (Limit limit input) choice more h = λ i. large-append instance input choice more (omega arith) i || has_more_rows most_rows (outcome-append (Limit limit input) instance choice more h i)
+large-append instance (Over step input) choice more h = λ i. large-append instance input choice more (omega arith) i || has_more_rows most_rows (outcome-append (Over step input) instance choice more h i)
 
 pub evaluated_append : (plan : PlanTree) (tables instance : Instance) (choice more : List (List ℕ)) (first : ℕ) (e : Evaluated) → first ≤ length choice → IsEvaluated most_rows plan tables instance choice first e → IsEvaluated most_rows plan tables instance (choice ++ more) first e
 evaluated_append plan tables instance choice more first e h b =
@@ -162,78 +134,20 @@ module _ (tables instance : Instance) (turned : Option Turned) (old : List (List
     tied = tt;
   }
 
-  module _ (input : PlanTree) (new : List (List ℕ)) (below : Relation) (b : IsUnderStable input tables instance turned old new below) (o : Relation) where
-    pub filter_tied : (condition : Expression) → relation_of tables o ≡ and_then (relation_of tables below) (filter_outcome condition) → IsUnderStable (Filter condition input) tables instance turned old new o
-    filter_tied condition is = record {
-      own = b.own;
-      grown = b.grown;
-      evaluated = filter_done most_rows tables instance new (length old) input (record { outcome = below; next = length new }) b.evaluated o condition is;
-      tied = b.tied;
-    }
-
-    pub map_tied : (outputs : List Expression) → relation_of tables o ≡ and_then (relation_of tables below) (map_outcome outputs) → IsUnderStable (Map outputs input) tables instance turned old new o
-    map_tied outputs is = record {
-      own = b.own;
-      grown = b.grown;
-      evaluated = map_done most_rows tables instance new (length old) input (record { outcome = below; next = length new }) b.evaluated o outputs is;
-      tied = b.tied;
-    }
-
-    pub distinct_tied : relation_of tables o ≡ and_then (relation_of tables below) (λ rows. Ok (distinct rows)) → IsUnderStable (Distinct input) tables instance turned old new o
-    distinct_tied is = record {
-      own = b.own;
-      grown = b.grown;
-      evaluated = distinct_done most_rows tables instance new (length old) input (record { outcome = below; next = length new }) b.evaluated o is;
-      tied = b.tied;
-    }
-
-  pub filter_untied : (condition : Expression) (input : PlanTree) (e : EvalError) → IsUntied input instance turned (length old) e → IsUntied (Filter condition input) instance turned (length old) e
-  filter_untied condition input (NotValid p) h = h
-  filter_untied condition input TooManyRows h = λ choice long s. or_left (has_large_step input instance choice) (is_large (Filter condition input) instance choice) (h choice long s)
-  filter_untied condition input OutOfMemory h = tt
-
-  pub map_untied : (outputs : List Expression) (input : PlanTree) (e : EvalError) → IsUntied input instance turned (length old) e → IsUntied (Map outputs input) instance turned (length old) e
-  map_untied outputs input (NotValid p) h = h
-  map_untied outputs input TooManyRows h = λ choice long s. or_left (has_large_step input instance choice) (is_large (Map outputs input) instance choice) (h choice long s)
-  map_untied outputs input OutOfMemory h = tt
-
-  pub distinct_untied : (input : PlanTree) (e : EvalError) → IsUntied input instance turned (length old) e → IsUntied (Distinct input) instance turned (length old) e
-  distinct_untied input (NotValid p) h = h
-  distinct_untied input TooManyRows h = λ choice long s. or_left (has_large_step input instance choice) (is_large (Distinct input) instance choice) (h choice long s)
-  distinct_untied input OutOfMemory h = tt
-
-  pub group_untied_below : (rule : GroupRule) (input : PlanTree) (e : EvalError) → IsUntied input instance turned (length old) e → IsUntied (Group rule input) instance turned (length old) e
-  group_untied_below rule input (NotValid p) h = h
-  group_untied_below rule input TooManyRows h = λ choice long s. or_left (has_large_step input instance choice) (is_large (Group rule input) instance choice) (h choice long s)
-  group_untied_below rule input OutOfMemory h = tt
+  pub step_untied_below : (step : Step) (input : PlanTree) (e : EvalError) → IsUntied input instance turned (length old) e → IsUntied (Over step input) instance turned (length old) e
+  step_untied_below step input (NotValid p) h = h
+  step_untied_below step input TooManyRows h = λ choice long s. or_left (has_large_step input instance choice) (is_large (Over step input) instance choice) (h choice (omega arith) s.0)
+  step_untied_below step input OutOfMemory h = tt
 
   module _ (rule : GroupRule) (input : PlanTree) (new : List (List ℕ)) (below : Relation) (b : IsUnderStable input tables instance turned old new below) where
-    pub group_tied : (o : Outcome) → IsSmall most_rows (group_over rule (relation_of tables below)) (outcome_of o) → IsUnderStable (Group rule input) tables instance turned old new (Made o)
-    group_tied o s = record {
-      own = b.own;
-      grown = b.grown;
-      evaluated = group_done most_rows tables instance new (length old) rule input (record { outcome = below; next = length new }) b.evaluated o s;
-      tied = b.tied;
-    }
-
-    large_group : has_more_rows most_rows (group_over rule (relation_of tables below)) ≡ true → (choice : List (List ℕ)) → ordering_count input ≤ length choice → AreTied input instance turned (length old) choice → is_large (Group rule input) instance choice ≡ true
+    large_group : has_more_rows most_rows (group_over rule (relation_of tables below)) ≡ true → (choice : List (List ℕ)) → ordering_count input ≤ length choice → AreTied input instance turned (length old) choice → is_large (Over (Group rule) input) instance choice ≡ true
     large_group h choice long s =
         let same : outcome input instance choice ≡ outcome input instance (drop (length old) new) = one_outcome instance turned input (length old) choice (drop (length old) new) long b.evaluated.served.present s b.tied in
         ap (λ r. has_more_rows most_rows (group_over rule r)) (same ∙ sym b.evaluated.is) ∙ h
 
-    pub group_untied : (e : StepError) → IsLarge most_rows (group_over rule (relation_of tables below)) e → IsUntied (Group rule input) instance turned (length old) (error_of e)
-    group_untied step.TooManyRows h = λ choice long s. or_right (has_large_step input instance choice) (is_large (Group rule input) instance choice) (large_group h choice long s)
-    group_untied step.OutOfMemory h = tt
-
-  pub window_untied : (w : WindowRule) (input : PlanTree) (e : EvalError) → IsUntied input instance turned (length old) e → IsUntied (Window w input) instance turned (length old) e
-  window_untied w input (NotValid p) h = h
-  window_untied w input TooManyRows h = λ choice long s. or_left (has_large_step input instance choice) (is_large (Window w input) instance choice) (h choice (omega arith) s.0)
-  window_untied w input OutOfMemory h = tt
-
-  pub limit_untied : (limit : LimitRule) (input : PlanTree) (e : EvalError) → IsUntied input instance turned (length old) e → IsUntied (Limit limit input) instance turned (length old) e
-  limit_untied limit input (NotValid p) h = h
-  limit_untied limit input TooManyRows h = λ choice long s. or_left (has_large_step input instance choice) (is_large (Limit limit input) instance choice) (h choice (omega arith) s.0)
-  limit_untied limit input OutOfMemory h = tt
+    pub group_untied : (e : StepError) → IsLarge most_rows (group_over rule (relation_of tables below)) e → IsUntied (Over (Group rule) input) instance turned (length old) (error_of e)
+    group_untied error.TooManyRows h = λ choice long s. or_right (has_large_step input instance choice) (is_large (Over (Group rule) input) instance choice) (large_group h choice (omega arith) s.0)
+    group_untied error.OutOfMemory h = tt
 
   -- ---- what stands after the orderings of a node below
 
@@ -266,49 +180,28 @@ module _ (tables instance : Instance) (turned : Option Turned) (old : List (List
     pub grown_more : new ≡ old ++ (b.own ++ own)
     grown_more = e ∙ ap (λ ch. ch ++ own) b.grown ∙ append_assoc old b.own own
 
-  pub window_tied : (w : WindowRule) (input : PlanTree) (mid new : List (List ℕ)) (below o : Relation) → IsUnderStable input tables instance turned old mid below → IsStableWindow w (relation_of tables below) turned mid new (relation_of tables o) → IsUnderStable (Window w input) tables instance turned old new o
-  window_tied w input mid new below o b x =
+  pub step_tied : (step : Step) (input : PlanTree) (mid new : List (List ℕ)) (below o : Relation) → IsUnderStable input tables instance turned old mid below → IsFew most_rows step (relation_of tables below)
+      → IsStableStep step (relation_of tables below) turned mid new (relation_of tables o) → IsUnderStable (Over step input) tables instance turned old new o
+  step_tied step input mid new below o b few x =
       let own = x.put.own in
       let e = x.put.grown in
-      let sorted = x.put.sorted in
+      let class = class_among (step_classes step) in
       let next = b.evaluated.next in
       let long = ap length e ∙ length-append mid own in
-      let size = sorted.long in
+      let size = x.put.sorted.long in
       let longer = length-append old (b.own ++ own) in
       let whole = ap length (grown_more input mid own new below b e) in
       record {
         own = b.own ++ own;
         grown = grown_more input mid own new below b e;
-        evaluated = window_done most_rows tables instance new (length old) w input (record { outcome = below; next = length mid }) (omega arith) (still input mid own new below b e) o (length new) x.extended (omega arith);
+        evaluated = step_done most_rows tables instance new (length old) step input (record { outcome = below; next = length mid }) (still input mid own new below b e) o (length new) (omega arith) few x.stepped (omega arith);
         tied = (
           still_tied input mid own new below b e,
           λ k l. (
               let number : length mid + k ≡ length old + ordering_count input + k = omega arith in
-              subst (IsSortedOver (class_at w k) (turn_of turned (length old + ordering_count input + k)) (outcome input instance (drop (length old) new))) (sym (put_at input mid own new below b e k))
-              (subst (λ (r : RowsOrFault). IsSortedOver (class_at w k) (turn_of turned (length old + ordering_count input + k)) r (ordering_at own k)) (below_is input mid own new below b e)
-              (subst (λ (n : ℕ). IsSortedOver (class_at w k) (turn_of turned n) (relation_of tables below) (ordering_at own k)) number (sorted.each k l)))),
-        );
-      }
-
-  pub limit_tied : (limit : LimitRule) (input : PlanTree) (mid new : List (List ℕ)) (below o : Relation) → IsUnderStable input tables instance turned old mid below → IsStableLimit limit (relation_of tables below) turned mid new (relation_of tables o) → IsUnderStable (Limit limit input) tables instance turned old new o
-  limit_tied limit input mid new below o b x =
-      let own = x.own ∷ [] in
-      let e = x.grown in
-      let next = b.evaluated.next in
-      let long = ap length e ∙ length-append mid own in
-      let longer = length-append old (b.own ++ own) in
-      let whole = ap length (grown_more input mid own new below b e) in
-      let number : length mid ≡ length old + ordering_count input = next in
-      let at : ordering_at (drop (length old) new) (ordering_count input) ≡ x.own = (let zero_more : ordering_count input ≡ ordering_count input + 0 = omega arith in ap (ordering_at (drop (length old) new)) zero_more) ∙ put_at input mid own new below b e 0 in
-      record {
-        own = b.own ++ own;
-        grown = grown_more input mid own new below b e;
-        evaluated = limit_done most_rows tables instance new (length old) limit input (record { outcome = below; next = length mid }) (omega arith) (still input mid own new below b e) o (length new) x.is (omega arith);
-        tied = (
-          still_tied input mid own new below b e,
-          subst (IsSortedOver (limit_class limit) (turn_of turned (length old + ordering_count input)) (outcome input instance (drop (length old) new))) (sym at)
-              (subst (λ (r : RowsOrFault). IsSortedOver (limit_class limit) (turn_of turned (length old + ordering_count input)) r x.own) (below_is input mid own new below b e)
-              (subst (λ (n : ℕ). IsSortedOver (limit_class limit) (turn_of turned n) (relation_of tables below) x.own) number x.sorted)),
+              subst (IsSortedOver (class k) (turn_of turned (length old + ordering_count input + k)) (outcome input instance (drop (length old) new))) (sym (put_at input mid own new below b e k))
+              (subst (λ (r : RowsOrFault). IsSortedOver (class k) (turn_of turned (length old + ordering_count input + k)) r (ordering_at own k)) (below_is input mid own new below b e)
+              (subst (λ (n : ℕ). IsSortedOver (class k) (turn_of turned n) (relation_of tables below) (ordering_at own k)) number (x.put.sorted.each k l)))),
         );
       }
 
@@ -365,8 +258,8 @@ module _ (tables instance : Instance) (turned : Option Turned) (old : List (List
             ap (has_more_rows most_rows) same ∙ (λ i. has_more_rows most_rows (join_over condition (sym on_left i) (sym on_right i))) ∙ h
 
         pub join_untied : (e : StepError) → IsLarge most_rows (join_over condition (relation_of tables lo) (relation_of tables ro)) e → IsUntied (Join condition left right) instance turned (length old) (error_of e)
-        join_untied step.TooManyRows h = λ choice long s. or_right (has_large_step left instance choice || has_large_step right instance (drop (ordering_count left) choice)) (is_large (Join condition left right) instance choice) (large_here h choice long s)
-        join_untied step.OutOfMemory h = tt
+        join_untied error.TooManyRows h = λ choice long s. or_right (has_large_step left instance choice || has_large_step right instance (drop (ordering_count left) choice)) (is_large (Join condition left right) instance choice) (large_here h choice long s)
+        join_untied error.OutOfMemory h = tt
 
 -- ---- whole plans
 

@@ -1,35 +1,35 @@
 -- What a node gives, and why it gives nothing, under the orderings of a choice and under sorted ones.
-use Rattle.std.proofs.Common.{◌≡◌, ℕ, ◌+◌, ◌-◌, ◌^◌, ◌≤◌, false, List, [], ◌∷◌, drop, length, Option, Ok, Err, sym, ap, ◌∙◌, subst, arith, length-append, length-drop}
+use Rattle.std.proofs.Common.{◌≡◌, ℕ, ◌+◌, ◌-◌, ◌^◌, ◌≤◌, false, List, [], drop, length, Option, Result, Ok, Err, sym, ap, ◌∙◌, subst, arith, length-append, length-drop}
 use Rattle.std.proofs.lemmas.Bool.{ltb-false}
 use Rattle.std.proofs.lemmas.List.{length-map}
 use Rattle.std.specs.Borrow.{Bor}
 use Rattle.std.specs.declared.alloc.Global.{Global}
 use Rattle.std.specs.declared.vec.Vec.{Vec}
 use Rattle.wd_value.specs.Rows.{Instance, table_at}
-use Rattle.wd_plan.specs.declared.plan.Outcome.{Outcome}
 use Rattle.wd_plan.specs.Expressions.{Expression}
-use Rattle.wd_plan.specs.Faults.{and_then}
-use Rattle.wd_plan.specs.Outcomes.{RowsOrFault, distinct, filter_outcome, map_outcome, outcome, outcome_of}
-use Rattle.wd_plan.specs.Plans.{PlanTree, Scan, Join, Filter, Map, Group, Window, Distinct, Limit, GroupRule, LimitRule, WindowRule}
+use Rattle.wd_plan.specs.Outcomes.{RowsOrFault, outcome}
+use Rattle.wd_plan.specs.Plans.{Step, Group, Limit, PlanTree, Scan, Join, Over, GroupRule, LimitRule, step_classes}
 use Rattle.wd_join.specs.Joins.{has_more_rows}
 use Rattle.wd_join.specs.declared.error.StepError.{StepError}
-use Rattle.wd_join.specs.declared.error.StepError.TheVariants as step
+use Rattle.wd_join.specs.declared.error.StepError.TheVariants as error
 use Rattle.wd_eval.specs.Errors.{error_of}
-use Rattle.wd_eval.specs.Windows.{AreFew, orderings_of}
+use Rattle.wd_eval.specs.Windows.{AreFew, orderings_of, step_over}
 use Rattle.wd_nodes.specs.Relation.{relation_of, IsSmall, IsLarge, group_over, join_over, most_rows}
-use Rattle.wd_eval.specs.Nodes.{IsStopped}
+use Rattle.wd_eval.specs.Nodes.{IsLimitedOrUnserved, IsStopped}
 use Rattle.wd_eval.specs.Ties.{IsUntied}
-use Rattle.wd_eval.specs.Walks.{IsAt, IsHalted, IsLimitStep, IsWalked, IsWindowStep, most_of}
+use Rattle.wd_eval.specs.Walks.{IsAt, IsHalted, IsStep, IsWalked, most_of}
 use Rattle.wd_eval.specs.declared.error.EvalError.{EvalError}
 use Rattle.wd_eval.specs.declared.error.EvalError.TheVariants.{NotValid, TooManyRows, OutOfMemory}
 use Rattle.wd_nodes.specs.declared.relation.Relation.{Relation}
-use Rattle.wd_nodes.specs.declared.relation.Relation.TheVariants.{Made}
 use Rattle.wd_eval.specs.declared.node.Evaluated.{Evaluated}
 use Rattle.wd_eval.specs.declared.orderings.Orderings.{Orderings}
 use Rattle.wd_eval.specs.declared.orderings.Orderings.TheVariants.{Chosen, Sorted}
 use Rattle.wd_eval.specs.declared.turned.Turned.{Turned}
-use Rattle.wd_eval.proofs.Nodes.{scan_done, scan_stopped, filter_done, map_done, group_done, group_stopped, distinct_done, window_done, window_stopped, limit_done, limit_stopped, join_done, join_stopped, join_stopped_right}
-use Rattle.wd_eval.proofs.Tying.{scan_tied, filter_tied, map_tied, group_tied, group_untied, distinct_tied, window_tied, limit_tied, join_tied, join_untied, join_untied_right, memory_untied}
+use Rattle.wd_eval.proofs.Nodes.{scan_done, scan_stopped, step_done, step_stopped, step_stopped_below, group_stopped, join_done, join_stopped, join_stopped_left, join_stopped_right}
+use Rattle.wd_eval.proofs.Putting.{bare_stable}
+use Rattle.wd_eval.proofs.Serving.{bare_stepped, limited_or_unserved}
+use Rattle.wd_eval.proofs.Sizes.{IsFew}
+use Rattle.wd_eval.proofs.Tying.{scan_tied, step_tied, step_untied_below, group_untied, join_tied, join_untied, join_untied_left, join_untied_right, memory_untied}
 
 few_from : (most : ℕ) (r : RowsOrFault) → most ≤ most_rows → has_more_rows most r ≡ false → AreFew (2 ^ 32 - 1) r
 few_from most (Ok rows) bound h = let few = ltb-false most (length rows) h in omega arith
@@ -67,7 +67,7 @@ after_made : (made : List (Vec ℕ Global)) (first : ℕ) → first ≡ length m
 after_made made first e = e ∙ sym (length-map made (λ v. v.items))
 
 module _ (tables instance : Instance) (first : ℕ) (old new : List (Vec ℕ Global)) where
-  -- behind a node
+  -- after a node
   pub at_next : (orderings : Orderings) (plan : PlanTree) (e : Evaluated) → IsAt orderings first old → IsWalked plan tables instance orderings first old new e → IsAt orderings e.next new
   at_next (Chosen choice most) plan e at b =
       let next = b.next in
@@ -87,7 +87,7 @@ module _ (tables instance : Instance) (first : ℕ) (old new : List (Vec ℕ Glo
 
 module _ (tables instance : Instance) (first : ℕ) (old : List (Vec ℕ Global)) where
   -- a node stops where one below it does
-  pub halted_below : (orderings : Orderings) (plan above : PlanTree) (e : EvalError) → IsAt orderings first old
+  halted_below : (orderings : Orderings) (plan above : PlanTree) (e : EvalError) → IsAt orderings first old
       → ((choice : List (List ℕ)) → IsStopped (most_of orderings) plan instance choice first e → IsStopped (most_of orderings) above instance choice first e)
       → ((turned : Option Turned) → IsUntied plan instance turned (length (orderings_of old)) e → IsUntied above instance turned (length (orderings_of old)) e)
       → IsHalted plan instance orderings first e → IsHalted above instance orderings first e
@@ -106,78 +106,58 @@ module _ (tables instance : Instance) (first : ℕ) (old : List (Vec ℕ Global)
 
   pub scan_halted : (orderings : Orderings) (table columns : ℕ) (e : StepError) → IsLarge (most_of orderings) (Ok (table_at instance table)) e → IsHalted (Scan table columns) instance orderings first (error_of e)
   scan_halted (Chosen choice most) table columns e h = from_stopped (Scan table columns) instance first choice most (error_of e) (scan_stopped most tables instance (orderings_of choice.now) first table columns e h)
-  scan_halted (Sorted turned) table columns step.TooManyRows h = λ choice long s. h
-  scan_halted (Sorted turned) table columns step.OutOfMemory h = tt
+  scan_halted (Sorted turned) table columns error.TooManyRows h = λ choice long s. h
+  scan_halted (Sorted turned) table columns error.OutOfMemory h = tt
 
-  -- ---- Filter, Map and Distinct
+  -- ---- a step
 
-  module _ (input : PlanTree) (new : List (Vec ℕ Global)) (below : Evaluated) (o : Relation) where
-    pub filter_walked : (orderings : Orderings) (condition : Expression) → IsWalked input tables instance orderings first old new below → relation_of tables o ≡ and_then (relation_of tables below.outcome) (filter_outcome condition)
-        → IsWalked (Filter condition input) tables instance orderings first old new (record { outcome = o; next = below.next })
-    filter_walked (Chosen choice most) condition b is = filter_done most tables instance (orderings_of choice.now) first input below b o condition is
-    filter_walked (Sorted turned) condition b is = (b.0, filter_tied tables instance turned (orderings_of old) input (orderings_of new) below.outcome b.1 o condition is)
+  module _ (step : Step) (input : PlanTree) where
+    pub step_halted_below : (orderings : Orderings) (e : EvalError) → IsAt orderings first old → IsHalted input instance orderings first e → IsHalted (Over step input) instance orderings first e
+    step_halted_below orderings e at h = halted_below orderings input (Over step input) e at (λ choice. step_stopped_below (most_of orderings) tables instance choice first step input e) (λ turned. step_untied_below tables instance turned (orderings_of old) step input e) h
 
-    pub map_walked : (orderings : Orderings) (outputs : List Expression) → IsWalked input tables instance orderings first old new below → relation_of tables o ≡ and_then (relation_of tables below.outcome) (map_outcome outputs)
-        → IsWalked (Map outputs input) tables instance orderings first old new (record { outcome = o; next = below.next })
-    map_walked (Chosen choice most) outputs b is = map_done most tables instance (orderings_of choice.now) first input below b o outputs is
-    map_walked (Sorted turned) outputs b is = (b.0, map_tied tables instance turned (orderings_of old) input (orderings_of new) below.outcome b.1 o outputs is)
+    module _ (mid : List (Vec ℕ Global)) (below : Evaluated) where
+      pub step_walked : (orderings : Orderings) (new : List (Vec ℕ Global)) (o : Relation) (next : ℕ) → IsAt orderings first old → IsWalked input tables instance orderings first old mid below → IsFew (most_of orderings) step (relation_of tables below.outcome)
+          → IsStep (relation_of tables) step (relation_of tables below.outcome) orderings below.next mid new (Ok o) → next ≡ below.next + length (step_classes step)
+          → IsWalked (Over step input) tables instance orderings first old new (record { outcome = o; next = next })
+      step_walked (Chosen choice most) new o next at b few x e = step_done most tables instance (orderings_of choice.now) first step input below b o next (within_choice choice.now first at) few x.ok e
+      step_walked (Sorted turned) new o next at b few x e =
+          let here = after_made mid below.next b.0 in
+          let long = ap length x.ok.put.grown ∙ length-append (orderings_of mid) x.ok.put.own in
+          let size = x.ok.put.sorted.long in
+          let all = length-map new (λ v. v.items) in
+          (omega arith, step_tied tables instance turned (orderings_of old) step input (orderings_of mid) (orderings_of new) below.outcome o b.1 few x.ok)
 
-    pub distinct_walked : (orderings : Orderings) → IsWalked input tables instance orderings first old new below → relation_of tables o ≡ and_then (relation_of tables below.outcome) (λ rows. Ok (distinct rows))
-        → IsWalked (Distinct input) tables instance orderings first old new (record { outcome = o; next = below.next })
-    distinct_walked (Chosen choice most) b is = distinct_done most tables instance (orderings_of choice.now) first input below b o is
-    distinct_walked (Sorted turned) b is = (b.0, distinct_tied tables instance turned (orderings_of old) input (orderings_of new) below.outcome b.1 o is)
+      pub step_halted : (orderings : Orderings) (new : List (Vec ℕ Global)) (e : EvalError) → IsWalked input tables instance orderings first old mid below
+          → IsStep (relation_of tables) step (relation_of tables below.outcome) orderings below.next mid new (Err e) → IsHalted (Over step input) instance orderings first e
+      step_halted (Chosen choice most) new e b x = from_stopped (Over step input) instance first choice most e (step_stopped most tables instance (orderings_of choice.now) first step input below b e x.refused)
+      step_halted (Sorted turned) new e b x = from_untied (Over step input) instance first turned e (memory_untied (Over step input) instance turned first e x.refused)
 
-  -- ---- Group
+      -- a step without classes leaves the orderings as they are
+      bare_step : (orderings : Orderings) (o : Relation) → step_classes step ≡ [] → IsAt orderings below.next mid → relation_of tables o ≡ step_over step [] (relation_of tables below.outcome)
+          → IsStep (relation_of tables) step (relation_of tables below.outcome) orderings below.next mid mid (Ok o)
+      bare_step (Chosen choice most) o bare at is = record { ok = bare_stepped step (relation_of tables below.outcome) (orderings_of choice.now) below.next (relation_of tables o) bare (within_choice choice.now below.next at) is; refused = tt }
+      bare_step (Sorted turned) o bare at is = record { ok = bare_stable step (relation_of tables below.outcome) turned (orderings_of mid) (relation_of tables o) bare is; refused = tt }
 
+      pub bare_walked : (orderings : Orderings) (o : Relation) → step_classes step ≡ [] → IsAt orderings first old → IsWalked input tables instance orderings first old mid below → IsFew (most_of orderings) step (relation_of tables below.outcome)
+          → relation_of tables o ≡ step_over step [] (relation_of tables below.outcome) → IsWalked (Over step input) tables instance orderings first old mid (record { outcome = o; next = below.next })
+      bare_walked orderings o bare at b few is =
+          let none = ap length bare in
+          step_walked orderings mid o below.next at b few (bare_step orderings o bare (at_next tables instance first old mid orderings input below at b) is) (omega arith)
+
+  -- a Group of too many rows
   module _ (rule : GroupRule) (input : PlanTree) (new : List (Vec ℕ Global)) (below : Evaluated) where
-    pub group_walked : (orderings : Orderings) (o : Outcome) → IsWalked input tables instance orderings first old new below → IsSmall (most_of orderings) (group_over rule (relation_of tables below.outcome)) (outcome_of o)
-        → IsWalked (Group rule input) tables instance orderings first old new (record { outcome = Made o; next = below.next })
-    group_walked (Chosen choice most) o b s = group_done most tables instance (orderings_of choice.now) first rule input below b o s
-    group_walked (Sorted turned) o b s = (b.0, group_tied tables instance turned (orderings_of old) rule input (orderings_of new) below.outcome b.1 o s)
-
     pub group_halted : (orderings : Orderings) (e : StepError) → IsAt orderings first old → IsWalked input tables instance orderings first old new below
-        → IsLarge (most_of orderings) (group_over rule (relation_of tables below.outcome)) e → IsHalted (Group rule input) instance orderings first (error_of e)
-    group_halted (Chosen choice most) e at b h = from_stopped (Group rule input) instance first choice most (error_of e) (group_stopped most tables instance (orderings_of choice.now) first rule input below b e h)
+        → IsLarge (most_of orderings) (group_over rule (relation_of tables below.outcome)) e → IsHalted (Over (Group rule) input) instance orderings first (error_of e)
+    group_halted (Chosen choice most) e at b h = from_stopped (Over (Group rule) input) instance first choice most (error_of e) (group_stopped most tables instance (orderings_of choice.now) first rule input below b e h)
     group_halted (Sorted turned) e at b h =
-        from_untied (Group rule input) instance first turned (error_of e)
-        (subst (λ (n : ℕ). IsUntied (Group rule input) instance turned n (error_of e)) (sym (after_made old first at))
+        from_untied (Over (Group rule) input) instance first turned (error_of e)
+        (subst (λ (n : ℕ). IsUntied (Over (Group rule) input) instance turned n (error_of e)) (sym (after_made old first at))
         (group_untied tables instance turned (orderings_of old) rule input (orderings_of new) below.outcome b.1 e h))
 
-  -- ---- Window and Limit
-
-  module _ (input : PlanTree) (mid : List (Vec ℕ Global)) (below : Evaluated) (new : List (Vec ℕ Global)) where
-    pub window_walked : (orderings : Orderings) (w : WindowRule) (o : Relation) (next : ℕ) → IsAt orderings first old → IsWalked input tables instance orderings first old mid below
-        → IsWindowStep (relation_of tables) w (relation_of tables below.outcome) orderings below.next mid new (Ok o) → next ≡ below.next + length w.classes
-        → IsWalked (Window w input) tables instance orderings first old new (record { outcome = o; next = next })
-    window_walked (Chosen choice most) w o next at b x e = window_done most tables instance (orderings_of choice.now) first w input below (within_choice choice.now first at) b o next x.ok e
-    window_walked (Sorted turned) w o next at b x e =
-        let here = after_made mid below.next b.0 in
-        let long = ap length x.ok.put.grown ∙ length-append (orderings_of mid) x.ok.put.own in
-        let size = x.ok.put.sorted.long in
-        let all = length-map new (λ v. v.items) in
-        (omega arith, window_tied tables instance turned (orderings_of old) w input (orderings_of mid) (orderings_of new) below.outcome o b.1 x.ok)
-
-    pub window_halted : (orderings : Orderings) (w : WindowRule) (e : EvalError) → IsWalked input tables instance orderings first old mid below
-        → IsWindowStep (relation_of tables) w (relation_of tables below.outcome) orderings below.next mid new (Err e) → IsHalted (Window w input) instance orderings first e
-    window_halted (Chosen choice most) w e b x = from_stopped (Window w input) instance first choice most e (window_stopped most tables instance (orderings_of choice.now) first w input below b e x.refused)
-    window_halted (Sorted turned) w e b x = from_untied (Window w input) instance first turned e (memory_untied (Window w input) instance turned first e x.refused)
-
-    pub limit_walked : (orderings : Orderings) (limit : LimitRule) (o : Relation) (next : ℕ) → IsAt orderings first old → IsWalked input tables instance orderings first old mid below
-        → IsLimitStep (relation_of tables) limit (relation_of tables below.outcome) orderings below.next mid new (Ok o) → next ≡ below.next + 1
-        → IsWalked (Limit limit input) tables instance orderings first old new (record { outcome = o; next = next })
-    limit_walked (Chosen choice most) limit o next at b x e = limit_done most tables instance (orderings_of choice.now) first limit input below (within_choice choice.now first at) b o next x.ok e
-    limit_walked (Sorted turned) limit o next at b x e =
-        let here = after_made mid below.next b.0 in
-        let long = ap length x.ok.grown ∙ length-append (orderings_of mid) (x.ok.own ∷ []) in
-        let all = length-map new (λ v. v.items) in
-        (omega arith, limit_tied tables instance turned (orderings_of old) limit input (orderings_of mid) (orderings_of new) below.outcome o b.1 x.ok)
-
-    pub limit_halted : (orderings : Orderings) (limit : LimitRule) (e : EvalError) → IsWalked input tables instance orderings first old mid below
-        → IsLimitStep (relation_of tables) limit (relation_of tables below.outcome) orderings below.next mid new (Err e) → IsHalted (Limit limit input) instance orderings first e
-    limit_halted (Chosen choice most) limit e b x = from_stopped (Limit limit input) instance first choice most e (limit_stopped most tables instance (orderings_of choice.now) first limit input below b e x.refused)
-    limit_halted (Sorted turned) limit e b x = from_untied (Limit limit input) instance first turned e (memory_untied (Limit limit input) instance turned first e x.refused)
-
   -- ---- Join
+
+  pub join_halted_left : (condition : Option Expression) (left right : PlanTree) (orderings : Orderings) (e : EvalError) → IsAt orderings first old → IsHalted left instance orderings first e → IsHalted (Join condition left right) instance orderings first e
+  join_halted_left condition left right orderings e at h = halted_below orderings left (Join condition left right) e at (λ choice. join_stopped_left (most_of orderings) tables instance choice first condition left right e) (λ turned. join_untied_left tables instance turned (orderings_of old) condition left right e) h
 
   module _ (condition : Option Expression) (left right : PlanTree) (mid : List (Vec ℕ Global)) (l : Evaluated) where
     pub join_halted_right : (orderings : Orderings) (e : EvalError) → IsAt orderings first old → IsWalked left tables instance orderings first old mid l → IsHalted right instance orderings l.next e → IsHalted (Join condition left right) instance orderings first e
@@ -204,8 +184,8 @@ module _ (tables instance : Instance) (first : ℕ) (old : List (Vec ℕ Global)
           (subst (λ (n : ℕ). IsUntied (Join condition left right) instance turned n (error_of e)) (sym (after_made old first at))
           (join_untied tables instance turned (orderings_of old) condition left right (orderings_of mid) l.outcome a.1 (orderings_of new) r.outcome b.1 e h))
 
--- ---- out of memory
+-- ---- a Limit under a choice
 
-pub limit_memory : {X : Type 0} (view : X → RowsOrFault) (orderings : Orderings) (limit : LimitRule) (input : RowsOrFault) (first : ℕ) (old new : List (Vec ℕ Global)) → IsLimitStep view limit input orderings first old new (Err OutOfMemory)
-limit_memory view (Chosen choice most) limit input first old new = record { ok = tt; refused = tt }
-limit_memory view (Sorted turned) limit input first old new = record { ok = tt; refused = tt }
+pub limit_step : {X : Type 0} (view : X → RowsOrFault) (orderings : Orderings) (choice : Bor (List (Vec ℕ Global))) (most : ℕ) (limit : LimitRule) (input : RowsOrFault) (first : ℕ) (old new : List (Vec ℕ Global)) (r : Result X EvalError)
+    → orderings ≡ Chosen choice most → IsLimitedOrUnserved view limit input (orderings_of choice.now) first r → IsStep view (Limit limit) input orderings first old new r
+limit_step view orderings choice most limit input first old new r is h = subst (λ o. IsStep view (Limit limit) input o first old new r) (sym is) (limited_or_unserved view limit input (orderings_of choice.now) first r h)

@@ -1,13 +1,10 @@
 -- Where the wrong orderings of a plan can stand, and why a choice is refused by the first.
-use Rattle.std.proofs.Common.{◌≡◌, ℕ, ◌+◌, ◌<◌, ◌≤◌, List, [], take, drop, length, inl, inr, ap, subst, arith, length-drop, drop-drop}
-use Rattle.std.specs.List.{AllByRecursion}
-use Rattle.std.proofs.lemmas.List.{get_or-drop}
+use Rattle.std.proofs.Common.{◌≡◌, ℕ, ◌+◌, ◌<◌, ◌≤◌, List, take, drop, length, inl, inr, ap, subst, arith, length-drop, drop-drop}
 use Rattle.wd_value.specs.Rows.{Instance}
-use Rattle.wd_plan.specs.Choices.{AreLawful, AreOrderings, AtRows}
+use Rattle.wd_plan.specs.Choices.{AreLawful, AreOrderingsOver}
 use Rattle.wd_plan.specs.Outcomes.{outcome}
-use Rattle.wd_plan.specs.Plans.{PlanTree, Scan, Join, Filter, Map, Group, Window, Distinct, Limit, ordering_count}
-use Rattle.wd_plan.specs.Sorting.{IsOrdering, limit_class}
-use Rattle.wd_eval.specs.Windows.{IsLeast, IsWindowServed}
+use Rattle.wd_plan.specs.Plans.{PlanTree, Scan, Join, Over, step_classes, ordering_count, own_orderings}
+use Rattle.wd_eval.specs.Windows.{AreServed, IsLeast}
 use Rattle.wd_eval.proofs.Serving.{class_served}
 use Rattle.wd_eval.specs.Laws.{HasNoWrongOrdering}
 use Rattle.wd_eval.specs.Judged.{IsRefusedWithin}
@@ -22,14 +19,8 @@ module _ (instance : Instance) (choice : List (List ℕ)) (place : ℕ) where
   wrong_within (Scan table columns) first w = absurd w
   wrong_within (Join condition left right) first (inl w) = let range = wrong_within left first w in let a = range.0 in let b = range.1 in (a, omega arith)
   wrong_within (Join condition left right) first (inr w) = let range = wrong_within right (first + ordering_count left) w in let a = range.0 in let b = range.1 in (omega arith, omega arith)
-  wrong_within (Filter condition input) first w = wrong_within input first w
-  wrong_within (Map outputs input) first w = wrong_within input first w
-  wrong_within (Group g input) first w = wrong_within input first w
-  wrong_within (Window rule input) first (inl w) = let range = wrong_within input first w in let a = range.0 in let b = range.1 in (a, omega arith)
-  wrong_within (Window rule input) first (inr w) = let at = w.wrong.0 in let small = w.within in (omega arith, omega arith)
-  wrong_within (Distinct input) first w = wrong_within input first w
-  wrong_within (Limit limit input) first (inl w) = let range = wrong_within input first w in let a = range.0 in let b = range.1 in (a, omega arith)
-  wrong_within (Limit limit input) first (inr w) = let at = w.0 in (omega arith, omega arith)
+  wrong_within (Over step input) first (inl w) = let range = wrong_within input first w in let a = range.0 in let b = range.1 in (a, omega arith)
+  wrong_within (Over step input) first (inr w) = let at = w.wrong.0 in let small = w.within in (omega arith, omega arith)
 
   -- where all of them are there and lawful, there is none
   pub none_wrong : (plan : PlanTree) (first : ℕ) → ordering_count plan ≤ length (drop first choice) → AreLawful plan instance (drop first choice) → IsWrongFrom plan instance choice first place → ⊥
@@ -37,28 +28,19 @@ module _ (instance : Instance) (choice : List (List ℕ)) (place : ℕ) where
   none_wrong (Join condition left right) first h s (inl w) = none_wrong left first (omega arith) s.0 w
   none_wrong (Join condition left right) first h s (inr w) =
       let whole = length-drop first choice in
-      let behind = length-drop (first + ordering_count left) choice in
+      let after = length-drop (first + ordering_count left) choice in
       none_wrong right (first + ordering_count left) (omega arith) (subst (AreLawful right instance) (drop-drop (ordering_count left) first choice) s.1) w
-  none_wrong (Filter condition input) first h s w = none_wrong input first h s w
-  none_wrong (Map outputs input) first h s w = none_wrong input first h s w
-  none_wrong (Group g input) first h s w = none_wrong input first h s w
-  none_wrong (Window rule input) first h s (inl w) = none_wrong input first (omega arith) s.0 w
-  none_wrong (Window rule input) first h s (inr w) = w.wrong.1 (class_served rule (outcome input instance (drop first choice)) choice (first + ordering_count input) w.number served w.within)
+  none_wrong (Over step input) first h s (inl w) = none_wrong input first (omega arith) s.0 w
+  none_wrong (Over step input) first h s (inr w) = w.wrong.1 (class_served (step_classes step) (outcome input instance (drop first choice)) choice (first + ordering_count input) w.number served w.within)
     where
-      here : take (length rule.classes) (drop (ordering_count input) (drop first choice)) ≡ take (length rule.classes) (drop (first + ordering_count input) choice)
-      here = ap (take (length rule.classes)) (drop-drop (ordering_count input) first choice)
+      here : own_orderings step input (drop first choice) ≡ take (length (step_classes step)) (drop (first + ordering_count input) choice)
+      here = ap (take (length (step_classes step))) (drop-drop (ordering_count input) first choice)
 
-      served : IsWindowServed rule (outcome input instance (drop first choice)) choice (first + ordering_count input)
+      served : AreServed (step_classes step) (outcome input instance (drop first choice)) choice (first + ordering_count input)
       served = record {
         present = (let whole = length-drop first choice in let some = w.within in omega arith);
-        lawful = subst (λ (own : List (List ℕ)). AtRows (outcome input instance (drop first choice)) (λ rows. AreOrderings rule rows own) (AllByRecursion (λ o. o ≡ []) own)) here s.1;
+        lawful = subst (AreOrderingsOver (step_classes step) (outcome input instance (drop first choice))) here s.1;
       }
-  none_wrong (Distinct input) first h s w = none_wrong input first h s w
-  none_wrong (Limit limit input) first h s (inl w) = none_wrong input first (omega arith) s.0 w
-  none_wrong (Limit limit input) first h s (inr w) = w.1 (record {
-    present = (let whole = length-drop first choice in omega arith);
-    lawful = subst (λ (o : List ℕ). AtRows (outcome input instance (drop first choice)) (λ rows. IsOrdering (limit_class limit) rows o) (o ≡ [])) (get_or-drop first choice (ordering_count input) []) s.1;
-  })
 
 -- ---- whole plans
 

@@ -1,5 +1,5 @@
 -- The partitions of a Window's classes, and the values of its calls.
-use Rattle.std.specs.Prelude.{◌≡◌, ℕ, ◌+◌, ◌<◌, ◌≤◌, Bool, ◌&&◌, true, nat_eq, List, [], length, map, slice_index_or, Result, Ok, IfErr, OnOk}
+use Rattle.std.specs.Prelude.{◌≡◌, ℕ, ◌+◌, ◌<◌, ◌≤◌, Bool, ◌&&◌, true, nat_eq, List, [], length, map, slice_index_or, Result, Ok}
 use Rattle.std.specs.List.{list_any}
 use Rattle.std.specs.declared.alloc.Global.{Global}
 use Rattle.std.specs.declared.vec.Vec.{Vec}
@@ -52,9 +52,9 @@ pub record AreClassIndexes (w : WindowRule) (rows : List Row) (choice : List (Li
   pub present : first + n ≤ length choice
   pub each : (k : ℕ) (class_index : ClassIndex) → k < n → IsClassIndexIn w k rows (ordering_at choice (first + k)) (slice_index_or indexes k class_index)
 
--- those of all classes, or the place of the first of these orderings that does not serve the Window
+-- those of all classes, or the place of the first of these orderings that is invalid
 abbrev pub AreClassIndexesOrUnserved : WindowRule → List Row → List (List ℕ) → ℕ → Result (Vec ClassIndex Global) EvalError → Type 0
-AreClassIndexesOrUnserved w rows choice first r = OkOr (λ v. AreClassIndexes w rows choice first (length w.classes) v.items) (AreUnserved w (Ok rows) choice first) r
+AreClassIndexesOrUnserved w rows choice first r = OkOr (λ v. AreClassIndexes w rows choice first (length w.classes) v.items) (AreUnserved w.classes (Ok rows) choice first) r
 
 -- the partitions of a Window's classes
 pub record AreIndexed (w : WindowRule) (rows : List Row) (orderings : List (List ℕ)) (indexes : List ClassIndex) : Type 0 where
@@ -91,6 +91,5 @@ pub record IsNotEmptyIn (count : ℕ) (choice : List (List ℕ)) (first place : 
   pub wrong : IsEmptyAt choice (first + number) → ⊥
 
 -- so many orderings are there and empty, or the place of the first that is not
-pub record AreEmptyOrUnserved {X : Type 0} (count : ℕ) (choice : List (List ℕ)) (first : ℕ) (r : Result X EvalError) : Type 0 where
-  pub ok : OnOk r (AreEmpty count choice first)
-  pub refused : IfErr r (λ e. IsUnserved (IsLeast (IsNotEmptyIn count choice first)) e)
+abbrev pub AreEmptyOrUnserved : {X : Type 0} → ℕ → List (List ℕ) → ℕ → Result X EvalError → Type 0
+AreEmptyOrUnserved count choice first r = OkOr (λ empty. AreEmpty count choice first) (IsUnserved (IsLeast (IsNotEmptyIn count choice first))) r

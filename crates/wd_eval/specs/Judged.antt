@@ -1,5 +1,5 @@
 -- What a plan gives under a choice, or why it gives nothing, as contracts see it.
-use Rattle.std.specs.Prelude.{◌≡◌, ℕ, true, false, List, Result, IfErr, OnOk, ⊤}
+use Rattle.std.specs.Prelude.{◌≡◌, ℕ, true, false, List, Result, ⊤}
 use Rattle.wd_value.specs.Rows.{Instance}
 use Rattle.wd_plan.specs.declared.plan.Outcome.{Outcome}
 use Rattle.wd_plan.specs.Choices.{IsValidChoice}
@@ -45,6 +45,5 @@ abbrev pub IsOutcomeOrRefused : PlanTree → Instance → List (List ℕ) → Re
 IsOutcomeOrRefused plan instance choice r = IsOutcomeWithinOrRefused most_rows plan instance choice r
 
 -- the choice is allowed, or why it is not
-pub record IsAllowedOrRefused {X : Type 0} (plan : PlanTree) (instance : Instance) (choice : List (List ℕ)) (r : Result X EvalError) : Type 0 where
-  pub ok : OnOk r (IsAllowedChoice plan instance choice)
-  pub refused : IfErr r (λ e. IsRefused plan instance choice e)
+abbrev pub IsAllowedOrRefused : {X : Type 0} → PlanTree → Instance → List (List ℕ) → Result X EvalError → Type 0
+IsAllowedOrRefused plan instance choice r = OkOr (λ allowed. IsAllowedChoice plan instance choice) (IsRefused plan instance choice) r

@@ -3,7 +3,7 @@ use Rattle.std.specs.Prelude.{◌≡◌, ℕ, ◌+◌, ◌≤◌, true, false, L
 use Rattle.wd_value.specs.Rows.{Instance, rows_at}
 use Rattle.wd_plan.specs.Choices.{AreLawful}
 use Rattle.wd_plan.specs.Faults.{and_then}
-use Rattle.wd_plan.specs.Outcomes.{RowsOrFault, cut, ordering_at, outcome}
+use Rattle.wd_plan.specs.Outcomes.{RowsOrFault, limited_rows, ordering_at, outcome}
 use Rattle.wd_plan.specs.Plans.{PlanTree, LimitRule, ordering_count}
 use Rattle.wd_plan.specs.Sorting.{limit_class}
 use Rattle.wd_join.specs.Joins.{has_more_rows}
@@ -40,7 +40,7 @@ IsStopped most plan instance choice first OutOfMemory = ⊤
 
 -- what a Limit gives over its input
 abbrev pub cut_over : LimitRule → List ℕ → RowsOrFault → RowsOrFault
-cut_over limit ordering input = and_then input (λ rows. Ok (cut limit (rows_at rows ordering)))
+cut_over limit ordering input = and_then input (λ rows. Ok (limited_rows limit (rows_at rows ordering)))
 
 -- the limit's ordering with this number is lawful, and what is found is what the Limit gives under it
 pub record IsLimited (limit : LimitRule) (input : RowsOrFault) (choice : List (List ℕ)) (number : ℕ) (found : RowsOrFault) : Type 0 where

@@ -2,7 +2,7 @@
 use Rattle.std.specs.Prelude.{ℕ, Bool, ◌||◌, List, drop}
 use Rattle.wd_value.specs.Rows.{Instance}
 use Rattle.wd_plan.specs.Outcomes.{outcome}
-use Rattle.wd_plan.specs.Plans.{PlanTree, Scan, Join, Filter, Map, Group, Window, Distinct, Limit, ordering_count}
+use Rattle.wd_plan.specs.Plans.{PlanTree, Scan, Join, Over, ordering_count}
 use Rattle.wd_join.specs.Joins.{has_more_rows}
 use Rattle.wd_nodes.specs.Relation.{most_rows}
 
@@ -15,12 +15,7 @@ abbrev pub has_larger_step : ℕ → PlanTree → Instance → List (List ℕ) �
 has_larger_step most (Scan table columns) instance choice = is_larger most (Scan table columns) instance choice
 has_larger_step most (Join condition left right) instance choice =
     (has_larger_step most left instance choice || has_larger_step most right instance (drop (ordering_count left) choice)) || is_larger most (Join condition left right) instance choice
-has_larger_step most (Filter condition input) instance choice = has_larger_step most input instance choice || is_larger most (Filter condition input) instance choice
-has_larger_step most (Map outputs input) instance choice = has_larger_step most input instance choice || is_larger most (Map outputs input) instance choice
-has_larger_step most (Group rule input) instance choice = has_larger_step most input instance choice || is_larger most (Group rule input) instance choice
-has_larger_step most (Window w input) instance choice = has_larger_step most input instance choice || is_larger most (Window w input) instance choice
-has_larger_step most (Distinct input) instance choice = has_larger_step most input instance choice || is_larger most (Distinct input) instance choice
-has_larger_step most (Limit limit input) instance choice = has_larger_step most input instance choice || is_larger most (Limit limit input) instance choice
+has_larger_step most (Over step input) instance choice = has_larger_step most input instance choice || is_larger most (Over step input) instance choice
 
 -- the same for the most rows that any step may have
 abbrev pub is_large : PlanTree → Instance → List (List ℕ) → Bool

@@ -4,9 +4,8 @@ use Rattle.wd_value.specs.Rows.{Row, Instance}
 use Rattle.wd_sort.specs.Sorting.{IsStableSortOf}
 use Rattle.wd_plan.specs.declared.plan.Choice.{Choice}
 use Rattle.wd_plan.specs.Choices.{AtRows, IsValidChoice}
-use Rattle.wd_plan.specs.Outcomes.{RowsOrFault, class_at, ordering_at, outcome}
-use Rattle.wd_plan.specs.Plans.{ClassRule, PlanTree, Scan, Join, Filter, Map, Group, Window, Distinct, Limit, ordering_count}
-use Rattle.wd_plan.specs.Sorting.{limit_class}
+use Rattle.wd_plan.specs.Outcomes.{RowsOrFault, class_among, ordering_at, outcome}
+use Rattle.wd_plan.specs.Plans.{ClassRule, PlanTree, Scan, Join, Over, step_classes, ordering_count}
 use Rattle.wd_partition.specs.Columns.{given_positions, sort_columns}
 use Rattle.wd_partition.specs.declared.turn.Turn.{Turn}
 use Rattle.wd_partition.specs.declared.turn.Turn.TheVariants.{AsGiven, Reversed}
@@ -21,7 +20,7 @@ use Rattle.wd_eval.specs.declared.error.EvalError.TheVariants.{NotValid, TooMany
 abbrev pub IsSortedOrdering : ClassRule → Turn → List Row → List ℕ → Type 0
 IsSortedOrdering class turn rows ordering = IsStableSortOf (sort_columns class) rows (given_positions turn (length rows)) ordering
 
--- that ordering of a node's input rows, and the empty list where the input is a fault
+-- that ordering of a step's input rows, and the empty list where the input is a fault
 abbrev pub IsSortedOver : ClassRule → Turn → RowsOrFault → List ℕ → Type 0
 IsSortedOver class turn input ordering = AtRows input (λ rows. IsSortedOrdering class turn rows ordering) (ordering ≡ [])
 
@@ -30,24 +29,17 @@ abbrev pub turn_of : Option Turned → ℕ → Turn
 turn_of None number = AsGiven
 turn_of (Some t) number = if nat_eq t.number number then t.turn else AsGiven
 
--- each ordering is the sorted one over its node's input rows, as this choice makes them; the plan's first ordering has the
+-- each ordering is the sorted one over its step's input rows, as this choice makes them; the plan's first ordering has the
 -- number `first`
 abbrev pub AreTied : PlanTree → Instance → Option Turned → ℕ → List (List ℕ) → Type 0
 AreTied (Scan table columns) instance turned first choice = ⊤
 AreTied (Join condition left right) instance turned first choice =
     AreTied left instance turned first choice × AreTied right instance turned (first + ordering_count left) (drop (ordering_count left) choice)
-AreTied (Filter condition input) instance turned first choice = AreTied input instance turned first choice
-AreTied (Map outputs input) instance turned first choice = AreTied input instance turned first choice
-AreTied (Group rule input) instance turned first choice = AreTied input instance turned first choice
-AreTied (Window w input) instance turned first choice =
+AreTied (Over step input) instance turned first choice =
     AreTied input instance turned first choice
-    × ((n : ℕ) → n < length w.classes → IsSortedOver (class_at w n) (turn_of turned (first + ordering_count input + n)) (outcome input instance choice) (ordering_at choice (ordering_count input + n)))
-AreTied (Distinct input) instance turned first choice = AreTied input instance turned first choice
-AreTied (Limit limit input) instance turned first choice =
-    AreTied input instance turned first choice
-    × IsSortedOver (limit_class limit) (turn_of turned (first + ordering_count input)) (outcome input instance choice) (ordering_at choice (ordering_count input))
+    × ((n : ℕ) → n < length (step_classes step) → IsSortedOver (class_among (step_classes step) n) (turn_of turned (first + ordering_count input + n)) (outcome input instance choice) (ordering_at choice (ordering_count input + n)))
 
--- the choice with one such ordering for each class of each Window and each Limit, in postorder
+-- the choice with one such ordering for each class of each step, in postorder
 pub record IsTurnedChoice (plan : PlanTree) (instance : Instance) (turned : Option Turned) (choice : List (List ℕ)) : Type 0 where
   pub number : length choice ≡ ordering_count plan
   pub tied : AreTied plan instance turned 0 choice

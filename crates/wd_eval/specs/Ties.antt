@@ -1,15 +1,14 @@
 -- Sorted orderings put after those that are there, node by node.
-use Rattle.std.specs.Prelude.{◌≡◌, ℕ, ◌+◌, ◌<◌, ◌≤◌, true, List, [], ◌∷◌, ◌++◌, drop, length, Option, Result, ⊤}
+use Rattle.std.specs.Prelude.{◌≡◌, ℕ, ◌+◌, ◌<◌, ◌≤◌, true, List, [], ◌++◌, drop, length, Option, Result, ⊤}
 use Rattle.std.specs.declared.alloc.Global.{Global}
 use Rattle.std.specs.declared.vec.Vec.{Vec}
 use Rattle.wd_value.specs.Rows.{Instance}
-use Rattle.wd_plan.specs.Outcomes.{RowsOrFault, class_at, ordering_at}
-use Rattle.wd_plan.specs.Plans.{LimitRule, PlanTree, WindowRule, ordering_count}
-use Rattle.wd_plan.specs.Sorting.{limit_class}
+use Rattle.wd_plan.specs.Outcomes.{RowsOrFault, class_among, ordering_at}
+use Rattle.wd_plan.specs.Plans.{ClassRule, PlanTree, Step, step_classes, ordering_count}
 use Rattle.wd_nodes.specs.Results.{OkOr}
 use Rattle.wd_nodes.specs.Relation.{most_rows}
-use Rattle.wd_eval.specs.Nodes.{IsLimited, IsEvaluated}
-use Rattle.wd_eval.specs.Windows.{IsExtended, orderings_of}
+use Rattle.wd_eval.specs.Nodes.{IsEvaluated}
+use Rattle.wd_eval.specs.Windows.{IsStepped, orderings_of}
 use Rattle.wd_eval.specs.Steps.{has_large_step}
 use Rattle.wd_eval.specs.Tied.{AreTied, IsSortedOver, turn_of}
 use Rattle.wd_eval.specs.declared.error.EvalError.{EvalError}
@@ -17,32 +16,25 @@ use Rattle.wd_eval.specs.declared.turned.Turned.{Turned}
 use Rattle.wd_nodes.specs.declared.relation.Relation.{Relation}
 use Rattle.wd_eval.specs.declared.error.EvalError.TheVariants.{NotValid, TooManyRows, OutOfMemory}
 
--- the sorted orderings of the first n classes of a Window over its input, the first of them with this number
-pub record AreSortedOver (w : WindowRule) (input : RowsOrFault) (turned : Option Turned) (first n : ℕ) (own : List (List ℕ)) : Type 0 where
+-- the sorted orderings of the first n of some classes over an input, the first of them with this number
+pub record AreSortedOver (classes : List ClassRule) (input : RowsOrFault) (turned : Option Turned) (first n : ℕ) (own : List (List ℕ)) : Type 0 where
   pub long : length own ≡ n
-  pub each : (k : ℕ) → k < n → IsSortedOver (class_at w k) (turn_of turned (first + k)) input (ordering_at own k)
+  pub each : (k : ℕ) → k < n → IsSortedOver (class_among classes k) (turn_of turned (first + k)) input (ordering_at own k)
 
 -- they were put after the orderings that were there
-pub record ArePut (w : WindowRule) (input : RowsOrFault) (turned : Option Turned) (n : ℕ) (old new : List (List ℕ)) : Type 0 where
+pub record ArePut (classes : List ClassRule) (input : RowsOrFault) (turned : Option Turned) (n : ℕ) (old new : List (List ℕ)) : Type 0 where
   pub own : List (List ℕ)
   pub grown : new ≡ old ++ own
-  pub sorted : AreSortedOver w input turned (length old) n own
+  pub sorted : AreSortedOver classes input turned (length old) n own
 
 -- those of all classes
-abbrev pub AreAllPut : WindowRule → RowsOrFault → Option Turned → List (List ℕ) → List (List ℕ) → Type 0
-AreAllPut w input turned old new = ArePut w input turned (length w.classes) old new
+abbrev pub AreAllPut : List ClassRule → RowsOrFault → Option Turned → List (List ℕ) → List (List ℕ) → Type 0
+AreAllPut classes input turned old new = ArePut classes input turned (length classes) old new
 
--- and what is found is what the Window gives under them
-pub record IsStableWindow (w : WindowRule) (input : RowsOrFault) (turned : Option Turned) (old new : List (List ℕ)) (found : RowsOrFault) : Type 0 where
-  pub put : AreAllPut w input turned old new
-  pub extended : IsExtended w input new (length old) found
-
--- the sorted ordering of a Limit was put there, and what is found is what the Limit gives under it
-pub record IsStableLimit (limit : LimitRule) (input : RowsOrFault) (turned : Option Turned) (old new : List (List ℕ)) (found : RowsOrFault) : Type 0 where
-  pub own : List ℕ
-  pub grown : new ≡ old ++ own ∷ []
-  pub sorted : IsSortedOver (limit_class limit) (turn_of turned (length old)) input own
-  pub is : IsLimited limit input new (length old) found
+-- those of a step, and what is found is what the step gives under them
+pub record IsStableStep (step : Step) (input : RowsOrFault) (turned : Option Turned) (old new : List (List ℕ)) (found : RowsOrFault) : Type 0 where
+  pub put : AreAllPut (step_classes step) input turned old new
+  pub stepped : IsStepped step input new (length old) found
 
 -- the plan's sorted orderings were put after those that were there, and the outcome is that under them
 pub record IsUnderStable (plan : PlanTree) (tables instance : Instance) (turned : Option Turned) (old new : List (List ℕ)) (o : Relation) : Type 0 where
@@ -74,10 +66,6 @@ pub record IsPutEmpty (count : ℕ) (old new : List (List ℕ)) : Type 0 where
   pub long : length own ≡ count
   pub empty : (k : ℕ) → k < count → ordering_at own k ≡ []
 
--- what a Window gives under its sorted orderings, as the view of a value has it, or out of memory
-abbrev pub IsStableWindowOrNoMemory : {X : Type 0} → (X → RowsOrFault) → WindowRule → RowsOrFault → Option Turned → List (Vec ℕ Global) → List (Vec ℕ Global) → Result X EvalError → Type 0
-IsStableWindowOrNoMemory view w input turned old new r = OkOr (λ x. IsStableWindow w input turned (orderings_of old) (orderings_of new) (view x)) IsOutOfMemory r
-
--- what a Limit gives under its sorted ordering, as the view of a value has it, or out of memory
-abbrev pub IsStableLimitOrNoMemory : {X : Type 0} → (X → RowsOrFault) → LimitRule → RowsOrFault → Option Turned → List (Vec ℕ Global) → List (Vec ℕ Global) → Result X EvalError → Type 0
-IsStableLimitOrNoMemory view limit input turned old new r = OkOr (λ x. IsStableLimit limit input turned (orderings_of old) (orderings_of new) (view x)) IsOutOfMemory r
+-- what a step gives under its sorted orderings, as the view of a value has it, or out of memory
+abbrev pub IsStableStepOrNoMemory : {X : Type 0} → (X → RowsOrFault) → Step → RowsOrFault → Option Turned → List (Vec ℕ Global) → List (Vec ℕ Global) → Result X EvalError → Type 0
+IsStableStepOrNoMemory view step input turned old new r = OkOr (λ x. IsStableStep step input turned (orderings_of old) (orderings_of new) (view x)) IsOutOfMemory r

@@ -4,13 +4,13 @@ use Rattle.std.specs.declared.alloc.Global.{Global}
 use Rattle.std.specs.declared.vec.Vec.{Vec}
 use Rattle.wd_value.specs.Rows.{Instance}
 use Rattle.wd_plan.specs.Outcomes.{RowsOrFault}
-use Rattle.wd_plan.specs.Plans.{LimitRule, PlanTree, WindowRule}
+use Rattle.wd_plan.specs.Plans.{PlanTree, Step}
 use Rattle.wd_nodes.specs.Results.{OkOr}
-use Rattle.wd_eval.specs.Windows.{IsLeast, orderings_of, IsExtendedOrUnserved}
-use Rattle.wd_eval.specs.Nodes.{IsLimitedOrUnserved, IsEvaluated}
+use Rattle.wd_eval.specs.Windows.{IsLeast, orderings_of, IsSteppedOrUnserved}
+use Rattle.wd_eval.specs.Nodes.{IsEvaluated}
 use Rattle.wd_eval.specs.Steps.{has_larger_step}
 use Rattle.wd_nodes.specs.Relation.{most_rows}
-use Rattle.wd_eval.specs.Ties.{IsUnderStable, IsStableLimitOrNoMemory, IsStableTooLargeFrom, IsStableWindowOrNoMemory}
+use Rattle.wd_eval.specs.Ties.{IsUnderStable, IsStableStepOrNoMemory, IsStableTooLargeFrom}
 use Rattle.wd_eval.specs.Wrong.{IsWrongFrom}
 use Rattle.wd_eval.specs.declared.error.EvalError.{EvalError}
 use Rattle.wd_eval.specs.declared.error.EvalError.TheVariants.{NotValid, TooManyRows, OutOfMemory}
@@ -54,12 +54,7 @@ IsHalted plan instance orderings first OutOfMemory = ⊤
 abbrev pub IsWalkedOrHalted : PlanTree → Instance → Instance → Orderings → ℕ → List (Vec ℕ Global) → List (Vec ℕ Global) → Result Evaluated EvalError → Type 0
 IsWalkedOrHalted plan tables instance orderings first old new r = OkOr (λ e. IsWalked plan tables instance orderings first old new e) (IsHalted plan instance orderings first) r
 
--- ---- Windows and Limits over their inputs
-
-abbrev pub IsWindowStep : {X : Type 0} → (X → RowsOrFault) → WindowRule → RowsOrFault → Orderings → ℕ → List (Vec ℕ Global) → List (Vec ℕ Global) → Result X EvalError → Type 0
-IsWindowStep view w input (Chosen choice most) first old new r = IsExtendedOrUnserved view w input (orderings_of choice.now) first r
-IsWindowStep view w input (Sorted turned) first old new r = IsStableWindowOrNoMemory view w input turned old new r
-
-abbrev pub IsLimitStep : {X : Type 0} → (X → RowsOrFault) → LimitRule → RowsOrFault → Orderings → ℕ → List (Vec ℕ Global) → List (Vec ℕ Global) → Result X EvalError → Type 0
-IsLimitStep view limit input (Chosen choice most) first old new r = IsLimitedOrUnserved view limit input (orderings_of choice.now) first r
-IsLimitStep view limit input (Sorted turned) first old new r = IsStableLimitOrNoMemory view limit input turned old new r
+-- the same of a step over its input
+abbrev pub IsStep : {X : Type 0} → (X → RowsOrFault) → Step → RowsOrFault → Orderings → ℕ → List (Vec ℕ Global) → List (Vec ℕ Global) → Result X EvalError → Type 0
+IsStep view step input (Chosen choice most) first old new r = IsSteppedOrUnserved view step input (orderings_of choice.now) first r
+IsStep view step input (Sorted turned) first old new r = IsStableStepOrNoMemory view step input turned old new r

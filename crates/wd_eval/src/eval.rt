@@ -222,7 +222,7 @@ pub fn run_plan(
     Ok(outcome)
 }
 
-/// What [`run_plan`] answers over tables that are handed over, kept column by column: the first one
+/// What [`run_plan`] answers over tables that are moved in, kept column by column: the first one
 /// that the plan scans goes so into the steps above its Scan, where no other Scan reads it, and rows that
 /// are in columns at the end are answered so.
 pub fn run_columns(

@@ -5,10 +5,11 @@ ghost use Rattle.std.specs.Prelude.{◌≡◌, ◌↔◌, [], IfOk, IsTrue, Ok, 
 ghost use Rattle.wd_eval.specs.Nodes.{IsLimitedOrUnserved, cut_over};
 ghost use Rattle.wd_nodes.specs.Relation.{relation_of, stored_rows_of, stored_or_fault_of};
 ghost use Rattle.wd_eval.specs.Tied.{IsSortedOver};
-ghost use Rattle.wd_eval.specs.Ties.{IsStableLimit};
-ghost use Rattle.wd_eval.specs.Walks.{IsAt, IsLimitStep};
+ghost use Rattle.wd_eval.specs.Ties.{IsStableStep};
+ghost use Rattle.wd_eval.specs.Walks.{IsAt, IsStep};
 ghost use Rattle.wd_plan.specs.Choices.{AtRows};
-ghost use Rattle.wd_plan.specs.Outcomes.{cut};
+ghost use Rattle.wd_plan.specs.Outcomes.{limited_rows};
+ghost use Rattle.wd_plan.specs.Plans as tree;
 ghost use Rattle.wd_plan.specs.Plans.{limit_of};
 ghost use Rattle.wd_plan.specs.Sorting.{IsOrdering, limit_class};
 ghost use Rattle.wd_value.specs.Bags.{EachOnce};
@@ -37,7 +38,7 @@ pub(crate) fn limit_rows(
     made: &mut Vec<Vec<u64>>,
 ) -> Result<Relation, EvalError>
     requires { IsAt orderings first made.old.items }
-    ensures { IsLimitStep (relation_of (instance_of instance.now)) (limit_of limit.now) (relation_of (instance_of instance.now) input) orderings.entry first made.old.items made.new.items result }
+    ensures { IsStep (relation_of (instance_of instance.now)) (tree.Limit (limit_of limit.now)) (relation_of (instance_of instance.now) input) orderings.entry first made.old.items made.new.items result }
 {
     let input = store(alloc, instance, input)?;
     match orderings {
@@ -116,7 +117,7 @@ fn limit_stored(
     ordering: &[u64],
 ) -> Result<Relation, OutOfMemory>
     requires { EachOnce (length (stored_rows_of (instance_of instance.now) stored)) ordering.now }
-    ensures { IfOk result (λ o. relation_of (instance_of instance.now) o ≡ Ok (cut (limit_of limit.now) (rows_at (stored_rows_of (instance_of instance.now) stored) ordering.now))) }
+    ensures { IfOk result (λ o. relation_of (instance_of instance.now) o ≡ Ok (limited_rows (limit_of limit.now) (rows_at (stored_rows_of (instance_of instance.now) stored) ordering.now))) }
 {
     let kept = kept_positions(limit, &source(&stored, instance), ordering);
     pick_rows(alloc, instance, stored, kept)
@@ -131,7 +132,7 @@ fn sorted_limit(
     turned: Option<Turned>,
     made: &mut Vec<Vec<u64>>,
 ) -> Result<Relation, OutOfMemory>
-    ensures { IfOk result (λ o. IsStableLimit (limit_of limit.now) (stored_or_fault_of (instance_of instance.now) input) turned (orderings_of made.old.items) (orderings_of made.new.items) (relation_of (instance_of instance.now) o)) }
+    ensures { IfOk result (λ o. IsStableStep (tree.Limit (limit_of limit.now)) (stored_or_fault_of (instance_of instance.now) input) turned (orderings_of made.old.items) (orderings_of made.new.items) (relation_of (instance_of instance.now) o)) }
 {
     let turn = turn_of(turned, made.len());
     let ordering = sorted_over(alloc, instance, &input, limit, turn)?;

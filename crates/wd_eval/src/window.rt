@@ -2,11 +2,12 @@
 
 ghost use Rattle.std.specs.Prelude.{◌≡◌, ◌↔◌, ◌-◌, ◌^◌, ◌<◌, ◌≤◌, IfOk, IsTrue, Ok, OnOk, length};
 ghost use Rattle.wd_eval.specs.ClassIndexes.{AreEmptyOrUnserved, AreClassIndexes, IsEmptyAt};
-ghost use Rattle.wd_eval.specs.Ties.{AreAllPut, IsPutEmpty, IsStableWindow};
-ghost use Rattle.wd_eval.specs.Walks.{IsAt, IsWindowStep};
+ghost use Rattle.wd_eval.specs.Ties.{AreAllPut, IsPutEmpty, IsStableStep};
+ghost use Rattle.wd_eval.specs.Walks.{IsAt, IsStep};
 ghost use Rattle.wd_eval.specs.Windows.{AreFew, IsExtendedOrUnserved, orderings_of};
 ghost use Rattle.wd_nodes.specs.Relation.{relation_of};
 ghost use Rattle.wd_plan.specs.Outcomes.{outcome_of};
+ghost use Rattle.wd_plan.specs.Plans as tree;
 ghost use Rattle.wd_plan.specs.Plans.{NamesClasses, window_of};
 ghost use Rattle.wd_value.specs.Rows.{Instance, instance_of};
 
@@ -36,7 +37,7 @@ pub(crate) fn extend_rows(
     requires few { AreFew (2 ^ 32 - 1) (relation_of (instance_of instance.now) input) }
     requires at { IsAt orderings first made.old.items }
     requires named { NamesClasses (window_of window.now) }
-    ensures { IsWindowStep (relation_of (instance_of instance.now)) (window_of window.now) (relation_of (instance_of instance.now) input) orderings.entry first made.old.items made.new.items result }
+    ensures { IsStep (relation_of (instance_of instance.now)) (tree.Window (window_of window.now)) (relation_of (instance_of instance.now) input) orderings.entry first made.old.items made.new.items result }
 {
     match orderings {
         Orderings::Chosen(choice, _) => {
@@ -115,7 +116,7 @@ fn sorted_window(
 ) -> Result<Relation, OutOfMemory>
     requires few { AreFew (2 ^ 32 - 1) (relation_of (instance_of instance.now) input) }
     requires named { NamesClasses (window_of window.now) }
-    ensures { IfOk result (λ o. IsStableWindow (window_of window.now) (relation_of (instance_of instance.now) input) turned (orderings_of made.old.items) (orderings_of made.new.items) (relation_of (instance_of instance.now) o)) }
+    ensures { IfOk result (λ o. IsStableStep (tree.Window (window_of window.now)) (relation_of (instance_of instance.now) input) turned (orderings_of made.old.items) (orderings_of made.new.items) (relation_of (instance_of instance.now) o)) }
 {
     match input {
         Relation::ByColumn(columns) => sorted_by_column(alloc, window, columns, turned, made),
@@ -137,7 +138,7 @@ fn sorted_by_column(
 ) -> Result<Relation, OutOfMemory>
     requires few { length columns < 2 ^ 32 }
     requires named { NamesClasses (window_of window.now) }
-    ensures { IfOk result (λ o. (instance : Instance) → IsStableWindow (window_of window.now) (Ok columns) turned (orderings_of made.old.items) (orderings_of made.new.items) (relation_of instance o)) }
+    ensures { IfOk result (λ o. (instance : Instance) → IsStableStep (tree.Window (window_of window.now)) (Ok columns) turned (orderings_of made.old.items) (orderings_of made.new.items) (relation_of instance o)) }
 {
     let indexes = put_sorted(
         alloc,
@@ -162,7 +163,7 @@ fn sorted_rows(
 ) -> Result<Outcome, OutOfMemory>
     requires few { AreFew (2 ^ 32 - 1) (outcome_of input) }
     requires named { NamesClasses (window_of window.now) }
-    ensures { IfOk result (λ o. IsStableWindow (window_of window.now) (outcome_of input) turned (orderings_of made.old.items) (orderings_of made.new.items) (outcome_of o)) }
+    ensures { IfOk result (λ o. IsStableStep (tree.Window (window_of window.now)) (outcome_of input) turned (orderings_of made.old.items) (orderings_of made.new.items) (outcome_of o)) }
 {
     match input {
         Outcome::Fault(fault) => {
@@ -187,7 +188,7 @@ fn put_sorted(
     made: &mut Vec<Vec<u64>>,
 ) -> Result<Vec<ClassIndex>, OutOfMemory>
     requires { length rows.now < 2 ^ 32 }
-    ensures put { OnOk result (AreAllPut (window_of window.now) (Ok rows.now) turned (orderings_of made.old.items) (orderings_of made.new.items)) }
+    ensures put { OnOk result (AreAllPut (window_of window.now).classes (Ok rows.now) turned (orderings_of made.old.items) (orderings_of made.new.items)) }
     ensures indexes { IfOk result (λ v. AreClassIndexes (window_of window.now) rows.now (orderings_of made.new.items) (length (orderings_of made.old.items)) (length (window_of window.now).classes) v.items) }
 {
     let mut indexes = Vec::new(alloc);

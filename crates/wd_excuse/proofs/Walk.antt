@@ -51,12 +51,12 @@ said_more is_above place [] piece =
     or_else-none (piece_says is_above place piece) ∙ ap₂ (λ a p. piece_says a p piece) (sym (or_false is_above)) (let e : place ≡ place + 0 = omega arith in e)
 said_more is_above place (first ∷ pieces) piece =
     let above = is_above || list_any is_line_end (spelling first) in
-    let behind = place + length (spelling first) in
+    let following = place + length (spelling first) in
     let ends : (above || list_any is_line_end (spellings pieces)) ≡ (is_above || list_any is_line_end (spelling first ++ spellings pieces)) =
     sym (or_assoc is_above _ _) ∙ ap (λ t. is_above || t) (sym (list_any-append is_line_end (spelling first) (spellings pieces))) in
-    let there : behind + length (spellings pieces) ≡ place + length (spelling first ++ spellings pieces) = omega (arith, length-append (spelling first) (spellings pieces)) in
-    ap (or_else (piece_says is_above place first)) (said_more above behind pieces piece ∙ ap₂ (λ a p. or_else (first_said above behind pieces) (piece_says a p piece)) ends there)
-    ∙ sym (or_else-assoc (piece_says is_above place first) (first_said above behind pieces) _)
+    let there : following + length (spellings pieces) ≡ place + length (spelling first ++ spellings pieces) = omega (arith, length-append (spelling first) (spellings pieces)) in
+    ap (or_else (piece_says is_above place first)) (said_more above following pieces piece ∙ ap₂ (λ a p. or_else (first_said above following pieces) (piece_says a p piece)) ends there)
+    ∙ sym (or_else-assoc (piece_says is_above place first) (first_said above following pieces) _)
 
 -- ---- how far a text has been gone through: so far nothing is said
 
@@ -125,7 +125,7 @@ says_nothing text is_first at is_above s none = (s.pieces, drop at text, s.begin
 pub there : (text bytes : List ℕ) (at len : ℕ) → bytes ≡ drop at text → HasGap bytes len → HasGap (drop at text) len
 there text bytes at len e h = subst (λ l. HasGap l len) e h
 
--- a line that has ended stays so, and else it is this stretch that ends it
+-- a line that has ended stays so, and else it is this range that ends it
 pub above_before : (is_above ends : Bool) → is_above ≡ true → is_above ≡ (is_above || ends)
 above_before is_above ends e = rw e refl
 

@@ -8,24 +8,24 @@ ghost use Rattle.wd_excuse.specs.Lines as spec;
 use crate::gap::{blanks, is_blank};
 
 /// What follows the white space at the front.
-fn unblanked(bytes: &[u8]) -> &[u8]
+fn skip_blanks(bytes: &[u8]) -> &[u8]
     ensures { result.now ≡ drop_while characters.is_blank bytes.now }
 {
     &bytes[blanks(bytes)..]
 }
 
 /// The bytes without white space at their start and end.
-fn trimmed(bytes: &[u8]) -> &[u8]
+fn trim(bytes: &[u8]) -> &[u8]
     ensures { result.now ≡ spec.trimmed bytes.now }
 {
-    unblanked(bytes).trim_ascii_end()
+    skip_blanks(bytes).trim_ascii_end()
 }
 
 /// What follows a word at the start, in upper or lower case, after any white space.
-fn behind<'t>(bytes: &'t [u8], word: &[u8]) -> Option<&'t [u8]>
-    ensures { option_map (λ x. x.now) result ≡ spec.behind word.now bytes.now }
+fn following<'t>(bytes: &'t [u8], word: &[u8]) -> Option<&'t [u8]>
+    ensures { option_map (λ x. x.now) result ≡ spec.following word.now bytes.now }
 {
-    let rest = unblanked(bytes);
+    let rest = skip_blanks(bytes);
     if rest.len() < word.len() {
         return None;
     }
@@ -38,7 +38,7 @@ fn behind<'t>(bytes: &'t [u8], word: &[u8]) -> Option<&'t [u8]>
 }
 
 /// The bytes, if they begin with white space.
-fn spaced(bytes: &[u8]) -> Option<&[u8]>
+fn expect_blank(bytes: &[u8]) -> Option<&[u8]>
     ensures { option_map (λ x. x.now) result ≡ spec.spaced bytes.now }
 {
     match bytes {
@@ -51,22 +51,22 @@ fn spaced(bytes: &[u8]) -> Option<&[u8]>
 pub(crate) fn words_to_program(line: &[u8]) -> Option<&[u8]>
     ensures { option_map (λ x. x.now) result ≡ spec.words_to_program line.now }
 {
-    behind(behind(line, b"wdreport")?, b":")
+    following(following(line, b"wdreport")?, b":")
 }
 
 /// What follows `may depend` and a comma, if the words begin with these.
-fn behind_may_depend(words: &[u8]) -> Option<&[u8]>
-    ensures { option_map (λ x. x.now) result ≡ spec.behind_may_depend words.now }
+fn after_may_depend(words: &[u8]) -> Option<&[u8]>
+    ensures { option_map (λ x. x.now) result ≡ spec.after_may_depend words.now }
 {
-    let may = spaced(behind(words, b"may")?)?;
-    behind(behind(may, b"depend")?, b",")
+    let may = expect_blank(following(words, b"may")?)?;
+    following(following(may, b"depend")?, b",")
 }
 
 /// The reason for which words to the program excuse a query; `None` where they are no excuse, or give no reason.
 pub(crate) fn reason_in(words: &[u8]) -> Option<&[u8]>
     ensures { option_map (λ x. x.now) result ≡ spec.reason_in words.now }
 {
-    let reason = trimmed(behind_may_depend(words)?);
+    let reason = trim(after_may_depend(words)?);
     if reason.is_empty() {
         None
     } else {

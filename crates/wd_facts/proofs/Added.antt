@@ -16,19 +16,19 @@ moved_next by front keys X = append_assoc front (map (λ c. by + c) X ∷ []) (m
 
 -- ---- columns by their copies
 
--- some columns, behind those of the front
-abbrev pub behind : List ℕ → Option (List ℕ) → Option (List ℕ)
-behind front rest = option_map (λ Y. front ++ Y) rest
+-- some columns, after those of the front
+abbrev pub after : List ℕ → Option (List ℕ) → Option (List ℕ)
+after front rest = option_map (λ Y. front ++ Y) rest
 
-after_both : (front : List ℕ) (d : ℕ) (rest : Option (List ℕ)) → behind (front ++ (d ∷ [])) rest ≡ behind front (both_copied (Some d) rest)
+after_both : (front : List ℕ) (d : ℕ) (rest : Option (List ℕ)) → after (front ++ (d ∷ [])) rest ≡ after front (both_copied (Some d) rest)
 after_both front d None = refl
 after_both front d (Some Y) = ap Some (append_assoc front (d ∷ []) Y)
 
-pub copies_next : (outputs : List Expression) (front X : List ℕ) (c d : ℕ) → copy_from 0 outputs c ≡ Some d → behind (front ++ (d ∷ [])) (copies outputs X) ≡ behind front (copies outputs (c ∷ X))
-copies_next outputs front X c d e = after_both front d (copies outputs X) ∙ ap (λ o. behind front (both_copied o (copies outputs X))) (sym e)
+pub copies_next : (outputs : List Expression) (front X : List ℕ) (c d : ℕ) → copy_from 0 outputs c ≡ Some d → after (front ++ (d ∷ [])) (copies outputs X) ≡ after front (copies outputs (c ∷ X))
+copies_next outputs front X c d e = after_both front d (copies outputs X) ∙ ap (λ o. after front (both_copied o (copies outputs X))) (sym e)
 
-pub copies_stop : (outputs : List Expression) (front X : List ℕ) (c : ℕ) → copy_from 0 outputs c ≡ None → None ≡ behind front (copies outputs (c ∷ X))
-copies_stop outputs front X c e = ap (λ o. behind front (both_copied o (copies outputs X))) (sym e)
+pub copies_stop : (outputs : List Expression) (front X : List ℕ) (c : ℕ) → copy_from 0 outputs c ≡ None → None ≡ after front (copies outputs (c ∷ X))
+copies_stop outputs front X c e = ap (λ o. after front (both_copied o (copies outputs X))) (sym e)
 
 pub copied_next : (outputs : List Expression) (front keys : List (List ℕ)) (X : List ℕ) → (front ++ if_copied (copies outputs X) []) ++ copied_keys outputs keys ≡ front ++ copied_keys outputs (X ∷ keys)
 copied_next outputs front keys X = append_assoc front (if_copied (copies outputs X) []) (copied_keys outputs keys) ∙ ap (λ l. front ++ l) (by (copies outputs X))

@@ -5,7 +5,7 @@ use Rattle.std.proofs.lemmas.Bool.{and_parts}
 use Rattle.wd_schema.specs.Tables.{TableRule}
 use Rattle.wd_plan.specs.Expressions.{Expression}
 use Rattle.wd_plan.specs.Fits.{are_outputs, fits, is_narrow, is_typed, kinds_of, width}
-use Rattle.wd_plan.specs.Plans.{PlanTree, Join, Map}
+use Rattle.wd_plan.specs.Plans.{Map, PlanTree, Join, Over}
 use Rattle.wd_plan.proofs.Ranges.{kinds_below, narrow}
 use Rattle.wd_step_facts.specs.Facts.{Fact, is_plain_fact}
 use Rattle.wd_step_facts.specs.Steps.{used}
@@ -28,7 +28,7 @@ module _ (tables : List TableRule) where
     pub right_kept : (facts : List Fact) → ArePlain (width right) facts → list_all (is_plain_fact (65536 - width left)) facts ≡ true
     right_kept facts h = let n = few in facts_wider (width right) (65536 - width left) (omega arith) facts h
 
-  module _ (outputs : List Expression) (input : PlanTree) (f : fits tables (Map outputs input) ≡ true) where
+  module _ (outputs : List Expression) (input : PlanTree) (f : fits tables (Over (Map outputs) input) ≡ true) where
     parts : (fits tables input ≡ true) × (are_outputs (kinds_of tables input) outputs ≡ true)
     parts = and_parts (fits tables input) (are_outputs (kinds_of tables input) outputs) f
 
@@ -36,7 +36,7 @@ module _ (tables : List TableRule) where
     input_narrow = narrow tables input parts.0
 
     pub outputs_narrow : length outputs ≤ 1024
-    outputs_narrow = narrow tables (Map outputs input) f
+    outputs_narrow = narrow tables (Over (Map outputs) input) f
 
     pub input_kept : (facts : List Fact) → ArePlain (width input) facts → list_all (is_plain_fact (65536 - length outputs)) facts ≡ true
     input_kept facts h = let n = input_narrow in let m = outputs_narrow in facts_wider (width input) (65536 - length outputs) (omega arith) facts h

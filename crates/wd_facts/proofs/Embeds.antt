@@ -9,7 +9,7 @@ use Rattle.wd_value.specs.Rows.{Row as RowValues, column_of, columns_of, row_at,
 use Rattle.wd_value.proofs.SameLaws.{same_row-Decides}
 use Rattle.wd_plan.specs.Expressions.{is_null}
 use Rattle.wd_plan.specs.Facts.{HasWidth, IsNotNullIn, IsNullableKey}
-use Rattle.wd_plan.specs.Outcomes.{cut, distinct, first_rows, peers}
+use Rattle.wd_plan.specs.Outcomes.{limited_rows, distinct, first_rows, peers}
 use Rattle.wd_plan.specs.Plans.{LimitRule}
 use Rattle.wd_value.specs.declared.order.SortColumn.{SortColumn}
 use Rattle.wd_plan.proofs.Places.{place-get_or, range-times, times-get_or, times-range-le}
@@ -177,10 +177,10 @@ Embeds-ordered rows ordering once = record {
         let d' = times-range-le (get_or ordering q (length rows)) 0 (length rows) in
         sym (place-get_or ordering p (length rows) k (omega arith)) ∙ ap (place_in ordering) e ∙ place-get_or ordering q (length rows) l (omega arith)
 
-pub Embeds-cut : (limit : LimitRule) (rows : List RowValues) (ordering : List ℕ) → EachOnce (length rows) ordering → Embeds (cut limit (rows_at rows ordering)) rows
-Embeds-cut limit rows ordering once = Embeds-trans (cut limit (rows_at rows ordering)) (rows_at rows ordering) rows (by limit.count) (Embeds-ordered rows ordering once)
+pub Embeds-cut : (limit : LimitRule) (rows : List RowValues) (ordering : List ℕ) → EachOnce (length rows) ordering → Embeds (limited_rows limit (rows_at rows ordering)) rows
+Embeds-cut limit rows ordering once = Embeds-trans (limited_rows limit (rows_at rows ordering)) (rows_at rows ordering) rows (by limit.count) (Embeds-ordered rows ordering once)
   where
-    by : (count : Option ℕ) → Embeds (cut (record limit { count = count }) (rows_at rows ordering)) (rows_at rows ordering)
+    by : (count : Option ℕ) → Embeds (limited_rows (record limit { count = count }) (rows_at rows ordering)) (rows_at rows ordering)
     by None = Embeds-drop limit.offset (rows_at rows ordering)
     by (Some n) = Embeds-trans (first_rows limit.keys limit.ties n (drop limit.offset (rows_at rows ordering))) (drop limit.offset (rows_at rows ordering)) (rows_at rows ordering) (Embeds-first_rows limit.keys limit.ties n (drop limit.offset (rows_at rows ordering))) (Embeds-drop limit.offset (rows_at rows ordering))
 

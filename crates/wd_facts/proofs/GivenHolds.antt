@@ -1,25 +1,24 @@
 -- What plan and schema say of a node's rows is true of them, by induction on the plan; and the given facts of a node hold
 -- where its children's kept facts do.
-use Rattle.std.proofs.Common.{◌≡◌, ℕ, ◌+◌, ◌-◌, ◌≤◌, Bool, true, false, cond, ◌&&◌, List, [], ◌∷◌, ◌++◌, length, take, drop, refl, sym, ◌∙◌, ap, subst, arith, nat_lt, Ok, Err, slice_get}
+use Rattle.std.proofs.Common.{◌≡◌, ℕ, ◌+◌, ◌-◌, ◌≤◌, Bool, true, false, cond, ◌&&◌, List, [], ◌∷◌, ◌++◌, length, drop, refl, sym, ◌∙◌, ap, subst, arith, nat_lt, Ok, Err, slice_get}
 use Rattle.std.specs.List.{AllByRecursion, list_all}
 use Rattle.std.proofs.lemmas.Bool.{and_parts, ltb-true, ltb-false, lt-ltb}
 use Rattle.wd_value.specs.Rows.{Row as RowValues, Instance, rows_at, table_at}
 use Rattle.wd_schema.specs.Meets.{EachMeets}
 use Rattle.wd_schema.specs.Tables.{TableRule}
-use Rattle.wd_plan.specs.Choices.{AreLawful, AreOrderings, AtRows}
+use Rattle.wd_plan.specs.Choices.{AreLawful, AreOrderings, AreOrderingsOver, AtRows}
 use Rattle.wd_plan.specs.Facts.{HasWidth, IsNotNullIn}
 use Rattle.wd_plan.specs.Faults.{and_then}
-use Rattle.wd_plan.specs.Fits.{AreBelow, are_outputs, fits, has_table, is_condition, is_group, is_join, is_limit, is_narrow, is_window, kinds_of, width}
-use Rattle.wd_plan.specs.Outcomes.{RowsOrFault, cut, distinct, filter_outcome, group_outcome, join_outcome, map_outcome, ordering_at, outcome, pairs, window_outcome}
-use Rattle.wd_plan.specs.Plans.{GroupRule, WindowRule, PlanTree, Scan, Join, Filter, Map, Group, Window, Distinct, Limit, has, ordering_count}
-use Rattle.wd_plan.specs.Sorting.{IsOrdering, limit_class}
+use Rattle.wd_plan.specs.Fits.{AreBelow, fits, has_table, is_join, is_narrow, is_step, kinds_of, width}
+use Rattle.wd_plan.specs.Outcomes.{RowsOrFault, limited_rows, distinct, group_outcome, join_outcome, ordering_at, outcome, pairs, step_outcome}
+use Rattle.wd_plan.specs.Plans.{ClassRule, GroupRule, WindowRule, Step, Filter, Map, Group, Window, Distinct, Limit, PlanTree, Scan, Join, Over, has, step_classes, ordering_count, own_orderings}
 use Rattle.wd_plan.specs.declared.window.Call.{Call}
 use Rattle.wd_plan.proofs.Ranges.{IsSound, calls_sound, group_parts, has_the_table, kinds_below, table_columns}
 use Rattle.wd_step_facts.specs.declared.facts.Member.TheVariants as member
-use Rattle.wd_step_facts.specs.Facts.{Fact, Holds, beside, unpaired}
+use Rattle.wd_step_facts.specs.Facts.{Fact, Holds, unpaired}
 use Rattle.wd_facts.specs.Given.{is_not_null, nullable_keys}
 use Rattle.wd_step_facts.specs.Steps.{calls_facts, facts_of_group, group_key_facts, is_call_not_null, is_group_call_not_null}
-use Rattle.wd_facts.specs.Laws.{AreKept, ChildrenKeep, GivenFactsHold, GivenHold, InPairs, InRows, Known, KnownHolds}
+use Rattle.wd_facts.specs.Laws.{AreKept, ChildrenKeep, GivenFactsHold, GivenHold, InPairs, InRows, Known, KnownHolds, rows_described}
 use Rattle.wd_facts.proofs.Embeds.{Embeds-cut, Embeds-distinct, hold_moved, same_facts}
 use Rattle.wd_facts.proofs.Groupings.{group_call_not_null, group_kept_hold, group_key_holds, group_not_null, group_wide}
 use Rattle.wd_facts.proofs.Lists.{all_append}
@@ -67,7 +66,7 @@ module _ (tables : List TableRule) (w : WindowRule) (input : PlanTree) (rows : L
       let d : width input + (c - width input) ≡ c = omega arith in
       subst (IsNotNullIn (shown_rows w rows os)) d (call_not_null w rows os (width input) known.wide (c - width input) e)
 
-  known_window : Known tables (Window w input) (shown_rows w rows os)
+  known_window : Known tables (Over (Window w) input) (shown_rows w rows os)
   known_window = record {
     wide = shown_wide w rows os (width input) known.wide;
     not_null = λ c e. shown_not_null c (nat_lt c (width input)) refl e;
@@ -75,7 +74,7 @@ module _ (tables : List TableRule) (w : WindowRule) (input : PlanTree) (rows : L
     range = all_wider (width input) (width input + length w.calls) (omega arith) (nullable_keys tables input) known.range;
   }
 
-  given_window : (kept : List Fact) → AreKept (width input) kept rows → AreOrderings w rows os → AllByRecursion (IsWell w rows os (width input) known.wide) w.calls → AllByRecursion (Holds (unpaired (shown_rows w rows os))) (kept ++ calls_facts w (width input) w.calls)
+  given_window : (kept : List Fact) → AreKept (width input) kept rows → AreOrderings w.classes rows os → AllByRecursion (IsWell w rows os (width input) known.wide) w.calls → AllByRecursion (Holds (unpaired (shown_rows w rows os))) (kept ++ calls_facts w (width input) w.calls)
   given_window kept k valid well =
       all_append (Holds (unpaired (shown_rows w rows os))) kept (calls_facts w (width input) w.calls)
       (subst (AllByRecursion (Holds (unpaired (shown_rows w rows os)))) (same_facts kept) (hold_moved rows (unpaired (shown_rows w rows os)) (λ c. c) member.Row (width input) (shown_carries w rows os (width input) known.wide) kept k.named k.hold))
@@ -97,45 +96,32 @@ module _ (tables : List TableRule) (g : GroupRule) (input : PlanTree) (xs ys : L
       let d : g.columns + (c - g.columns) ≡ c = omega arith in
       subst (IsNotNullIn ys) d (group_call_not_null g xs ys is (c - g.columns) e)
 
-  known_group : Known tables (Group g input) ys
+  known_group : Known tables (Over (Group g) input) ys
   known_group = record { wide = group_wide g xs ys is; not_null = λ c e. grouped_not_null c (nat_lt c g.columns) refl e; keys = tt; range = tt }
 
 -- ---- what plan and schema say
 
 module _ (tables : List TableRule) where
+  -- of a step's rows, from what they say of its input's
+  known_step : (step : Step) (input : PlanTree) (os : List (List ℕ)) (xs ys : List RowValues) → AreOrderings (step_classes step) xs os → Known tables input xs → step_outcome step os xs ≡ Ok ys → Known tables (Over step input) ys
+  known_step (Filter condition) input os xs ys v k is = known_filter tables condition input xs ys k is
+  known_step (Map outputs) input os xs ys v k is = known_map tables outputs input xs ys k is
+  known_step (Group g) input os xs ys v k is = known_group tables g input xs ys k is
+  known_step (Window w) input os xs ys v k is = subst (Known tables (Over (Window w) input)) (sym (out_is w xs os ys is)) (known_window tables w input xs os k)
+  known_step Distinct input os xs ys v k is = subst (Known tables (Over Distinct input)) (rows_are (distinct xs) ys is) (known_distinct tables input xs (distinct xs) (Embeds-distinct xs) k)
+  known_step (Limit limit) input os xs ys v k is =
+      let ordering = ordering_at os 0 in
+      subst (Known tables (Over (Limit limit) input)) (rows_are (limited_rows limit (rows_at xs ordering)) ys is) (known_limit tables input xs (limited_rows limit (rows_at xs ordering)) (Embeds-cut limit xs ordering (v.each 0 (omega arith)).once) k limit)
+
+  -- the orderings of a step over rows
+  orderings_at : (o : RowsOrFault) (rows : List RowValues) (classes : List ClassRule) (os : List (List ℕ)) → o ≡ Ok rows → AreOrderingsOver classes o os → AreOrderings classes rows os
+  orderings_at o rows classes os e v = at_rows o rows (λ rows. AreOrderings classes rows os) (AllByRecursion (λ o. o ≡ []) os) e v
+
   known : (plan : PlanTree) (instance : Instance) (choice : List (List ℕ)) → fits tables plan ≡ true → AreLawful plan instance choice → EachMeets tables instance → AtRows (outcome plan instance choice) (Known tables plan) (Unit {0})
   known (Scan table columns) instance choice f l m =
       let parts = and_parts (is_narrow columns) (has_table tables table columns) f in
       let t = has_the_table tables table columns parts.1 in
       known_scan tables table columns t.0 t.1 (table_columns tables table columns t.0 t.1 parts.1) (table_at instance table) (m table t.0 t.1)
-  known (Filter condition input) instance choice f l m =
-      at_step (outcome input instance choice) (filter_outcome condition) (Known tables input) (Known tables (Filter condition input))
-      (known input instance choice (and_parts (fits tables input) (is_condition (kinds_of tables input) condition) f).0 l m)
-      (λ xs ys e k is. known_filter tables condition input xs ys k is)
-  known (Map outputs input) instance choice f l m =
-      at_step (outcome input instance choice) (map_outcome outputs) (Known tables input) (Known tables (Map outputs input))
-      (known input instance choice (and_parts (fits tables input) (are_outputs (kinds_of tables input) outputs) f).0 l m)
-      (λ xs ys e k is. known_map tables outputs input xs ys k is)
-  known (Group g input) instance choice f l m =
-      at_step (outcome input instance choice) (group_outcome g) (Known tables input) (Known tables (Group g input))
-      (known input instance choice (and_parts (fits tables input) (is_group (kinds_of tables input) (width input) g) f).0 l m)
-      (λ xs ys e k is. known_group tables g input xs ys k is)
-  known (Distinct input) instance choice f l m =
-      at_step (outcome input instance choice) (λ rows. Ok (distinct rows)) (Known tables input) (Known tables (Distinct input))
-      (known input instance choice f l m)
-      (λ xs ys e k is. subst (Known tables (Distinct input)) (rows_are (distinct xs) ys is) (known_distinct tables input xs (distinct xs) (Embeds-distinct xs) k))
-  known (Limit limit input) instance choice f l m =
-      let ordering = ordering_at choice (ordering_count input) in
-      at_step (outcome input instance choice) (λ rows. Ok (cut limit (rows_at rows ordering))) (Known tables input) (Known tables (Limit limit input))
-      (known input instance choice (and_parts (fits tables input) (is_limit (kinds_of tables input) limit) f).0 l.0 m)
-      (λ xs ys e k is.
-      (let lawful = at_rows (outcome input instance choice) xs (λ rows. IsOrdering (limit_class limit) rows ordering) (ordering ≡ []) e l.1 in
-      subst (Known tables (Limit limit input)) (rows_are (cut limit (rows_at xs ordering)) ys is) (known_limit tables input xs (cut limit (rows_at xs ordering)) (Embeds-cut limit xs ordering lawful.once) k limit)))
-  known (Window w input) instance choice f l m =
-      let os = take (length w.classes) (drop (ordering_count input) choice) in
-      at_step (outcome input instance choice) (λ rows. window_outcome w rows os) (Known tables input) (Known tables (Window w input))
-      (known input instance choice (and_parts (fits tables input) (is_window (kinds_of tables input) (width input) w) f).0 l.0 m)
-      (λ xs ys e k is. subst (Known tables (Window w input)) (sym (out_is w xs os ys is)) (known_window tables w input xs os k))
   known (Join condition left right) instance choice f l m =
       let plan = Join condition left right in
       let c2 = drop (ordering_count left) choice in
@@ -146,8 +132,30 @@ module _ (tables : List TableRule) where
       (at_step (outcome right instance c2) (λ rs. join_outcome condition (pairs ls rs)) (Known tables right) (Known tables plan)
       (known right instance c2 fitting.1 l.1 m)
       (λ rs zs e' k' is'. known_join tables condition left right ls rs zs k k' (joined condition ls rs zs is'))))
+  known (Over step input) instance choice f l m =
+      let os = own_orderings step input choice in
+      at_step (outcome input instance choice) (step_outcome step os) (Known tables input) (Known tables (Over step input))
+      (known input instance choice (and_parts (fits tables input) (is_step (kinds_of tables input) (width input) step) f).0 l.0 m)
+      (λ xs ys e k is. known_step step input os xs ys (orderings_at (outcome input instance choice) xs (step_classes step) os e l.1) k is)
 
   -- ---- the given facts
+
+  -- of a step, in the rows that they are about
+  given_step : (step : Step) (input : PlanTree) (f : fits tables input ≡ true) (os : List (List ℕ)) (kept more : List Fact) (xs ys : List RowValues) → is_step (kinds_of tables input) (width input) step ≡ true → AreOrderings (step_classes step) xs os → Known tables input xs → AreKept (width input) kept xs → step_outcome step os xs ≡ Ok ys
+      → InRows tables (Over step input) kept more (rows_described step ys xs)
+  given_step (Filter condition) input f os kept more xs ys g v known k is = given_filter tables condition input xs ys known is kept more k
+  given_step (Map outputs) input f os kept more xs ys g v known k is = given_map tables outputs input xs ys known is kept more k
+  given_step (Group rule) input f os kept more xs ys g v known k is =
+      all_append (Holds (unpaired ys)) (group_key_facts rule) (facts_of_group rule kept) (group_key_holds rule xs ys is)
+      (group_kept_hold rule xs ys is (group_parts (kinds_of tables input) (width input) rule g).each kept k.hold)
+  given_step (Window w) input f os kept more xs ys g v known k is =
+      let calls = calls_sound (kinds_of tables input) (width input) (kinds_below tables input f) w g in
+      subst (InRows tables (Over (Window w) input) kept more) (sym (out_is w xs os ys is)) (given_window tables w input xs os known kept k v (all_well tables input f w xs os known.wide w.calls calls))
+  given_step Distinct input f os kept more xs ys g v known k is = subst (InRows tables (Over Distinct input) kept more) (rows_are (distinct xs) ys is) (given_distinct tables input xs kept more known k)
+  given_step (Limit limit) input f os kept more xs ys g v known k is =
+      let ordering = ordering_at os 0 in
+      let among = Embeds-cut limit xs ordering (v.each 0 (omega arith)).once in
+      subst (InRows tables (Over (Limit limit) input) kept more) (rows_are (limited_rows limit (rows_at xs ordering)) ys is) (given_among tables input xs (limited_rows limit (rows_at xs ordering)) among known kept k)
 
   -- what is known of an input's rows, with what it keeps
   abbrev Both : PlanTree → List Fact → List RowValues → Type 0
@@ -161,43 +169,14 @@ module _ (tables : List TableRule) where
       let parts = and_parts (is_narrow columns) (has_table tables table columns) f in
       let t = has_the_table tables table columns parts.1 in
       given_scan tables table columns t.0 t.1 (table_columns tables table columns t.0 t.1 parts.1) (table_at instance table) (m table t.0 t.1)
-  given_hold (Filter condition input) instance choice kept more f l m a =
-      at_step (outcome input instance choice) (filter_outcome condition) (Both input kept) (InRows tables (Filter condition input) kept more)
-      (both input instance choice kept (and_parts (fits tables input) (is_condition (kinds_of tables input) condition) f).0 l m a)
-      (λ xs ys e k is. given_filter tables condition input xs ys k.0 is kept more k.1)
-  given_hold (Map outputs input) instance choice kept more f l m a =
-      let plan = Map outputs input in
-      at_map (outcome input instance choice) (Both input kept) (λ ins. AtRows (outcome plan instance choice) (λ outs. InRows tables plan kept more (beside outs ins)) (Unit {0}))
-      (both input instance choice kept (and_parts (fits tables input) (are_outputs (kinds_of tables input) outputs) f).0 l m a)
-      (λ xs e k. at_end (outcome plan instance choice) (λ outs. InRows tables plan kept more (beside outs xs)) (λ ys is.
-      given_map tables outputs input xs ys k.0 (ap (λ o. and_then o (map_outcome outputs)) (sym e) ∙ is) kept more k.1))
-  given_hold (Group g input) instance choice kept more f l m a =
-      let fitting = and_parts (fits tables input) (is_group (kinds_of tables input) (width input) g) f in
-      at_step (outcome input instance choice) (group_outcome g) (Both input kept) (InRows tables (Group g input) kept more)
-      (both input instance choice kept fitting.0 l m a)
-      (λ xs ys e k is.
-      all_append (Holds (unpaired ys)) (group_key_facts g) (facts_of_group g kept) (group_key_holds g xs ys is)
-      (group_kept_hold g xs ys is (group_parts (kinds_of tables input) (width input) g fitting.1).each kept k.1.hold))
-  given_hold (Distinct input) instance choice kept more f l m a =
-      at_step (outcome input instance choice) (λ rows. Ok (distinct rows)) (Both input kept) (InRows tables (Distinct input) kept more)
-      (both input instance choice kept f l m a)
-      (λ xs ys e k is. subst (InRows tables (Distinct input) kept more) (rows_are (distinct xs) ys is) (given_distinct tables input xs kept more k.0 k.1))
-  given_hold (Limit limit input) instance choice kept more f l m a =
-      let ordering = ordering_at choice (ordering_count input) in
-      at_step (outcome input instance choice) (λ rows. Ok (cut limit (rows_at rows ordering))) (Both input kept) (InRows tables (Limit limit input) kept more)
-      (both input instance choice kept (and_parts (fits tables input) (is_limit (kinds_of tables input) limit) f).0 l.0 m a)
-      (λ xs ys e k is.
-      (let lawful = at_rows (outcome input instance choice) xs (λ rows. IsOrdering (limit_class limit) rows ordering) (ordering ≡ []) e l.1 in
-      let among = Embeds-cut limit xs ordering lawful.once in
-      subst (InRows tables (Limit limit input) kept more) (rows_are (cut limit (rows_at xs ordering)) ys is) (given_among tables input xs (cut limit (rows_at xs ordering)) among k.0 kept k.1)))
-  given_hold (Window w input) instance choice kept more f l m a =
-      let fitting = and_parts (fits tables input) (is_window (kinds_of tables input) (width input) w) f in
-      let os = take (length w.classes) (drop (ordering_count input) choice) in
-      let calls = calls_sound (kinds_of tables input) (width input) (kinds_below tables input fitting.0) w fitting.1 in
-      at_step (outcome input instance choice) (λ rows. window_outcome w rows os) (Both input kept) (InRows tables (Window w input) kept more)
+  given_hold (Over step input) instance choice kept more f l m a =
+      let plan = Over step input in
+      let os = own_orderings step input choice in
+      let fitting = and_parts (fits tables input) (is_step (kinds_of tables input) (width input) step) f in
+      at_map (outcome input instance choice) (Both input kept) (λ ins. AtRows (outcome plan instance choice) (λ outs. InRows tables plan kept more (rows_described step outs ins)) (Unit {0}))
       (both input instance choice kept fitting.0 l.0 m a)
-      (λ xs ys e k is. subst (InRows tables (Window w input) kept more) (sym (out_is w xs os ys is))
-      (given_window tables w input xs os k.0 kept k.1 (at_rows (outcome input instance choice) xs (λ rows. AreOrderings w rows os) (AllByRecursion (λ o. o ≡ []) os) e l.1) (all_well tables input fitting.0 w xs os k.0.wide w.calls calls)))
+      (λ xs e k. at_end (outcome plan instance choice) (λ outs. InRows tables plan kept more (rows_described step outs xs)) (λ ys is.
+      given_step step input fitting.0 os kept more xs ys fitting.1 (orderings_at (outcome input instance choice) xs (step_classes step) os e l.1) k.0 k.1 (ap (λ o. and_then o (step_outcome step os)) (sym e) ∙ is)))
   given_hold (Join condition left right) instance choice kept more f l m a =
       let plan = Join condition left right in
       let c2 = drop (ordering_count left) choice in

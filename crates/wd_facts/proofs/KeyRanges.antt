@@ -4,10 +4,10 @@ use Rattle.std.specs.List.{AllByRecursion, list_all}
 use Rattle.std.proofs.lemmas.Bool.{and_parts, lt-ltb, ltb-true}
 use Rattle.wd_schema.specs.Tables.{KeyRule, TableRule}
 use Rattle.wd_plan.specs.Expressions.{Expression}
-use Rattle.wd_plan.specs.Fits.{AreBelow, fits, has_table, is_condition, is_limit, is_narrow, is_window, kinds_of, width}
-use Rattle.wd_plan.specs.Plans.{PlanTree, Scan, Join, Filter, Map, Group, Window, Distinct, Limit}
+use Rattle.wd_plan.specs.Fits.{AreBelow, fits, has_table, is_narrow, is_step, kinds_of, step_width, width}
+use Rattle.wd_plan.specs.Plans.{Step, Map, Group, Window, PlanTree, Scan, Join, Over}
 use Rattle.wd_plan.proofs.Ranges.{has_the_table, table_columns}
-use Rattle.wd_facts.specs.Given.{gives_row, names_columns, null_keys, nullable_keys, table_rule}
+use Rattle.wd_facts.specs.Given.{gives_row, names_columns, null_keys, nullable_keys, step_keys, table_rule}
 use Rattle.wd_step_facts.specs.Steps.{both_copied, copied_keys, copies, copy_from, if_copied, is_side, side_of}
 
 -- ---- more columns
@@ -87,15 +87,16 @@ scan_below tables table columns has =
     let long = table_columns tables table columns t.0 t.1 has in
     subst (λ (x : TableRule). AllByRecursion (AreBelow columns) (null_keys x)) (sym (rule_is tables table t.0 t.1)) (subst (λ n. AllByRecursion (AreBelow n) (null_keys t.0)) (sym long) (null_keys_below t.0))
 
+step_keys_below : (step : Step) (columns : ℕ) (keys : List (List ℕ)) → AllByRecursion (AreBelow columns) keys → AllByRecursion (AreBelow (step_width step columns)) (step_keys step keys)
+step_keys_below (Map outputs) columns keys a = copied_keys_below outputs keys
+step_keys_below (Group g) columns keys a = tt
+step_keys_below (Window w) columns keys a = all_wider columns (columns + length w.calls) (omega arith) keys a
+step_keys_below step columns keys a = a
+
 pub nullable_keys_below : (tables : List TableRule) (plan : PlanTree) → fits tables plan ≡ true → AllByRecursion (AreBelow (width plan)) (nullable_keys tables plan)
 nullable_keys_below tables (Scan table columns) f = let has = (and_parts (is_narrow columns) (has_table tables table columns) f).1 in scan_below tables table columns has
 nullable_keys_below tables (Join condition left right) f = tt
-nullable_keys_below tables (Filter condition input) f = nullable_keys_below tables input (and_parts (fits tables input) (is_condition (kinds_of tables input) condition) f).0
-nullable_keys_below tables (Map outputs input) f = copied_keys_below outputs (nullable_keys tables input)
-nullable_keys_below tables (Group g input) f = tt
-nullable_keys_below tables (Window w input) f = all_wider (width input) (width input + length w.calls) (omega arith) (nullable_keys tables input) (nullable_keys_below tables input (and_parts (fits tables input) (is_window (kinds_of tables input) (width input) w) f).0)
-nullable_keys_below tables (Distinct input) f = nullable_keys_below tables input f
-nullable_keys_below tables (Limit limit input) f = nullable_keys_below tables input (and_parts (fits tables input) (is_limit (kinds_of tables input) limit) f).0
+nullable_keys_below tables (Over step input) f = step_keys_below step (width input) (nullable_keys tables input) (nullable_keys_below tables input (and_parts (fits tables input) (is_step (kinds_of tables input) (width input) step) f).0)
 
 -- keys of so many columns are keys of more
 pub keys_within : (a b : ℕ) → a ≤ b → (keys : List (List ℕ)) → AllByRecursion (AreBelow a) keys → list_all (list_all (λ c. nat_lt c b)) keys ≡ true

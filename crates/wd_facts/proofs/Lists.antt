@@ -1,4 +1,4 @@
--- Facts of each element of two lists, one behind the other, and of the numbers from one on.
+-- Facts of each element of two lists, one after the other, and of the numbers from one on.
 use Rattle.std.proofs.Common.{◌≡◌, ℕ, zero, suc, ◌+◌, ◌<◌, ◌≤◌, Bool, true, false, List, [], ◌∷◌, ◌++◌, refl, subst, arith, nat_eq}
 use Rattle.std.specs.List.{AllByRecursion, range_with_len}
 use Rattle.std.proofs.lemmas.Bool.{eqb-true, eqb-false}

@@ -13,7 +13,7 @@ use Rattle.wd_plan.specs.Facts.{HasWidth, IsNotNullIn}
 use Rattle.wd_plan.specs.Faults.{least_fault, unless}
 use Rattle.wd_plan.specs.Fits.{AreBelow, width}
 use Rattle.wd_plan.specs.Outcomes.{distinct, filter_outcome, join_outcome, map_outcome, pairs, passes}
-use Rattle.wd_plan.specs.Plans.{LimitRule, PlanTree, Scan, Join, Filter, Map, Distinct, Limit}
+use Rattle.wd_plan.specs.Plans.{LimitRule, Filter, Map, Distinct, Limit, PlanTree, Scan, Join, Over}
 use Rattle.wd_plan.proofs.Parts.{all_filter}
 use Rattle.wd_step_facts.specs.declared.facts.Member.{Member}
 use Rattle.wd_step_facts.specs.declared.facts.Member.TheVariants as member
@@ -84,10 +84,10 @@ module _ (tables : List TableRule) (input : PlanTree) (xs ys : List RowValues) (
   pub known_among : (c : ℕ) → is_not_null tables input c ≡ true → IsNotNullIn ys c
   known_among c e = not_null_of ys xs a c (known.not_null c e)
 
-  pub known_distinct : Known tables (Distinct input) ys
+  pub known_distinct : Known tables (Over Distinct input) ys
   known_distinct = record { wide = width_of ys xs a (width input) known.wide; not_null = known_among; keys = keys_of ys xs a (nullable_keys tables input) known.keys; range = known.range }
 
-  pub known_limit : (limit : LimitRule) → Known tables (Limit limit input) ys
+  pub known_limit : (limit : LimitRule) → Known tables (Over (Limit limit) input) ys
   known_limit limit = record { wide = width_of ys xs a (width input) known.wide; not_null = known_among; keys = keys_of ys xs a (nullable_keys tables input) known.keys; range = known.range }
 
   pub given_among : (facts : List Fact) → AreKept (width input) facts xs → AllByRecursion (Holds (unpaired ys)) facts
@@ -105,7 +105,7 @@ module _ (tables : List TableRule) (condition : Expression) (input : PlanTree) (
   filtered_true : (p : ℕ) → p < length ys → AllByRecursion (λ e. IsTrueAt e (row_at ys p)) (conjuncts condition)
   filtered_true p k = conjuncts_true (row_at ys p) condition (subst (λ l. (i : ℕ) → i < length l → passes (value_of condition (row_at l i)) ≡ true) (filtered_is condition xs ys is) (passes_at (λ row. passes (value_of condition row)) xs) p k)
 
-  pub known_filter : Known tables (Filter condition input) ys
+  pub known_filter : Known tables (Over (Filter condition) input) ys
   known_filter = record {
     wide = width_of ys xs filtered (width input) known.wide;
     not_null = λ c e. ⊎_elim (known_among tables input xs ys filtered known c) (λ f p k. some_ruled_out c (row_at ys p) (conjuncts condition) (filtered_true p k) f) (or_cases (is_not_null tables input c) (some_rules_out_null (conjuncts condition) c) e);
@@ -113,15 +113,15 @@ module _ (tables : List TableRule) (condition : Expression) (input : PlanTree) (
     range = known.range;
   }
 
-  pub given_filter : (kept more : List Fact) → AreKept (width input) kept xs → AllByRecursion (Holds (unpaired ys)) (given tables (Filter condition input) kept more).list
+  pub given_filter : (kept more : List Fact) → AreKept (width input) kept xs → AllByRecursion (Holds (unpaired ys)) (given tables (Over (Filter condition) input) kept more).list
   given_filter kept more k =
       all_append (Holds (unpaired ys)) (kept ++ facts_of_conjuncts (conjuncts condition)) _
       (all_append (Holds (unpaired ys)) kept (facts_of_conjuncts (conjuncts condition)) (hold_of ys xs filtered (width input) kept k.named k.hold) (conjuncts_hold (unpaired ys) (conjuncts condition) filtered_true))
-      (full_keys_hold ys (is_not_null tables (Filter condition input)) (λ p c l e. known_filter.not_null c e p l) (nullable_keys tables input) known_filter.keys)
+      (full_keys_hold ys (is_not_null tables (Over (Filter condition) input)) (λ p c l e. known_filter.not_null c e p l) (nullable_keys tables input) known_filter.keys)
 
 -- ---- Distinct
 
-pub given_distinct : (tables : List TableRule) (input : PlanTree) (xs : List RowValues) (kept more : List Fact) → Known tables input xs → AreKept (width input) kept xs → AllByRecursion (Holds (unpaired (distinct xs))) (given tables (Distinct input) kept more).list
+pub given_distinct : (tables : List TableRule) (input : PlanTree) (xs : List RowValues) (kept more : List Fact) → Known tables input xs → AreKept (width input) kept xs → AllByRecursion (Holds (unpaired (distinct xs))) (given tables (Over Distinct input) kept more).list
 given_distinct tables input xs kept more known k =
     all_append (Holds (unpaired (distinct xs))) kept (key_fact member.Row (all_columns (width input)) ∷ []) (hold_of (distinct xs) xs (Embeds-distinct xs) (width input) kept k.named k.hold) (once, tt)
   where
@@ -138,7 +138,7 @@ given_distinct tables input xs kept more known k =
 -- ---- Map
 
 module _ (tables : List TableRule) (outputs : List Expression) (input : PlanTree) (xs ys : List RowValues) (known : Known tables input xs) (is : map_outcome outputs xs ≡ Ok ys) where
-  pub known_map : Known tables (Map outputs input) ys
+  pub known_map : Known tables (Over (Map outputs) input) ys
   known_map =
       let copied = copied_keys_hold outputs xs ys is (nullable_keys tables input) known.keys in
       record {
@@ -149,7 +149,7 @@ module _ (tables : List TableRule) (outputs : List Expression) (input : PlanTree
       }
 
   -- the given facts speak of the outputs beside the inputs
-  pub given_map : (kept more : List Fact) → AreKept (width input) kept xs → AllByRecursion (Holds (unpaired (both_rows outputs xs ys is))) (given tables (Map outputs input) kept more).list
+  pub given_map : (kept more : List Fact) → AreKept (width input) kept xs → AllByRecursion (Holds (unpaired (both_rows outputs xs ys is))) (given tables (Over (Map outputs) input) kept more).list
   given_map kept more k =
       all_append (Holds (unpaired (both_rows outputs xs ys is))) (moved_facts (λ c. length outputs + c) member.Row kept) _
       (hold_moved xs (unpaired (both_rows outputs xs ys is)) (λ c. length outputs + c) member.Row (width input) (in_carries outputs xs ys is (width input)) kept k.named k.hold)

@@ -250,7 +250,7 @@ module _ (w : WindowRule) (rows : List RowValues) (os : List (List ℕ)) where
     abbrev Stands : ℕ → List Call → Type 0
     Stands n calls = (i : ℕ) (d : Call) → i < length calls → (n + i < length w.calls) × (get_or w.calls (n + i) d ≡ get_or calls i d)
 
-    calls_hold_from : AreOrderings w rows os → (n : ℕ) (calls : List Call) → AllByRecursion IsWell calls → Stands n calls → AllByRecursion (Holds shown) (calls_facts w (width + n) calls)
+    calls_hold_from : AreOrderings w.classes rows os → (n : ℕ) (calls : List Call) → AllByRecursion IsWell calls → Stands n calls → AllByRecursion (Holds shown) (calls_facts w (width + n) calls)
     calls_hold_from valid n [] well h = tt
     calls_hold_from valid n (call ∷ calls) well h =
         let here = h 0 call (omega arith) in
@@ -262,7 +262,7 @@ module _ (w : WindowRule) (rows : List RowValues) (os : List (List ℕ)) where
         (by_function (class_at w call.class) call.frame (ordering_at os call.class) (width + n) (valid.each call.class well.0.names) well.0.in_partition well.0.in_order call.function (λ p k. call_column p n call k l at))
         (subst (λ v. AllByRecursion (Holds shown) (calls_facts w v calls)) (sym next) (calls_hold_from valid (n + 1) calls well.1 (λ i d k. let g = h (suc i) d (omega arith) in let m : (n + 1) + i ≡ n + suc i = omega arith in (omega (arith, g.0), ap (λ x. get_or w.calls x d) m ∙ g.1))))
 
-    pub calls_hold : AreOrderings w rows os → AllByRecursion IsWell w.calls → AllByRecursion (Holds shown) (calls_facts w width w.calls)
+    pub calls_hold : AreOrderings w.classes rows os → AllByRecursion IsWell w.calls → AllByRecursion (Holds shown) (calls_facts w width w.calls)
     calls_hold valid well =
         let zero_more : width + 0 ≡ width = omega arith in
         subst (λ v. AllByRecursion (Holds shown) (calls_facts w v w.calls)) zero_more (calls_hold_from valid 0 w.calls well (λ i d k. (omega arith, ap (λ x. get_or w.calls x d) (omega arith))))

@@ -11,17 +11,17 @@ use Rattle.wd_plan.specs.declared.function.FrameFunction.TheVariants.{ValueAt, A
 use Rattle.wd_plan.specs.declared.function.Function.{Function}
 use Rattle.wd_plan.specs.declared.function.Function.TheVariants.{Ranking as Ranked, Shift as Shifted, OfFrame}
 use Rattle.wd_plan.specs.declared.function.Ranking.{Ranking}
-use Rattle.wd_plan.specs.declared.function.Ranking.TheVariants.{RowNumber, Rank, DenseRank, Ntile}
+use Rattle.wd_plan.specs.declared.function.Ranking.TheVariants.{RowNumber, Rank, Ntile}
 use Rattle.wd_plan.specs.declared.window.Call.{Call}
 use Rattle.wd_plan.specs.declared.window.Exclusion.{Exclusion}
 use Rattle.wd_plan.specs.declared.window.Exclusion.TheVariants as exclude
 use Rattle.wd_plan.specs.declared.window.Frame.{Frame}
 use Rattle.wd_plan.specs.Expressions.{Expression, Column, Literal, Negate, Arithmetic, Compare, Not, And, Or, IsNull, IsNotNull, Case, is_null}
-use Rattle.wd_plan.specs.Fits.{width}
+use Rattle.wd_plan.specs.Fits.{step_width, width}
 use Rattle.wd_plan.specs.Frames.{is_stable}
 use Rattle.wd_plan.specs.Functions.{name_of, name_of_aggregate, signature}
 use Rattle.wd_plan.specs.Outcomes.{class_at}
-use Rattle.wd_plan.specs.Plans.{ClassRule, GroupCall, OfRows, Grouping, GroupRule, WindowRule, PlanTree, Scan, Join, Filter, Map, Group, Window, Distinct, Limit, has}
+use Rattle.wd_plan.specs.Plans.{Step, Filter, Map, Group, Window, Distinct, Limit, PlanTree, Scan, Join, Over, has}
 use Rattle.wd_plan.specs.Sorting.{class_columns, order_columns}
 use Rattle.wd_step_facts.specs.declared.facts.Member.{Member}
 use Rattle.wd_step_facts.specs.declared.facts.Member.TheVariants as member
@@ -65,26 +65,30 @@ null_keys t = map (λ (key : KeyRule). key.columns) (filter (λ (key : KeyRule).
 
 -- ---- nodes
 
+-- whether a column of a step's rows is known not null, over an input with so many columns of which so much is known
+abbrev pub step_not_null : Step → ℕ → (ℕ → Bool) → ℕ → Bool
+step_not_null (Filter condition) columns not_null c = not_null c || some_rules_out_null (conjuncts condition) c
+step_not_null (Map outputs) columns not_null c = is_output_not_null not_null (slice_get outputs c)
+step_not_null (Group g) columns not_null c = if nat_lt c g.columns then (not_null c && list_all (λ set. has set c) g.sets) else is_group_call_not_null (slice_get g.calls (c - g.columns))
+step_not_null (Window w) columns not_null c = if nat_lt c columns then not_null c else is_call_not_null (slice_get w.calls (c - columns))
+step_not_null step columns not_null c = not_null c
+
 -- whether a column of a node's rows is known not null
 abbrev pub is_not_null : List TableRule → PlanTree → ℕ → Bool
 is_not_null tables (Scan table columns) c = is_not_null_column (table_rule tables table).columns c
 is_not_null tables (Join condition left right) c = (if nat_lt c (width left) then is_not_null tables left c else is_not_null tables right (c - width left)) || some_rules_out_null (conjuncts_of condition) c
-is_not_null tables (Filter condition input) c = is_not_null tables input c || some_rules_out_null (conjuncts condition) c
-is_not_null tables (Map outputs input) c = is_output_not_null (is_not_null tables input) (slice_get outputs c)
-is_not_null tables (Group g input) c = if nat_lt c g.columns then (is_not_null tables input c && list_all (λ set. has set c) g.sets) else is_group_call_not_null (slice_get g.calls (c - g.columns))
-is_not_null tables (Window w input) c = if nat_lt c (width input) then is_not_null tables input c else is_call_not_null (slice_get w.calls (c - width input))
-is_not_null tables (Distinct input) c = is_not_null tables input c
-is_not_null tables (Limit limit input) c = is_not_null tables input c
+is_not_null tables (Over step input) c = step_not_null step (width input) (is_not_null tables input) c
+
+-- what a step leaves of the nullable keys of its input
+abbrev pub step_keys : Step → List (List ℕ) → List (List ℕ)
+step_keys (Map outputs) keys = copied_keys outputs keys
+step_keys (Group g) keys = []
+step_keys step keys = keys
 
 abbrev pub nullable_keys : List TableRule → PlanTree → List (List ℕ)
 nullable_keys tables (Scan table columns) = null_keys (table_rule tables table)
 nullable_keys tables (Join condition left right) = []
-nullable_keys tables (Filter condition input) = nullable_keys tables input
-nullable_keys tables (Map outputs input) = copied_keys outputs (nullable_keys tables input)
-nullable_keys tables (Group g input) = []
-nullable_keys tables (Window w input) = nullable_keys tables input
-nullable_keys tables (Distinct input) = nullable_keys tables input
-nullable_keys tables (Limit limit input) = nullable_keys tables input
+nullable_keys tables (Over step input) = step_keys step (nullable_keys tables input)
 
 -- the keys all of whose columns are not null
 abbrev pub full_keys : (ℕ → Bool) → List (List ℕ) → List (List ℕ)
@@ -92,6 +96,22 @@ full_keys not_null keys = filter (list_all not_null) keys
 
 abbrev pub keys_facts : Member → List (List ℕ) → List Fact
 keys_facts row keys = map (key_fact row) keys
+
+-- the given facts of a step, over an input with so many columns, of which so much is known not null, with these nullable keys,
+-- that keeps these facts
+abbrev pub step_facts : Step → ℕ → (ℕ → Bool) → List (List ℕ) → List Fact → List Fact
+step_facts (Filter condition) columns not_null keys kept =
+    (kept ++ facts_of_conjuncts (conjuncts condition)) ++ keys_facts member.Row (full_keys (step_not_null (Filter condition) columns not_null) keys)
+step_facts (Map outputs) columns not_null keys kept = moved_facts (λ c. length outputs + c) member.Row kept ++ outputs_facts (length outputs) 0 outputs
+step_facts (Group g) columns not_null keys kept = group_key_facts g ++ facts_of_group g kept
+step_facts (Window w) columns not_null keys kept = kept ++ calls_facts w columns w.calls
+step_facts Distinct columns not_null keys kept = kept ++ key_fact member.Row (all_columns columns) ∷ []
+step_facts (Limit limit) columns not_null keys kept = kept
+
+-- the columns that these facts are about: a Map's outputs beside its input's
+abbrev pub columns_described : Step → ℕ → ℕ
+columns_described (Map outputs) columns = length outputs + columns
+columns_described step columns = step_width step columns
 
 -- the given facts of a node whose children keep these; a node with one child has the first list
 abbrev pub given : List TableRule → PlanTree → List Fact → List Fact → FactList
@@ -105,17 +125,8 @@ given tables (Join condition left right) kept more = record {
       ++ keys_facts member.Left (full_keys (is_not_null tables (Join condition left right)) (nullable_keys tables left)))
       ++ keys_facts member.Right (full_keys (is_not_null tables (Join condition left right)) (map (map (λ c. width left + c)) (nullable_keys tables right)));
 }
-given tables (Filter condition input) kept more = record {
-  columns = width input;
+given tables (Over step input) kept more = record {
+  columns = columns_described step (width input);
   split = None;
-  list = (kept ++ facts_of_conjuncts (conjuncts condition)) ++ keys_facts member.Row (full_keys (is_not_null tables (Filter condition input)) (nullable_keys tables input));
+  list = step_facts step (width input) (is_not_null tables input) (nullable_keys tables input) kept;
 }
-given tables (Map outputs input) kept more = record {
-  columns = length outputs + width input;
-  split = None;
-  list = moved_facts (λ c. length outputs + c) member.Row kept ++ outputs_facts (length outputs) 0 outputs;
-}
-given tables (Group g input) kept more = record { columns = g.columns + length g.calls; split = None; list = group_key_facts g ++ facts_of_group g kept }
-given tables (Window w input) kept more = record { columns = width input + length w.calls; split = None; list = kept ++ calls_facts w (width input) w.calls }
-given tables (Distinct input) kept more = record { columns = width input; split = None; list = kept ++ key_fact member.Row (all_columns (width input)) ∷ [] }
-given tables (Limit limit input) kept more = record { columns = width input; split = None; list = kept }

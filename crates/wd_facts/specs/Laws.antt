@@ -8,7 +8,7 @@ use Rattle.wd_plan.specs.Choices.{AreLawful, AtRows}
 use Rattle.wd_plan.specs.Facts.{Determines, DeterminesRow, HasWidth, IsNotNullIn, IsNullableKey}
 use Rattle.wd_plan.specs.Fits.{AreBelow, fits, width}
 use Rattle.wd_plan.specs.Outcomes.{outcome}
-use Rattle.wd_plan.specs.Plans.{PlanTree, Scan, Join, Filter, Map, Group, Window, Distinct, Limit, ordering_count}
+use Rattle.wd_plan.specs.Plans.{Step, Map, PlanTree, Scan, Join, Over, ordering_count}
 use Rattle.wd_step_facts.specs.declared.facts.Member.TheVariants as member
 use Rattle.wd_step_facts.specs.Facts.{Fact, Holds, Paired, PairsRows, beside, columns_named, is_plain_fact, key_fact, unpaired}
 use Rattle.wd_facts.specs.Given.{given, is_not_null, nullable_keys}
@@ -39,12 +39,7 @@ abbrev pub ChildrenKeep : PlanTree → Instance → List (List ℕ) → List Fac
 ChildrenKeep (Scan table columns) instance choice kept more = ⊤
 ChildrenKeep (Join condition left right) instance choice kept more =
     AtRows (outcome left instance choice) (AreKept (width left) kept) ⊤ × AtRows (outcome right instance (drop (ordering_count left) choice)) (AreKept (width right) more) ⊤
-ChildrenKeep (Filter condition input) instance choice kept more = AtRows (outcome input instance choice) (AreKept (width input) kept) ⊤
-ChildrenKeep (Map outputs input) instance choice kept more = AtRows (outcome input instance choice) (AreKept (width input) kept) ⊤
-ChildrenKeep (Group g input) instance choice kept more = AtRows (outcome input instance choice) (AreKept (width input) kept) ⊤
-ChildrenKeep (Window w input) instance choice kept more = AtRows (outcome input instance choice) (AreKept (width input) kept) ⊤
-ChildrenKeep (Distinct input) instance choice kept more = AtRows (outcome input instance choice) (AreKept (width input) kept) ⊤
-ChildrenKeep (Limit limit input) instance choice kept more = AtRows (outcome input instance choice) (AreKept (width input) kept) ⊤
+ChildrenKeep (Over step input) instance choice kept more = AtRows (outcome input instance choice) (AreKept (width input) kept) ⊤
 
 -- the given facts of a plan's top node hold in these rows of the node
 abbrev pub InRows : List TableRule → PlanTree → List Fact → List Fact → List Row → Type 0
@@ -54,21 +49,20 @@ InRows tables plan kept more rows = AllByRecursion (Holds (unpaired rows)) (give
 abbrev pub InPairs : List TableRule → PlanTree → List Fact → List Fact → List Row → List Row → List Row → Type 0
 InPairs tables plan kept more ls rs rows = (n : Paired) × (n.rows ≡ rows) × PairsRows ls rs n × AllByRecursion (Holds n) (given tables plan kept more).list
 
--- where there are rows, the given facts of a plan's top node hold: at a Join with the positions on each side, at a Map in its
--- rows beside those of its input
+-- the rows that a step's given facts are about: a Map's beside those of its input
+abbrev pub rows_described : Step → List Row → List Row → List Row
+rows_described (Map outputs) outs ins = beside outs ins
+rows_described step outs ins = outs
+
+-- where there are rows, the given facts of a plan's top node hold: at a Join with the positions on each side
 abbrev pub GivenHold : List TableRule → PlanTree → Instance → List (List ℕ) → List Fact → List Fact → Type 0
 GivenHold tables (Scan table columns) instance choice kept more = let plan = Scan table columns in AtRows (outcome plan instance choice) (InRows tables plan kept more) ⊤
 GivenHold tables (Join condition left right) instance choice kept more =
     let plan = Join condition left right in
     AtRows (outcome left instance choice) (λ ls. AtRows (outcome right instance (drop (ordering_count left) choice)) (λ rs. AtRows (outcome plan instance choice) (InPairs tables plan kept more ls rs) ⊤) ⊤) ⊤
-GivenHold tables (Filter condition input) instance choice kept more = let plan = Filter condition input in AtRows (outcome plan instance choice) (InRows tables plan kept more) ⊤
-GivenHold tables (Map outputs input) instance choice kept more =
-    let plan = Map outputs input in
-    AtRows (outcome input instance choice) (λ ins. AtRows (outcome plan instance choice) (λ outs. InRows tables plan kept more (beside outs ins)) ⊤) ⊤
-GivenHold tables (Group g input) instance choice kept more = let plan = Group g input in AtRows (outcome plan instance choice) (InRows tables plan kept more) ⊤
-GivenHold tables (Window w input) instance choice kept more = let plan = Window w input in AtRows (outcome plan instance choice) (InRows tables plan kept more) ⊤
-GivenHold tables (Distinct input) instance choice kept more = let plan = Distinct input in AtRows (outcome plan instance choice) (InRows tables plan kept more) ⊤
-GivenHold tables (Limit limit input) instance choice kept more = let plan = Limit limit input in AtRows (outcome plan instance choice) (InRows tables plan kept more) ⊤
+GivenHold tables (Over step input) instance choice kept more =
+    let plan = Over step input in
+    AtRows (outcome input instance choice) (λ ins. AtRows (outcome plan instance choice) (λ outs. InRows tables plan kept more (rows_described step outs ins)) ⊤) ⊤
 
 -- the given facts of a node hold where its children's kept facts do
 abbrev pub GivenFactsHold : Type 0
@@ -80,14 +74,9 @@ GivenFactsHold = (tables : List TableRule) (plan : PlanTree) (instance : Instanc
 abbrev pub AreOfChildren : PlanTree → List Fact → List Fact → Type 0
 AreOfChildren (Scan table columns) kept more = ⊤
 AreOfChildren (Join condition left right) kept more = ArePlain (width left) kept × ArePlain (width right) more
-AreOfChildren (Filter condition input) kept more = ArePlain (width input) kept
-AreOfChildren (Map outputs input) kept more = ArePlain (width input) kept
-AreOfChildren (Group g input) kept more = ArePlain (width input) kept
-AreOfChildren (Window w input) kept more = ArePlain (width input) kept
-AreOfChildren (Distinct input) kept more = ArePlain (width input) kept
-AreOfChildren (Limit limit input) kept more = ArePlain (width input) kept
+AreOfChildren (Over step input) kept more = ArePlain (width input) kept
 
--- the dependencies that plans speak of are facts of rows that pair nothing: columns determine a column, columns determine the row
+-- the dependencies that plans name are facts of rows that pair nothing: columns determine a column, columns determine the row
 abbrev pub DependenciesAreFacts : Type 0
 DependenciesAreFacts = (rows : List Row) (X : List ℕ)
     → ((c : ℕ) → Determines rows X c ↔ Holds (unpaired rows) (record { from = columns_named X; to = member.Column c ∷ [] }))

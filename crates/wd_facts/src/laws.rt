@@ -13,7 +13,7 @@ pub fn given_facts_hold()
     ensures { GivenFactsHold }
 {}
 
-/// The dependencies that plans speak of are facts: that columns determine a column, and that they determine the row.
+/// The dependencies that plans name are facts: that columns determine a column, and that they determine the row.
 pub fn dependencies_are_facts()
     ensures { DependenciesAreFacts }
 {}

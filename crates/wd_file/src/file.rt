@@ -77,7 +77,7 @@ pub fn review_statements<W: Watch>(
     findings.begin(task, statements)?;
     let locked = findings.fitting_lock(task, statements)?;
     let fixes = add_statements(Task { locked, ..task }, findings, &spans)?;
-    findings.tell_behind(task)?;
+    findings.tell_after(task)?;
     Ok(Reviewed {
         statements,
         mended: fixes.len() as u64,
@@ -292,7 +292,7 @@ impl<W: Watch> Findings<'_, W> {
     }
 
     /// Reports a comment after the last statement of a file that begins as an excuse: there it excuses nothing.
-    fn tell_behind(&mut self, task: Task<'_>) -> Result<(), OutOfMemory> {
+    fn tell_after(&mut self, task: Task<'_>) -> Result<(), OutOfMemory> {
         let text = task.query.text;
         let end = (tokens_in(task.alloc, text)?.end as usize).min(text.len());
         match remark_above(&text[end..], false) {

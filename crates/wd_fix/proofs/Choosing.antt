@@ -6,7 +6,7 @@ use Rattle.wd_source.specs.Statements.{StandInOrder}
 use Rattle.wd_fix.specs.declared.fix.Fix.{Fix}
 use Rattle.wd_fix.specs.Fixes.{span_of}
 
--- what stands in order behind a place does so behind an earlier one
+-- what stands in order after a place does so after an earlier one
 pub stand_before : (earlier start : ℕ) (spans : List Span) (end : ℕ) → earlier ≤ start → StandInOrder start spans end → StandInOrder earlier spans end
 stand_before earlier start [] end h s = omega (arith, h, s)
 stand_before earlier start (span ∷ spans) end h s = (omega (arith, h, s.0), s.1, s.2)
@@ -18,14 +18,14 @@ leave_out start [] span rest end s = stand_before start span.end rest end (omega
 leave_out start (first ∷ front) span rest end s = (s.0, s.1, leave_out first.end front span rest end s.2)
 
 -- what stands in order ends no earlier than it begins
-pub behind : (start : ℕ) (spans : List Span) (end : ℕ) → StandInOrder start spans end → start ≤ end
-behind start [] end s = s
-behind start (span ∷ spans) end s = let rest = behind span.end spans end s.2 in omega (arith, s.0, s.1, rest)
+pub after : (start : ℕ) (spans : List Span) (end : ℕ) → StandInOrder start spans end → start ≤ end
+after start [] end s = s
+after start (span ∷ spans) end s = let rest = after span.end spans end s.2 in omega (arith, s.0, s.1, rest)
 
 -- each of them ends no earlier than it begins, and within the text
 pub stands_within : (start : ℕ) (front : List Span) (span : Span) (rest : List Span) (end : ℕ)
     → StandInOrder start (front ++ span ∷ rest) end → (span.start ≤ span.end) × (span.end ≤ end)
-stands_within start [] span rest end s = (s.1, behind span.end rest end s.2)
+stands_within start [] span rest end s = (s.1, after span.end rest end s.2)
 stands_within start (first ∷ front) span rest end s = stands_within first.end front span rest end s.2
 
 -- those that are chosen, and those that are left

@@ -4,9 +4,9 @@ use Rattle.wd_lex.specs.declared.token.Span.{Span}
 use Rattle.wd_source.specs.Statements.{StandInOrder}
 use Rattle.wd_fix.specs.declared.fix.Fix.{Fix}
 use Rattle.wd_fix.specs.Fixes.{fixed_from, span_of}
-use Rattle.wd_fix.proofs.Choosing.{behind}
+use Rattle.wd_fix.proofs.Choosing.{after}
 
--- What is put in up to the rest: with the rest it makes up the whole, and the rest stands in order behind it.
+-- What is put in up to the rest: with the rest it makes up the whole, and the rest stands in order after it.
 pub record IsPutUpTo (text : List ℕ) (fixes rest : List Fix) (start : ℕ) (out : List ℕ) : Type 0 where
   pub stand : StandInOrder start (map span_of rest) (length text)
   pub all : out ++ fixed_from text start rest ≡ fixed_from text 0 fixes
@@ -27,9 +27,9 @@ past_fix text fixes rest start out next fix is e = record {
 pub at_fix : (fixes : List Fix) (i : ℕ) (fix : Fix) → i < length fixes → fix ≡ get_or fixes i fix → drop i fixes ≡ fix ∷ drop (i + 1) fixes
 at_fix fixes i fix h is = rw add-one (drop-cons fixes i fix h ∙ ap (λ (f : Fix). f ∷ drop (suc i) fixes) (sym is))
 
--- the statement at a place stands behind what was put in, within the text
+-- the statement at a place stands after what was put in, within the text
 pub stands_next : (text : List ℕ) (fixes rest : List Fix) (start : ℕ) (out : List ℕ) (fix : Fix)
     → IsPutUpTo text fixes (fix ∷ rest) start out → (start ≤ fix.span.start) × (fix.span.start ≤ length text)
 stands_next text fixes rest start out fix is =
-    let later = behind fix.span.end (map span_of rest) (length text) is.stand.2 in
+    let later = after fix.span.end (map span_of rest) (length text) is.stand.2 in
     (is.stand.0, omega (arith, is.stand.1, later))

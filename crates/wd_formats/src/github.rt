@@ -72,13 +72,13 @@ fn place_text(alloc: Global, position: Position) -> Result<String, OutOfMemory>
 fn add_part(alloc: Global, line: &mut Vec<u8>, part: Part, text: &[u8]) -> Result<(), OutOfMemory>
     ensures { OnOk result (line.new.items ≡ line.old.items ++ flat_map (part_byte part) text.now) }
 {
-    let more = escaped(alloc, part, text)?;
+    let more = escape(alloc, part, text)?;
     line.extend_from_slice(&more)?;
     Ok(())
 }
 
 /// A text as a part of a command.
-fn escaped(alloc: Global, part: Part, text: &[u8]) -> Result<Vec<u8>, OutOfMemory>
+fn escape(alloc: Global, part: Part, text: &[u8]) -> Result<Vec<u8>, OutOfMemory>
     ensures { IfOk result (λ v. v.items ≡ flat_map (part_byte part) text.now) }
 {
     let mut more = Vec::new(alloc);

@@ -9,7 +9,7 @@ use Rattle.wd_value.specs.Order.{compare}
 use Rattle.wd_value.proofs.OrderLaws.{compare_total}
 use Rattle.wd_plan.specs.Calls.{first_by}
 use Rattle.wd_plan.specs.Expressions.{is_null}
-use Rattle.wd_frame.specs.Kept.{candidates, is_behind, kept_before, popped, pushed, trimmed}
+use Rattle.wd_frame.specs.Kept.{candidates, is_after, kept_before, popped, pushed, trimmed}
 use Rattle.wd_frame.specs.Slides.{Nothing, Of, Values, answer_of, first_over}
 
 -- ---- the first candidate
@@ -30,7 +30,7 @@ null_is (Int n) e = cc
 null_is (Text t) e = cc
 null_is (Truth b) e = cc
 
-first_step : (key : SortKey) (v : Value) (cs : Values) → key.nulls_first ≡ false → first_of (if is_behind key v cs then cs else v ∷ cs) ≡ (if is_gt (compare key v (first_of cs)) then first_of cs else v)
+first_step : (key : SortKey) (v : Value) (cs : Values) → key.nulls_first ≡ false → first_of (if is_after key v cs then cs else v ∷ cs) ≡ (if is_gt (compare key v (first_of cs)) then first_of cs else v)
 first_step key v (c ∷ cs) e = by (is_gt (compare key v c))
   where
     by : (b : Bool) → first_of (if b then c ∷ cs else v ∷ c ∷ cs) ≡ (if b then c else v)
@@ -49,14 +49,14 @@ first_candidate key (v ∷ vs) e = first_step key v (candidates key vs) e ∙ ap
 -- ---- one value more at the back
 
 abbrev step : SortKey → Value → Values → Values
-step key v cs = if is_behind key v cs then cs else v ∷ cs
+step key v cs = if is_after key v cs then cs else v ∷ cs
 
 greater : (o : Ordering) → is_gt o ≡ true → o ≡ Greater
 greater Less e = cc
 greater Equal e = cc
 greater Greater e = refl
 
--- behind one that stands behind a third
+-- after one that stands after a third
 pub gt_trans : (key : SortKey) (a b c : Value) → is_gt (compare key a b) ≡ true → is_gt (compare key b c) ≡ true → is_gt (compare key a c) ≡ true
 gt_trans key a b c e f =
     let total = compare_total key in
@@ -64,14 +64,14 @@ gt_trans key a b c e f =
     let under : compare key c b ≡ Less = total.antisymm c b ∙ ap ordering_reverse (greater (compare key b c) f) in
     ap is_gt (total.antisymm a c ∙ ap ordering_reverse (total.trans c b a under below))
 
-null_behind : (key : SortKey) (v x : Value) → key.nulls_first ≡ false → is_null v ≡ true → is_null x ≡ false → is_gt (compare key v x) ≡ true
-null_behind key Null Null e f g = cc
-null_behind key Null (Int n) e f g = rw e refl
-null_behind key Null (Text t) e f g = rw e refl
-null_behind key Null (Truth b) e f g = rw e refl
-null_behind key (Int n) x e f g = cc
-null_behind key (Text t) x e f g = cc
-null_behind key (Truth b) x e f g = cc
+null_after : (key : SortKey) (v x : Value) → key.nulls_first ≡ false → is_null v ≡ true → is_null x ≡ false → is_gt (compare key v x) ≡ true
+null_after key Null Null e f g = cc
+null_after key Null (Int n) e f g = rw e refl
+null_after key Null (Text t) e f g = rw e refl
+null_after key Null (Truth b) e f g = rw e refl
+null_after key (Int n) x e f g = cc
+null_after key (Text t) x e f g = cc
+null_after key (Truth b) x e f g = cc
 
 goes : (key : SortKey) (v c x : Value) (t : Values) → is_gt (compare key v c) ≡ true → step key v (kept_before key c x t ++ x ∷ []) ≡ kept_before key c x t ++ x ∷ []
 goes key v c x (d ∷ ds) f = rw f refl
@@ -94,7 +94,7 @@ push_step : (key : SortKey) (v x : Value) (cs : Values) → key.nulls_first ≡ 
 push_step key v x [] first some = by (is_null v) refl (is_gt (compare key v x)) refl
   where
     by : (b : Bool) → is_null v ≡ b → (h : Bool) → is_gt (compare key v x) ≡ h → step key v (x ∷ []) ≡ trimmed key (if b then [] else v ∷ []) x ++ x ∷ []
-    by true e h g = rw (null_behind key v x first e some) refl
+    by true e h g = rw (null_after key v x first e some) refl
     by false e true g = rw g refl
     by false e false g = rw g refl
 push_step key v x (c ∷ cs) first some = by (is_gt (compare key v c)) refl
@@ -161,7 +161,7 @@ front_step key v (d ∷ es) first h c ds e = by (is_gt (compare key v d)) refl e
   where
     some : (b : Bool) → is_null v ≡ b → is_gt (compare key v d) ≡ false → is_null v ≡ false
     some false f g = f
-    some true f g = absurd (let yes = null_behind key v d first f (h d es refl) in cc)
+    some true f g = absurd (let yes = null_after key v d first f (h d es refl) in cc)
 
     by : (b : Bool) → is_gt (compare key v d) ≡ b → (if b then d ∷ es else v ∷ d ∷ es) ≡ c ∷ ds → is_null c ≡ false
     by true f g = h c ds g

@@ -13,7 +13,7 @@ use Rattle.wd_plan.specs.declared.window.Frame.{Frame}
 use Rattle.wd_plan.specs.Frames.{bound_asks, ends_at, is_kept, starts_at}
 use Rattle.wd_frame.specs.declared.distance.Side.TheVariants.{Start, End}
 use Rattle.wd_frame.specs.Bounds.{IsInOrder, end_of, is_passed, start_of}
-use Rattle.wd_frame.specs.Exclusions.{ExclusionsAreRanges, before, behind, left_out_from, left_out_to, peers, zone}
+use Rattle.wd_frame.specs.Exclusions.{ExclusionsAreRanges, before, after, left_out_from, left_out_to, peers, zone}
 use Rattle.wd_frame.specs.Places.{PartRule, distances, group_at, is_member, places_of}
 use Rattle.wd_frame.proofs.BoundLaws.{passed_first}
 use Rattle.wd_frame.proofs.Counted.{IsFirst, filter_first, skip_first}
@@ -121,10 +121,10 @@ module _ (part : PartRule) (frame : Frame) (p : ℕ) (ordered : IsInOrder part f
   too_low q l = false_and (starts q && ends q) (kept q) (false_and (starts q) (ends q) (not_true (starts q) (first.below q l)))
 
   too_high : (q : ℕ) → e ≤ q → q < n → t q ≡ false
-  too_high q l m = false_and (starts q && ends q) (kept q) (and_false (starts q) (ends q) (last.behind q l m))
+  too_high q l m = false_and (starts q && ends q) (kept q) (and_false (starts q) (ends q) (last.after q l m))
 
   taken : (q : ℕ) → s ≤ q → q < e → q < n → kept q ≡ true → t q ≡ true
-  taken q l m o k = both (starts q && ends q) (kept q) (both (starts q) (ends q) (not_false (starts q) (first.behind q l o)) (last.below q m)) k
+  taken q l m o k = both (starts q && ends q) (kept q) (both (starts q) (ends q) (not_false (starts q) (first.after q l o)) (last.below q m)) k
 
   left_out : (q : ℕ) → kept q ≡ false → t q ≡ false
   left_out q k = and_false (starts q && ends q) (kept q) k
@@ -194,11 +194,11 @@ module _ (part : PartRule) (frame : Frame) (p : ℕ) (ordered : IsInOrder part f
   no_peer_below : (q : ℕ) → q < x → nat_eq (group_at part p) (group_at part q) ≡ false
   no_peer_below q l = lower_group (group_at part p) (group_at part q) (first_peer.below q l)
 
-  no_peer_behind : (q : ℕ) → y ≤ q → q < n → nat_eq (group_at part p) (group_at part q) ≡ false
-  no_peer_behind q l m = higher_group (group_at part p) (group_at part q) (last_peer.behind q l m)
+  no_peer_after : (q : ℕ) → y ≤ q → q < n → nat_eq (group_at part p) (group_at part q) ≡ false
+  no_peer_after q l m = higher_group (group_at part p) (group_at part q) (last_peer.after q l m)
 
   peer : (q : ℕ) → x ≤ q → q < y → nat_eq (group_at part p) (group_at part q) ≡ true
-  peer q l m = let few = last_peer.within in same_group (group_at part p) (group_at part q) (first_peer.behind q l (omega arith)) (last_peer.below q m)
+  peer q l m = let few = last_peer.within in same_group (group_at part p) (group_at part q) (first_peer.after q l (omega arith)) (last_peer.below q m)
 
   abbrev pass : Exclusion → ℕ → Bool
   pass z q = is_kept z (nat_eq p q) (nat_eq (group_at part p) (group_at part q))
@@ -215,7 +215,7 @@ module _ (part : PartRule) (frame : Frame) (p : ℕ) (ordered : IsInOrder part f
 
       high : (p < y) ⊎ (y ≤ p) → p < y
       high (inl l) = l
-      high (inr l) = absurd (let no = no_peer_behind p l within in let yes = itself_peer in cc)
+      high (inr l) = absurd (let no = no_peer_after p l within in let yes = itself_peer in cc)
 
   pub by_group : frame.exclusion ≡ exclusion.Group → places_of part frame p ≡ zone part frame p 0 x ++ zone part frame p y n
   by_group is =
@@ -223,7 +223,7 @@ module _ (part : PartRule) (frame : Frame) (p : ℕ) (ordered : IsInOrder part f
       around x y (omega arith) last_peer.within
       (λ q l. ap (λ z. pass z q) is ∙ ap not (no_peer_below q l))
       (λ q l m. ap (λ z. pass z q) is ∙ ap not (peer q l m))
-      (λ q l m. ap (λ z. pass z q) is ∙ ap not (no_peer_behind q l m))
+      (λ q l m. ap (λ z. pass z q) is ∙ ap not (no_peer_after q l m))
 
   module _ (is : frame.exclusion ≡ exclusion.Ties) where
     kept_is : (q : ℕ) → x ≤ q → q < y → kept q ≡ nat_eq p q
@@ -252,7 +252,7 @@ module _ (part : PartRule) (frame : Frame) (p : ℕ) (ordered : IsInOrder part f
         same : (q : ℕ) → p ≡ q → nat_eq p q ≡ true
         same q eq = grind (arith, nat_tests)
 
-    -- the row and what stands behind its peers
+    -- the row and what stands after its peers
     from_row : filter t (range_with_len p (n - p)) ≡ zone part frame p p (p + 1) ++ zone part frame p y n
     from_row =
         let between = row_is_peer in
@@ -267,7 +267,7 @@ module _ (part : PartRule) (frame : Frame) (p : ℕ) (ordered : IsInOrder part f
         ap (λ m. filter t (range_with_len (p + 1) m)) rest
         ∙ skip_first t (y - (p + 1)) (n - y) (p + 1) (λ q l m. other q (omega arith) (omega arith) (λ eq. absurd (omega arith)))
         ∙ ap (λ b. filter t (range_with_len b (n - y))) there
-        ∙ last_zone y few (λ q l m. keeps q (no_peer_behind q l m))) i)
+        ∙ last_zone y few (λ q l m. keeps q (no_peer_after q l m))) i)
 
     pub by_ties : places_of part frame p ≡ zone part frame p 0 x ++ (zone part frame p p (p + 1) ++ zone part frame p y n)
     by_ties =
@@ -290,5 +290,5 @@ exclusions_are_ranges = record {
 }
   where
     ends : (part : PartRule) (frame : Frame) (p : ℕ) (x : Exclusion) → frame.exclusion ≡ x
-        → zone part frame p 0 (left_out_from x part p) ++ zone part frame p (left_out_to x part p) (length part.groups) ≡ before part frame p ++ behind part frame p
+        → zone part frame p 0 (left_out_from x part p) ++ zone part frame p (left_out_to x part p) (length part.groups) ≡ before part frame p ++ after part frame p
     ends part frame p x is = λ i. zone part frame p 0 (left_out_from (sym is i) part p) ++ zone part frame p (left_out_to (sym is i) part p) (length part.groups)

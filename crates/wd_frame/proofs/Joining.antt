@@ -1,4 +1,4 @@
--- The answer over one list of values and another behind it.
+-- The answer over one list of values and another after it.
 use Rattle.std.proofs.Common.{◌≡◌, ◌∙◌, ℕ, ◌+◌, ◌^◌, ◌<◌, ℤ, pos, negsuc, neg_ℤ, ◌+ℤ◌, ◌≤ℤ◌, ◌-◌, Bool, true, false, cond, not, [], ◌∷◌, ◌++◌, if◌then◌else◌, nat_eq, length, refl, sym, ap, subst, arith, Ordering, Less, Equal, Greater, is_gt, ◌⊎◌, inl, inr}
 use Rattle.std.specs.Int.{saturate_to_bits}
 use Rattle.std.specs.Ordering.{ordering_reverse}

@@ -8,7 +8,7 @@ use Rattle.wd_plan.specs.declared.window.Exclusion.{Exclusion}
 use Rattle.wd_plan.specs.declared.window.Exclusion.TheVariants as exclusion
 use Rattle.wd_plan.specs.declared.window.Frame.{Frame}
 use Rattle.wd_frame.specs.declared.exclusion.Zone.{Zone}
-use Rattle.wd_frame.specs.declared.exclusion.Zone.TheVariants.{Before, Row, Behind}
+use Rattle.wd_frame.specs.declared.exclusion.Zone.TheVariants.{Before, Row, After}
 use Rattle.wd_frame.specs.declared.extent.IndexRange.{IndexRange}
 use Rattle.wd_frame.specs.Bounds.{IsInOrder}
 use Rattle.wd_frame.specs.Exclusions.{left_out_from, left_out_to, zone}
@@ -63,17 +63,17 @@ module _ (n : ℕ) (bounds left_out : List IndexRange) (bound : IsAlong n bounds
   zone_start : (zone : Zone) (p q : ℕ) → p < q → q < n → (zone_of zone (range_at left_out p) p n).start ≤ (zone_of zone (range_at left_out q) q n).start
   zone_start Before p q o l = omega arith
   zone_start Row p q o l = omega arith
-  zone_start Behind p q o l = left.rising.ends p q o (let long = left.long in omega arith)
+  zone_start After p q o l = left.rising.ends p q o (let long = left.long in omega arith)
 
   zone_end : (zone : Zone) (p q : ℕ) → p < q → q < n → (zone_of zone (range_at left_out p) p n).end ≤ (zone_of zone (range_at left_out q) q n).end
   zone_end Before p q o l = left.rising.starts p q o (let long = left.long in omega arith)
   zone_end Row p q o l = omega arith
-  zone_end Behind p q o l = omega arith
+  zone_end After p q o l = omega arith
 
   zone_within : (zone : Zone) (p : ℕ) → p < n → (zone_of zone (range_at left_out p) p n).start ≤ n
   zone_within Before p l = omega arith
   zone_within Row p l = omega arith
-  zone_within Behind p l = left.rising.end_within p (let long = left.long in omega arith)
+  zone_within After p l = left.rising.end_within p (let long = left.long in omega arith)
 
   shared_along : (zone : Zone) (all : List IndexRange) → AreShared zone bounds left_out all → IsAlong n all
   shared_along zone all are =
@@ -138,18 +138,18 @@ module _ (part : PartRule) (frame : Frame) (bounds left_out : List IndexRange) (
   abbrev from : Zone → ℕ → ℕ
   from Before p = 0
   from Row p = p
-  from Behind p = left_out_to frame.exclusion part p
+  from After p = left_out_to frame.exclusion part p
 
   abbrev to : Zone → ℕ → ℕ
   to Before p = left_out_from frame.exclusion part p
   to Row p = p + 1
-  to Behind p = length part.groups
+  to After p = length part.groups
 
   module _ (ordered : IsInOrder part frame) (p : ℕ) (within : p < length part.groups) where
     zone-is : (z : Zone) → zone_of z (range_at left_out p) p (length bounds) ≡ record { start = from z p; end = to z p }
     zone-is Before = let e = left.start frame ordered p within in (λ i. record { start = 0; end = e i })
     zone-is Row = refl
-    zone-is Behind = let e = left.end frame ordered p within in (λ i. record { start = e i; end = are.long i })
+    zone-is After = let e = left.end frame ordered p within in (λ i. record { start = e i; end = are.long i })
 
     in_zone : (z : Zone) (all : List IndexRange) → AreShared z bounds left_out all → places_in (range_at all p) ≡ zone part frame p (from z p) (to z p)
     in_zone z all is =
@@ -158,15 +158,15 @@ module _ (part : PartRule) (frame : Frame) (bounds left_out : List IndexRange) (
         ap places_in (is.each p here ∙ ap (shared (range_at bounds p)) (zone-is z)
         ∙ (λ i. shared (record { start = are.start ordered p here i; end = are.end ordered p here i }) (record { start = from z p; end = to z p })))
 
-    around : (lists : List (List IndexRange)) → AreZones (Before ∷ Behind ∷ []) bounds left_out lists → zone part frame p 0 (to Before p) ++ zone part frame p (from Behind p) (length part.groups) ≡ places_along lists p
-    around (a ∷ b ∷ []) is = λ i. sym (in_zone Before a is.0) i ++ (sym (in_zone Behind b is.1.0) ∙ sym (append-nil (places_in (range_at b p)))) i
+    around : (lists : List (List IndexRange)) → AreZones (Before ∷ After ∷ []) bounds left_out lists → zone part frame p 0 (to Before p) ++ zone part frame p (from After p) (length part.groups) ≡ places_along lists p
+    around (a ∷ b ∷ []) is = λ i. sym (in_zone Before a is.0) i ++ (sym (in_zone After b is.1.0) ∙ sym (append-nil (places_in (range_at b p)))) i
     around (a ∷ b ∷ c ∷ lists) is = absurd is.1.1
     around (a ∷ []) is = absurd is.1
     around [] is = absurd is
 
-    with_row : (lists : List (List IndexRange)) → AreZones (Before ∷ Row ∷ Behind ∷ []) bounds left_out lists
-        → zone part frame p 0 (to Before p) ++ (zone part frame p p (p + 1) ++ zone part frame p (from Behind p) (length part.groups)) ≡ places_along lists p
-    with_row (a ∷ r ∷ b ∷ []) is = λ i. sym (in_zone Before a is.0) i ++ (sym (in_zone Row r is.1.0) i ++ (sym (in_zone Behind b is.1.1.0) ∙ sym (append-nil (places_in (range_at b p)))) i)
+    with_row : (lists : List (List IndexRange)) → AreZones (Before ∷ Row ∷ After ∷ []) bounds left_out lists
+        → zone part frame p 0 (to Before p) ++ (zone part frame p p (p + 1) ++ zone part frame p (from After p) (length part.groups)) ≡ places_along lists p
+    with_row (a ∷ r ∷ b ∷ []) is = λ i. sym (in_zone Before a is.0) i ++ (sym (in_zone Row r is.1.0) i ++ (sym (in_zone After b is.1.1.0) ∙ sym (append-nil (places_in (range_at b p)))) i)
     with_row (a ∷ r ∷ b ∷ c ∷ lists) is = absurd is.1.1.1
     with_row (a ∷ r ∷ []) is = absurd is.1.1
     with_row (a ∷ []) is = absurd is.1

@@ -34,13 +34,13 @@ zone part frame p from to = range_with_len (max (start_of part frame p) from) (m
 abbrev pub before : PartRule → Frame → ℕ → List ℕ
 before part frame p = zone part frame p 0 (left_out_from frame.exclusion part p)
 
-abbrev pub behind : PartRule → Frame → ℕ → List ℕ
-behind part frame p = zone part frame p (left_out_to frame.exclusion part p) (length part.groups)
+abbrev pub after : PartRule → Frame → ℕ → List ℕ
+after part frame p = zone part frame p (left_out_to frame.exclusion part p) (length part.groups)
 
 pub record ExclusionsAreRanges : Type 0 where
   pub current_row : (part : PartRule) (frame : Frame) (p : ℕ) → IsInOrder part frame → frame.exclusion ≡ exclusion.CurrentRow → p < length part.groups
-      → places_of part frame p ≡ before part frame p ++ behind part frame p
+      → places_of part frame p ≡ before part frame p ++ after part frame p
   pub group : (part : PartRule) (frame : Frame) (p : ℕ) → IsInOrder part frame → frame.exclusion ≡ exclusion.Group → p < length part.groups
-      → places_of part frame p ≡ before part frame p ++ behind part frame p
+      → places_of part frame p ≡ before part frame p ++ after part frame p
   pub ties : (part : PartRule) (frame : Frame) (p : ℕ) → IsInOrder part frame → frame.exclusion ≡ exclusion.Ties → p < length part.groups
-      → places_of part frame p ≡ before part frame p ++ (zone part frame p p (p + 1) ++ behind part frame p)
+      → places_of part frame p ≡ before part frame p ++ (zone part frame p p (p + 1) ++ after part frame p)

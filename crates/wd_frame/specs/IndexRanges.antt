@@ -9,7 +9,7 @@ use Rattle.wd_plan.specs.declared.window.Exclusion.TheVariants as exclusion
 use Rattle.wd_plan.specs.declared.window.Frame.{Frame}
 use Rattle.wd_frame.specs.declared.answer.Answer.{Answer}
 use Rattle.wd_frame.specs.declared.exclusion.Zone.{Zone}
-use Rattle.wd_frame.specs.declared.exclusion.Zone.TheVariants.{Before, Row, Behind}
+use Rattle.wd_frame.specs.declared.exclusion.Zone.TheVariants.{Before, Row, After}
 use Rattle.wd_frame.specs.declared.extent.IndexRange.{IndexRange}
 use Rattle.wd_frame.specs.Bounds.{IsInOrder, end_of, start_of}
 use Rattle.wd_frame.specs.Exclusions.{left_out_from, left_out_to}
@@ -80,7 +80,7 @@ pub record AreLeftOut (part : PartRule) (exclusion : Exclusion) (all : List Inde
 abbrev pub zone_of : Zone → IndexRange → ℕ → ℕ → IndexRange
 zone_of Before left_out p n = record { start = 0; end = left_out.start }
 zone_of Row left_out p n = record { start = p; end = p + 1 }
-zone_of Behind left_out p n = record { start = left_out.end; end = n }
+zone_of After left_out p n = record { start = left_out.end; end = n }
 
 -- what two ranges share
 abbrev pub shared : IndexRange → IndexRange → IndexRange
@@ -88,10 +88,10 @@ shared a b = record { start = max a.start b.start; end = min a.end b.end }
 
 -- the zones that an exclusion keeps
 abbrev pub zones_of : Exclusion → List Zone
-zones_of exclusion.NoOthers = Before ∷ Behind ∷ []
-zones_of exclusion.CurrentRow = Before ∷ Behind ∷ []
-zones_of exclusion.Group = Before ∷ Behind ∷ []
-zones_of exclusion.Ties = Before ∷ Row ∷ Behind ∷ []
+zones_of exclusion.NoOthers = Before ∷ After ∷ []
+zones_of exclusion.CurrentRow = Before ∷ After ∷ []
+zones_of exclusion.Group = Before ∷ After ∷ []
+zones_of exclusion.Ties = Before ∷ Row ∷ After ∷ []
 
 -- at each place what a range shares with a zone
 pub record AreShared (zone : Zone) (bounds left_out : List IndexRange) (all : List IndexRange) : Type 0 where

@@ -38,15 +38,15 @@ pub record IsSumOf (values : Values) (count : ℕ) (so_far : ℤ) : Type 0 where
 -- ---- candidates
 
 -- whether a value comes after all candidates, so that it is none itself
-abbrev pub is_behind : SortKey → Value → Values → Bool
-is_behind key v [] = is_null v
-is_behind key v (c ∷ cs) = is_gt (compare key v c)
+abbrev pub is_after : SortKey → Value → Values → Bool
+is_after key v [] = is_null v
+is_after key v (c ∷ cs) = is_gt (compare key v c)
 
 -- The values that come first once those before them are gone: each that is not NULL and that no later value comes before. The first of
 -- them comes first of all.
 abbrev pub candidates : SortKey → Values → Values
 candidates key [] = []
-candidates key (v ∷ vs) = let cs = candidates key vs in if is_behind key v cs then cs else v ∷ cs
+candidates key (v ∷ vs) = let cs = candidates key vs in if is_after key v cs then cs else v ∷ cs
 
 -- the candidates that are kept after a candidate, with this candidate; where none is kept, it goes if it comes after the value
 abbrev pub kept_before : SortKey → Value → Value → Values → Values

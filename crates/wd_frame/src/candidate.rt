@@ -1,9 +1,9 @@
 //! The values of a list that come first once those before them are gone.
 
-ghost use Rattle.std.specs.Prelude.{◌≡◌, ◌<◌, ◌∷◌, ◌++◌, [], drop, false, OnErr, OnOk};
+ghost use Rattle.std.specs.Prelude.{◌≡◌, ℕ, ◌<◌, ◌∷◌, ◌++◌, [], drop, false, OnErr, OnOk};
 ghost use Rattle.std.specs.VecDeque.{deque_capacity, deque_len};
 ghost use Rattle.wd_frame.specs.Kept.{AreCandidates, popped, pushed, trimmed};
-ghost use Rattle.wd_frame.specs.Slides.{first_of_two, first_over, seen, shown};
+ghost use Rattle.wd_frame.specs.Slides.{IsSmall, first_of_two, first_over, seen, shown};
 ghost use Rattle.wd_value.specs.declared.order.SortKey as key;
 
 use crate::answer::Answer;
@@ -56,7 +56,8 @@ impl<'a> Candidates<'a> {
 
     /// The value that comes first of all.
     pub(crate) fn answer(&self) -> Answer<'a>
-        ensures { (k : key.SortKey) → k.nulls_first ≡ false → AreCandidates k self.now → shown result ≡ first_over k (seen self.now.values.items) }
+        ensures first { (k : key.SortKey) → k.nulls_first ≡ false → AreCandidates k self.now → shown result ≡ first_over k (seen self.now.values.items) }
+        ensures small { (n : ℕ) → IsSmall n (shown result) }
     {
         match self.first.front() {
             Some(value) => Answer::Of(*value),

@@ -24,12 +24,12 @@ const PEERS: Frame = Frame {
 pub enum Zone {
     Before,
     Row,
-    Behind,
+    After,
 }
 
-const AROUND: [Zone; 2] = [Zone::Before, Zone::Behind];
+const AROUND: [Zone; 2] = [Zone::Before, Zone::After];
 
-const WITH_THE_ROW: [Zone; 3] = [Zone::Before, Zone::Row, Zone::Behind];
+const WITH_THE_ROW: [Zone; 3] = [Zone::Before, Zone::Row, Zone::After];
 
 /// The places of the frames of all places, as lists that have a range for each place: one list without an exclusion, two with one, and
 /// three where it keeps the row itself. A frame has the places of its ranges, list by list. Takes time linear in the partition's
@@ -149,7 +149,7 @@ fn zone_of(zone: Zone, left_out: IndexRange, place: usize, count: usize) -> Inde
             start: place,
             end: place + 1,
         },
-        Zone::Behind => IndexRange {
+        Zone::After => IndexRange {
             start: left_out.end,
             end: count,
         },

@@ -3,7 +3,7 @@
 //! `frame` tells by the definition which places a frame has, with `distance` for the bounds; `extent` finds the two bounds of a frame,
 //! by halving for one place or moved on from place to place for all. `exclusion` gives the frames of all places as lists of ranges
 //! whose ends rise. So a `slide` pushes and pops each value at most once (`over`) instead of going over each frame anew: `count`,
-//! `sum`, and `least` and `greatest`, which keep only the `candidate` values.
+//! `sum`, and `extreme`, the least or the greatest value, which keeps only the `candidate` values.
 #![tactic(auto)]
 
 mod answer;
@@ -12,10 +12,9 @@ mod count;
 mod distance;
 mod exclusion;
 mod extent;
+mod extreme;
 mod frame;
-mod greatest;
 pub mod laws;
-mod least;
 mod over;
 mod slide;
 mod sum;
@@ -24,9 +23,8 @@ pub use answer::Answer;
 pub use count::Count;
 pub use exclusion::frame_ranges;
 pub use extent::{IndexRange, all_bounds, bounds};
+pub use extreme::{Ascending, Descending, Direction, Extreme};
 pub use frame::{Part, members};
-pub use greatest::Greatest;
-pub use least::Least;
 pub use over::{over_all, over_frames, over_lists, over_ranges};
 pub use slide::{Join, Slide};
 pub use sum::Sum;

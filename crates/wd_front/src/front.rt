@@ -50,12 +50,12 @@ pub fn front_of(alloc: Global, text: &[u8]) -> Result<Front, OutOfMemory>
         Ok(_) => Ok(Front::Own),
         Err(SchemaError::OutOfMemory) => Err(OutOfMemory),
         Err(SchemaError::NullForbidden) => Ok(Front::Unread(Refused::Profile)),
-        Err(error) => respelled(alloc, text, error),
+        Err(error) => read_as_dialect(alloc, text, error),
     }
 }
 
 /// What a text is read as that the profile refuses with this error.
-fn respelled(alloc: Global, text: &[u8], error: SchemaError) -> Result<Front, OutOfMemory>
+fn read_as_dialect(alloc: Global, text: &[u8], error: SchemaError) -> Result<Front, OutOfMemory>
     requires { HasCause text.now error }
     ensures { IfOk result (IsFront text.now) }
 {
@@ -63,7 +63,7 @@ fn respelled(alloc: Global, text: &[u8], error: SchemaError) -> Result<Front, Ou
         Ok(schema) => where_read(alloc, text, schema, error),
         Err(DialectError::OutOfMemory) => Err(OutOfMemory),
         Err(refusal) => {
-            let refused = told(alloc, text, error, refusal)?;
+            let refused = refusal_of_both(alloc, text, error, refusal)?;
             Ok(Front::Unread(refused))
         }
     }
@@ -84,22 +84,22 @@ fn where_read(
     match read_schema(alloc, schema.text.as_bytes()) {
         Ok(_) => Ok(Front::Respelled(schema)),
         Err(SchemaError::OutOfMemory) => Err(OutOfMemory),
-        Err(other) => Ok(unread(text, schema, error, other)),
+        Err(other) => Ok(unread_front(text, schema, error, other)),
     }
 }
 
 /// What a text is read as that the profile refuses with the first error, if it refuses the text of its tables with the other.
-fn unread(text: &[u8], schema: DialectSchema, error: SchemaError, other: SchemaError) -> Front
+fn unread_front(text: &[u8], schema: DialectSchema, error: SchemaError, other: SchemaError) -> Front
     requires unread { HasCause text.now error }
     requires spelled { IsSpelledBy text.now (map statement_said schema.statements.items) (string_bytes schema.text) }
     requires lost { HasCause (string_bytes schema.text) other }
     ensures { IsFront text.now result }
 {
-    Front::Unread(told_of_tables(error, other))
+    Front::Unread(refusal_of_tables(error, other))
 }
 
 /// Which refusal is reported where the profile refuses a text with the first error and the text of its tables with the other.
-fn told_of_tables(error: SchemaError, other: SchemaError) -> Refused {
+fn refusal_of_tables(error: SchemaError, other: SchemaError) -> Refused {
     match other.number() {
         Some(number) if error.number() != Some(number) => Refused::Tables(number),
         _ => Refused::Profile,
@@ -108,7 +108,7 @@ fn told_of_tables(error: SchemaError, other: SchemaError) -> Refused {
 
 /// Which refusal is reported where both refuse a text: PostgreSQL's where the profile does not read its characters, otherwise the one
 /// further on in the text.
-fn told(
+fn refusal_of_both(
     alloc: Global,
     text: &[u8],
     error: SchemaError,

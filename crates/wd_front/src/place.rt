@@ -2,7 +2,7 @@
 
 use std::alloc::Global;
 use wd_dialect_schema::DialectError;
-use wd_dialect_text::masked;
+use wd_dialect_text::mask_text;
 use wd_lex::{LexError, Span, Token, lex};
 use wd_schema::SchemaError;
 use wd_value::OutOfMemory;
@@ -15,7 +15,7 @@ pub(crate) fn dialect_place(
 ) -> Result<Option<Span>, OutOfMemory> {
     match refusal {
         DialectError::Tokens(error) => Ok(error.place().map(byte_at)),
-        DialectError::Unexpected { place } => token_at(alloc, &masked(alloc, text)?, place),
+        DialectError::Unexpected { place } => token_at(alloc, &mask_text(alloc, text)?, place),
         DialectError::TooLong => Ok(None),
         DialectError::OutOfMemory => Err(OutOfMemory),
     }

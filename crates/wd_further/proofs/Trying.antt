@@ -6,10 +6,9 @@ use Rattle.std.proofs.lemmas.List.FromFn.{get_or-map-range_with_len, get_or-rang
 use Rattle.wd_value.specs.Bags.{positions}
 use Rattle.wd_value.specs.Rows.{Row, table_at}
 use Rattle.wd_schema.specs.Tables.{TableRule}
-use Rattle.wd_plan.specs.Plans.{PlanTree}
+use Rattle.wd_plan.specs.Plans.{PlanTree, is_scanned}
 use Rattle.wd_facts.specs.Given.{table_rule}
 use Rattle.wd_candidates.specs.Fixed.{fixed_value}
-use Rattle.wd_candidates.specs.Origins.{is_scanned}
 use Rattle.wd_witness_text.specs.Witnesses.{witness_of}
 use Rattle.wd_witness_text.specs.declared.witness.Witness.{Witness}
 use Rattle.wd_refute.specs.Laws.{IsShown}

@@ -11,10 +11,10 @@ use Rattle.wd_group.specs.Sets.{begins_at, is_first, set_class}
 
 module _ (t : ℕ → Bool) where
   begins_after : (n a d : ℕ) → begins_at (filter t (range_with_len (a + 1) n)) ((a + 1) + d) ≡ not (list_any t (range_with_len (a + 1) d)) → (b : Bool) → begins_at (cond b (a ∷ filter t (range_with_len (a + 1) n)) (filter t (range_with_len (a + 1) n))) (a + suc d) ≡ not (b || list_any t (range_with_len (a + 1) d))
-  begins_after n a d behind true = ne_eqb a (a + suc d) (λ s. absurd (omega arith))
-  begins_after n a d behind false =
+  begins_after n a d after true = ne_eqb a (a + suc d) (λ s. absurd (omega arith))
+  begins_after n a d after false =
       let next : (a + 1) + d ≡ a + suc d = omega arith in
-      ap (begins_at (filter t (range_with_len (a + 1) n))) (sym next) ∙ behind
+      ap (begins_at (filter t (range_with_len (a + 1) n))) (sym next) ∙ after
 
   begins : (n a d : ℕ) → d < n → t (a + d) ≡ true → begins_at (filter t (range_with_len a n)) (a + d) ≡ not (list_any t (range_with_len a d))
   begins zero a d h e = absurd (omega arith)

@@ -8,7 +8,7 @@ ghost use Rattle.wd_sort.specs.Numbers.{AreNumbersBy};
 use crate::pairs::pair_numbers;
 use std::alloc::Global;
 use wd_columns::RowSource;
-use wd_sort::{Coding, paired, value_numbers};
+use wd_sort::{Coding, pair, value_numbers};
 use wd_value::OutOfMemory;
 
 /// For each of the first `columns` columns a number for each row; two are equal exactly where the values are the same. So the texts of
@@ -63,7 +63,7 @@ fn both(alloc: Global, first: Coding, second: &Coding) -> Result<Coding, OutOfMe
     ensures { IfOk result (λ c. ArePairNumbers first.codes.items second.now.codes.items c.bound c.codes.items) }
 {
     if are_dense(first.bound, second.bound, first.codes.len()) {
-        Ok(paired(first, second))
+        Ok(pair(first, second))
     } else {
         pair_numbers(alloc, &first.codes, &second.codes)
     }

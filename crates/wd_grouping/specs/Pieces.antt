@@ -41,13 +41,13 @@ abbrev pub if_all : Token → ℕ → Alias → Option OneTable
 if_all from count alias = if alias.count == count then Some (record { from = from; alias = alias.name; qualifier = None }) else None
 
 -- [AS] alias after a query in brackets
-abbrev pub behind_query : Token → Token → List Token → Option OneTable
-behind_query from bracket [] = None
-behind_query from bracket (word ∷ tokens) = if_all from (length (word ∷ tokens) + 1) (alias_at bracket (word ∷ tokens))
+abbrev pub after_query : Token → Token → List Token → Option OneTable
+after_query from bracket [] = None
+after_query from bracket (word ∷ tokens) = if_all from (length (word ∷ tokens) + 1) (alias_at bracket (word ∷ tokens))
 
 abbrev pub derived_table : Token → Token → List Token → Option ℕ → Option OneTable
 derived_table from bracket tokens None = None
-derived_table from bracket tokens (Some place) = behind_query from bracket (drop (place + 1) tokens)
+derived_table from bracket tokens (Some place) = after_query from bracket (drop (place + 1) tokens)
 
 -- FROM with a table or a query in brackets, its alias, and nothing else
 abbrev pub one_table : List Token → Option OneTable

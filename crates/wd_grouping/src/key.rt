@@ -175,7 +175,7 @@ fn may_group(value: &[Token]) -> bool
 }
 
 /// An expression as a key; `number` expressions come before it.
-fn named(number: usize, value: &[Token]) -> Option<Key<'_>>
+fn expression_key(number: usize, value: &[Token]) -> Option<Key<'_>>
     ensures { Finds group_key result (spec.named value.now (spec.name_at number)) }
 {
     match name_at(number) {
@@ -199,7 +199,7 @@ fn key_of<'t>(number: usize, items: &[&'t [Token]], part: &'t [Token]) -> Option
     }
     match value_of(items, part) {
         Some(value) if is_column(value) => Some(Key { value, name: None }),
-        Some(value) => named(number, value),
+        Some(value) => expression_key(number, value),
         None => None,
     }
 }

@@ -10,7 +10,7 @@ ghost use Rattle.wd_grouping.specs.Replaced as spec;
 use crate::key::{Key, begins_set};
 use crate::kind::{begins_operand, ends_operand};
 use std::alloc::Global;
-use wd_clauses::{RespellError, add, added, copy_token, is_name};
+use wd_clauses::{RespellError, add, added_terminal, copy_token, is_name};
 use wd_distinct_on::{add_placed, added_name, is_dot, strip};
 use wd_lex::{Terminal, Token, TokenKind};
 use wd_using::is_star;
@@ -213,7 +213,7 @@ fn add_unnamed(
     ensures { Writes written.old.items written.new.items result (spec.unnamed name.now select.now) }
 {
     add_name(alloc, written, name, select)?;
-    add(written, added(Terminal::As, select))?;
+    add(written, added_terminal(Terminal::As, select))?;
     add_name(alloc, written, "?column?", select)?;
     Ok(())
 }
@@ -250,7 +250,7 @@ pub fn add_items(
     while let [item, after @ ..] = rest {
         add_item(alloc, written, keys, table, select, item)?;
         if !after.is_empty() {
-            add(written, added(Terminal::Comma, select))?;
+            add(written, added_terminal(Terminal::Comma, select))?;
         }
         rest = after;
     }

@@ -10,10 +10,12 @@ use crate::key::{Key, all_stay, have_names, keys_of};
 use crate::replace::{are_clear, have_star};
 use crate::select::{Grouped, grouped_of};
 use crate::source::{OneTable, one_table, tables_called};
-use crate::write::{written, written_over};
+use crate::write::{write_over_tables, write_select};
 use std::alloc::Global;
 use wd_clauses::{RespellError, parts};
-use wd_distinct_on::{Selects, added_name, cut, respelled_backwards, starts_with_select};
+use wd_distinct_on::{
+    Selects, added_name, respelled_backwards, split_at_place, starts_with_select,
+};
 use wd_lex::Token;
 use wd_using::select_at;
 
@@ -32,7 +34,7 @@ fn if_clear(
     ensures { MayWrite (λ x. x.items) result (spec.if_clear front.now (grouped_pieces select.now) (map (λ item. item.now) items.now) (map group_key keys.now) (one_table one.now)) }
 {
     if are_clear(keys, items) {
-        let tokens = written(alloc, front, select, one, items, keys)?;
+        let tokens = write_select(alloc, front, select, one, items, keys)?;
         return Ok(Some(tokens));
     }
     Ok(None)
@@ -70,7 +72,7 @@ fn with_keys(
     ensures { MayWrite (λ x. x.items) result (spec.with_keys front.now (grouped_pieces select.now) (map (λ item. item.now) items.now) (map group_key keys.now)) }
 {
     if !have_names(keys) {
-        let tokens = written_over(alloc, front, select, keys)?;
+        let tokens = write_over_tables(alloc, front, select, keys)?;
         return Ok(Some(tokens));
     }
     match one_table(select.select.tables) {
@@ -161,7 +163,7 @@ fn respelled_at(
 ) -> Result<Option<Vec<Token>>, RespellError>
     ensures { MayWrite (λ x. x.items) result (spec.respelled_at place tokens.now) }
 {
-    let (front, rest) = cut(place, tokens);
+    let (front, rest) = split_at_place(place, tokens);
     match grouped_at(rest) {
         Some(select) => {
             let tokens = respelled_select(alloc, front, &select)?;

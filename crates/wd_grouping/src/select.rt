@@ -27,8 +27,8 @@ pub struct Grouped<'t> {
 pub fn grouped_of(select: Select<'_>) -> Option<Grouped<'_>>
     ensures { Finds grouped_pieces result (spec.grouped_of (pieces select.entry)) }
 {
-    let (condition, behind) = split(Stop::Later, select.clauses);
-    match behind {
+    let (condition, after) = split(Stop::Later, select.clauses);
+    match after {
         [group, by, rest @ ..] if is_group(&group.kind) && is_by(&by.kind) => {
             let (keys, later) = split(Stop::Later, rest);
             Some(Grouped {

@@ -45,12 +45,8 @@ fn if_all<'t>(from: &'t Token, count: usize, alias: Alias<'t>) -> Option<OneTabl
 }
 
 /// `[AS] alias` after a query in brackets
-fn behind_query<'t>(
-    from: &'t Token,
-    bracket: &'t Token,
-    tokens: &'t [Token],
-) -> Option<OneTable<'t>>
-    ensures { Finds named.one_table result (spec.behind_query from.now bracket.now tokens.now) }
+fn after_query<'t>(from: &'t Token, bracket: &'t Token, tokens: &'t [Token]) -> Option<OneTable<'t>>
+    ensures { Finds named.one_table result (spec.after_query from.now bracket.now tokens.now) }
 {
     match tokens {
         [_word, ..] => if_all(from, tokens.len() + 1, alias_at(bracket, tokens)),
@@ -67,7 +63,7 @@ fn derived_table<'t>(
     ensures { Finds named.one_table result (spec.derived_table from.now bracket.now tokens.now (closing tokens.now)) }
 {
     match closing(tokens) {
-        Some(place) => behind_query(from, bracket, &tokens[place + 1..]),
+        Some(place) => after_query(from, bracket, &tokens[place + 1..]),
         None => None,
     }
 }

@@ -10,7 +10,7 @@ use crate::replace::{add_items, add_name, add_qualified, add_replaced};
 use crate::select::Grouped;
 use crate::source::OneTable;
 use std::alloc::Global;
-use wd_clauses::{RespellError, add, add_all, added, copied, copy_token};
+use wd_clauses::{RespellError, add, add_all, added_terminal, copy_token, copy_tokens};
 use wd_distinct_on::{add_all_placed, add_placed, add_terminals};
 use wd_lex::{Terminal, Token};
 
@@ -50,7 +50,7 @@ fn add_listed(
     while let [key, after @ ..] = rest {
         add_key(alloc, written, key, table, word)?;
         if !after.is_empty() {
-            add(written, added(Terminal::Comma, word))?;
+            add(written, added_terminal(Terminal::Comma, word))?;
         }
         rest = after;
     }
@@ -83,9 +83,9 @@ fn add_named(
 ) -> Result<(), RespellError>
     ensures { Writes written.old.items written.new.items result (spec.column_by word.now value.now (Some name.now)) }
 {
-    add(written, added(Terminal::Comma, word))?;
+    add(written, added_terminal(Terminal::Comma, word))?;
     add_all_placed(written, value, word)?;
-    add(written, added(Terminal::As, word))?;
+    add(written, added_terminal(Terminal::As, word))?;
     add_name(alloc, written, name, word)?;
     Ok(())
 }
@@ -192,7 +192,7 @@ fn add_before_keys(written: &mut Vec<Token>, select: &Grouped) -> Result<(), Res
 }
 
 /// The select whose keys are columns of its tables, and what follows it, after these tokens.
-pub fn written_over(
+pub fn write_over_tables(
     alloc: Global,
     front: &[Token],
     select: &Grouped,
@@ -200,7 +200,7 @@ pub fn written_over(
 ) -> Result<Vec<Token>, RespellError>
     ensures { Makes (λ x. x.items) (λ x. x) result (front.now ++ spec.written_over (grouped_pieces select.now) (map group_key keys.now)) }
 {
-    let mut written = copied(alloc, front)?;
+    let mut written = copy_tokens(alloc, front)?;
     add_before_keys(&mut written, select)?;
     add_grouped(alloc, &mut written, select, None, keys)?;
     add_all(&mut written, select.later)?;
@@ -256,7 +256,7 @@ fn add_tail(
 }
 
 /// The select over the table that has its keys, and what follows it, after these tokens.
-pub fn written(
+pub fn write_select(
     alloc: Global,
     front: &[Token],
     select: &Grouped,
@@ -266,7 +266,7 @@ pub fn written(
 ) -> Result<Vec<Token>, RespellError>
     ensures { Makes (λ x. x.items) (λ x. x) result (front.now ++ spec.written (grouped_pieces select.now) (one_table one.now) (map (λ item. item.now) items.now) (map group_key keys.now)) }
 {
-    let mut written = copied(alloc, front)?;
+    let mut written = copy_tokens(alloc, front)?;
     add_head(alloc, &mut written, select, one, items, keys)?;
     add_tail(alloc, &mut written, select, one, keys)?;
     Ok(written)

@@ -39,12 +39,12 @@ abbrev pub fewer : ℕ → List Token → ℕ
 fewer left tokens = if begins_inner tokens then left - 1 else left
 
 -- a query, with these names before the names that are read more than once there
-abbrev pub behind : List Token → Said → Said
-behind names query = record { tokens = query.tokens; read_twice = names ++ query.read_twice }
+abbrev pub following : List Token → Said → Said
+following names query = record { tokens = query.tokens; read_twice = names ++ query.read_twice }
 
 abbrev pub turned : (Said → Result Said RespellError) → Said → Option Said → Result Said RespellError
 turned go query None = go query
-turned go query (Some new) = if nat_lt most_tokens (length new.tokens) then Err TooLong else go (behind query.read_twice new)
+turned go query (Some new) = if nat_lt most_tokens (length new.tokens) then Err TooLong else go (following query.read_twice new)
 
 -- a query without the WITH clauses in brackets at the first N places, from the last to the first, at most the given number of them
 unfoldable pub opened_below : ℕ → ℕ → Said → Result Said RespellError

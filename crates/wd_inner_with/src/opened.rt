@@ -7,8 +7,8 @@ ghost use Rattle.wd_inner_with.specs.Inner as spec;
 ghost use Rattle.wd_with.specs.Expanded as members;
 
 use std::alloc::Global;
-use wd_clauses::{RespellError, add, add_all, closing, copied, copy_token};
-use wd_distinct_on::cut;
+use wd_clauses::{RespellError, add, add_all, closing, copy_token, copy_tokens};
+use wd_distinct_on::split_at_place;
 use wd_lex::{Terminal, Token, TokenKind};
 use wd_with::{Expanded, without_with};
 
@@ -36,7 +36,7 @@ fn between(
     ensures { Makes members.said (λ s. s.tokens) result (spec.between front.now bracket.now (members.expanded query.now) after.now) }
 {
     let Expanded { tokens, read_twice } = without_with(alloc, query)?;
-    let mut written = copied(alloc, front)?;
+    let mut written = copy_tokens(alloc, front)?;
     add(&mut written, copy_token(bracket)?)?;
     add_all(&mut written, &tokens)?;
     add_all(&mut written, after)?;
@@ -73,7 +73,7 @@ pub fn opened_at(
 ) -> Result<Option<Expanded>, RespellError>
     ensures { spec.MaySay members.said result (spec.opened_at place tokens.now) }
 {
-    let (front, rest) = cut(place, tokens);
+    let (front, rest) = split_at_place(place, tokens);
     match rest {
         [bracket, inner @ ..] if begins_inner(rest) => {
             let query = up_to(alloc, front, bracket, inner)?;

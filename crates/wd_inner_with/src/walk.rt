@@ -7,8 +7,8 @@ ghost use Rattle.std.specs.Prelude.{drop};
 
 use crate::opened::{begins_inner, opened_at};
 use std::alloc::{AllocError, Global};
-use wd_clauses::{RespellError, copied, copy_token};
-use wd_distinct_on::cut;
+use wd_clauses::{RespellError, copy_token, copy_tokens};
+use wd_distinct_on::split_at_place;
 use wd_lex::Token;
 use wd_with::Expanded;
 
@@ -22,7 +22,7 @@ const MOST_INNER: usize = 128;
 fn fewer(left: usize, place: usize, tokens: &[Token]) -> usize
     ensures { result ≡ spec.fewer left (drop place tokens.now) }
 {
-    let (_, rest) = cut(place, tokens);
+    let (_, rest) = split_at_place(place, tokens);
     if begins_inner(rest) {
         return left.saturating_sub(1);
     }
@@ -49,7 +49,7 @@ pub fn without_inner_with(alloc: Global, tokens: &[Token]) -> Result<Expanded, R
     if tokens.len() > MOST_TOKENS {
         return Err(RespellError::TooLong);
     }
-    let mut query = copied(alloc, tokens)?;
+    let mut query = copy_tokens(alloc, tokens)?;
     let mut names = Vec::new(alloc);
     let mut left = MOST_INNER;
     let mut place = tokens.len();

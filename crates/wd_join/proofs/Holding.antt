@@ -97,7 +97,7 @@ before_too Less h = refl
 before_too Equal h = absurd (false≢true h)
 before_too Greater h = absurd (false≢true h)
 
--- what stands behind a row that is not before is not before either
+-- what stands after a row that is not before is not before either
 stays_after : (too : Bool) (o p : Ordering) → ordering_index o ≤ ordering_index p → is_before too o ≡ false → is_before too p ≡ false
 stays_after too Less p up h = absurd (false≢true (sym h))
 stays_after true Equal p up h = absurd (false≢true (sym h))

@@ -11,7 +11,7 @@ use crate::matching::{JoinColumns, is_null_at};
 use std::alloc::Global;
 use std::cmp::Ordering;
 use wd_columns::RowSource;
-use wd_sort::{all_positions, sorted_in};
+use wd_sort::{all_positions, sort_positions_in};
 use wd_value::{OutOfMemory, SortColumn, SortKey, Value, compare};
 
 /// Consecutive positions in an order, from `start` up to `end`.
@@ -101,7 +101,7 @@ fn sorted_by(alloc: Global, rows: &RowSource, keys: &[SortColumn]) -> Result<Vec
     ensures { IfOk result (λ v. IsSortedBy keys.now rows.now v.items) }
 {
     let all = all_positions(alloc, rows.len())?;
-    let order = sorted_in(alloc, rows, keys, &all)?;
+    let order = sort_positions_in(alloc, rows, keys, &all)?;
     Ok(order)
 }
 

@@ -7,11 +7,11 @@ use Rattle.wd_json.specs.declared.misread.Misread.{Misread}
 use Rattle.wd_json.specs.declared.misread.Misread.TheVariants as misread
 use Rattle.wd_json_lines.specs.declared.error.LineError.{LineError}
 use Rattle.wd_json_lines.specs.declared.error.LineError.TheVariants as error
-use Rattle.wd_json_lines.specs.Lines.{line_len, first_line, behind_line, AreLines, FailBehind}
+use Rattle.wd_json_lines.specs.Lines.{line_len, first_line, after_line, AreLines, FailAfter}
 use Rattle.wd_json_lines.specs.Refusals.{refusal_at, HasCause, IsWithin}
 
--- behind a line there is less
-pub shorter : (bytes : List ℕ) → (length bytes ≡ 0 → ⊥) → length (behind_line bytes) < length bytes
+-- after a line there is less
+pub shorter : (bytes : List ℕ) → (length bytes ≡ 0 → ⊥) → length (after_line bytes) < length bytes
 shorter bytes some = omega (arith, some, length-drop (line_len bytes + 1) bytes)
 
 some_bytes : (bytes : List ℕ) → (length bytes ≡ 0 → ⊥) → bytes ≢ []
@@ -25,16 +25,16 @@ module _ {A : Type 0} (json : A → Data) where
   -- so far each line is that of a value
   pub record AreReadUpTo (bytes rest : List ℕ) (read : List A) : Type 0 where
     pub lines : (more : List A) → AreLines json more rest → AreLines json (read ++ more) bytes
-    pub fail : (more : List A) → FailBehind json more rest → FailBehind json (read ++ more) bytes
+    pub fail : (more : List A) → FailAfter json more rest → FailAfter json (read ++ more) bytes
 
   pub none_read : (bytes : List ℕ) (read : List A) → read ≡ [] → AreReadUpTo bytes bytes read
   none_read bytes read none = rw none (record { lines = λ more h. h; fail = λ more h. h })
 
   pub one_more : (bytes rest after : List ℕ) (read later : List A) (x : A) → AreReadUpTo bytes rest read → (length rest ≡ 0 → ⊥) → IsJsonOf (json x) (first_line rest)
-      → later ≡ read ++ x ∷ [] → after ≡ behind_line rest → AreReadUpTo bytes after later
-  one_more bytes rest after read later x h some is e behind = rw (behind, e) (record {
+      → later ≡ read ++ x ∷ [] → after ≡ after_line rest → AreReadUpTo bytes after later
+  one_more bytes rest after read later x h some is e following = rw (following, e) (record {
     lines = λ more k. subst (λ xs. AreLines json xs bytes) (sym (append_assoc read (x ∷ []) more)) (h.lines (x ∷ more) (some_bytes rest some, is, k));
-    fail = λ more k. subst (λ xs. FailBehind json xs bytes) (sym (append_assoc read (x ∷ []) more)) (h.fail (x ∷ more) (some_bytes rest some, is, k));
+    fail = λ more k. subst (λ xs. FailAfter json xs bytes) (sym (append_assoc read (x ∷ []) more)) (h.fail (x ∷ more) (some_bytes rest some, is, k));
   })
 
   pub no_more : (bytes rest : List ℕ) (read : List A) → AreReadUpTo bytes rest read → length rest ≡ 0 → AreLines json read bytes
@@ -45,7 +45,7 @@ module _ {A : Type 0} (json : A → Data) where
       → (m ≡ misread.Shape → (x : A) → ¬ IsJsonOf (json x) (first_line rest)) → number ≡ length read + 1 → HasCause json (refusal_at m number) bytes
   refused bytes rest read misread.OutOfMemory number h some none e = tt
   refused bytes rest read misread.Shape number h some none e =
-      (read, subst (λ xs. FailBehind json xs bytes) (append-nil read) (h.fail [] (some_bytes rest some, none refl)), e)
+      (read, subst (λ xs. FailAfter json xs bytes) (append-nil read) (h.fail [] (some_bytes rest some, none refl)), e)
 
   -- ---- one list
 
@@ -54,7 +54,7 @@ module _ {A : Type 0} (json : A → Data) where
   one_list bytes [] (y ∷ ys) h k = absurd (k.0 h)
   one_list bytes (x ∷ xs) [] h k = absurd (h.0 k)
   one_list bytes (x ∷ xs) (y ∷ ys) h k =
-      ap₂ (λ d ds. d ∷ ds) (same_json (json x) (json y) (first_line bytes) h.1 k.1) (one_list (behind_line bytes) xs ys h.2 k.2)
+      ap₂ (λ d ds. d ∷ ds) (same_json (json x) (json y) (first_line bytes) h.1 k.1) (one_list (after_line bytes) xs ys h.2 k.2)
 
   -- where a line is of one value at most, lines are of one list
   pub one_list_by : ((x y : A) (line : List ℕ) → IsJsonOf (json x) line → IsJsonOf (json y) line → x ≡ y)
@@ -62,14 +62,14 @@ module _ {A : Type 0} (json : A → Data) where
   one_list_by one bytes [] [] h k = refl
   one_list_by one bytes [] (y ∷ ys) h k = absurd (k.0 h)
   one_list_by one bytes (x ∷ xs) [] h k = absurd (h.0 k)
-  one_list_by one bytes (x ∷ xs) (y ∷ ys) h k = ap₂ (λ z zs. z ∷ zs) (one x y (first_line bytes) h.1 k.1) (one_list_by one (behind_line bytes) xs ys h.2 k.2)
+  one_list_by one bytes (x ∷ xs) (y ∷ ys) h k = ap₂ (λ z zs. z ∷ zs) (one x y (first_line bytes) h.1 k.1) (one_list_by one (after_line bytes) xs ys h.2 k.2)
 
   -- what is of values does not fail
-  pub no_failure : (bytes : List ℕ) (xs ys : List A) → AreLines json xs bytes → FailBehind json ys bytes → ⊥
+  pub no_failure : (bytes : List ℕ) (xs ys : List A) → AreLines json xs bytes → FailAfter json ys bytes → ⊥
   no_failure bytes [] [] h k = k.0 h
   no_failure bytes [] (y ∷ ys) h k = k.0 h
   no_failure bytes (x ∷ xs) [] h k = k.1 x h.1
-  no_failure bytes (x ∷ xs) (y ∷ ys) h k = no_failure (behind_line bytes) xs ys h.2 k.2
+  no_failure bytes (x ∷ xs) (y ∷ ys) h k = no_failure (after_line bytes) xs ys h.2 k.2
 
 -- a number is within the bytes
 pub within : (m : Misread) (number bytes : ℕ) → number ≤ bytes → IsWithin (refusal_at m number) bytes

@@ -11,7 +11,7 @@ use Rattle.json.specs.Print.{escape_byte, escape_letter, quoted}
 use Rattle.serde_json.specs.Data.{Data, Num, unsigned, negative, float, null, boolean, number, string, array, object, Items, no_items, item, Members, no_members, member}
 use Rattle.serde_json.specs.Written.{comma_if, compact_text, items_text, members_text, number_text}
 use Rattle.wd_json.specs.Json.{IsJsonOf}
-use Rattle.wd_json_lines.specs.Lines.{AreLines, behind_line, first_line, line_len, line_text, lines_text}
+use Rattle.wd_json_lines.specs.Lines.{AreLines, after_line, first_line, line_len, line_text, lines_text}
 
 abbrev is_no_feed : ℕ → Bool
 is_no_feed b = not (b == 10)
@@ -98,8 +98,8 @@ len_of (b ∷ line) rest h =
 pub first_of_text : (line rest : List ℕ) → list_all is_no_feed line ≡ true → first_line (line ++ 10 ∷ rest) ≡ line
 first_of_text line rest h = take_at line (10 ∷ rest) (line_len (line ++ 10 ∷ rest)) (sym (len_of line rest h))
 
-pub behind_text : (line rest : List ℕ) → list_all is_no_feed line ≡ true → behind_line (line ++ 10 ∷ rest) ≡ rest
-behind_text line rest h =
+pub after_text : (line rest : List ℕ) → list_all is_no_feed line ≡ true → after_line (line ++ 10 ∷ rest) ≡ rest
+after_text line rest h =
     ap (drop (line_len (line ++ 10 ∷ rest) + 1)) (sym (append_assoc line (10 ∷ []) rest))
     ∙ drop_at (line ++ 10 ∷ []) rest (line_len (line ++ 10 ∷ rest) + 1) (let e = len_of line rest h in omega (arith, e, length-append line (10 ∷ [])))
 
@@ -122,7 +122,7 @@ module _ {A : Type 0} (json : A → Data) where
       let rest = lines_text json xs in
       let none = text_ends_none (json x) in
       subst (AreLines json (x ∷ xs)) (sym (append_assoc text (10 ∷ []) rest))
-      (some_text text rest, subst (IsJsonOf (json x)) (sym (first_of_text text rest none)) all.0, subst (AreLines json xs) (sym (behind_text text rest none)) (are_lines xs all.1))
+      (some_text text rest, subst (IsJsonOf (json x)) (sym (first_of_text text rest none)) all.0, subst (AreLines json xs) (sym (after_text text rest none)) (are_lines xs all.1))
 
   spelled_push : (xs : List A) (x : A) → AreSpelled json xs → IsJsonOf (json x) (compact_text (json x)) → AreSpelled json (xs ++ x ∷ [])
   spelled_push [] x all is = (is, tt)

@@ -13,18 +13,18 @@ abbrev pub first_line : List ℕ → List ℕ
 first_line bytes = take (line_len bytes) bytes
 
 -- what follows the first line feed
-abbrev pub behind_line : List ℕ → List ℕ
-behind_line bytes = drop (line_len bytes + 1) bytes
+abbrev pub after_line : List ℕ → List ℕ
+after_line bytes = drop (line_len bytes + 1) bytes
 
 -- the lines of bytes are those of values, one each; after the last line feed there need not be anything
 abbrev pub AreLines : {A : Type 0} → (A → Data) → List A → List ℕ → Type 0
 AreLines json [] bytes = bytes ≡ []
-AreLines json (x ∷ xs) bytes = (bytes ≢ []) × IsJsonOf (json x) (first_line bytes) × AreLines json xs (behind_line bytes)
+AreLines json (x ∷ xs) bytes = (bytes ≢ []) × IsJsonOf (json x) (first_line bytes) × AreLines json xs (after_line bytes)
 
 -- after lines of these values comes a line that is of no value
-abbrev pub FailBehind : {A : Type 0} → (A → Data) → List A → List ℕ → Type 0
-FailBehind {A} json [] bytes = (bytes ≢ []) × ((x : A) → ¬ IsJsonOf (json x) (first_line bytes))
-FailBehind json (x ∷ xs) bytes = (bytes ≢ []) × IsJsonOf (json x) (first_line bytes) × FailBehind json xs (behind_line bytes)
+abbrev pub FailAfter : {A : Type 0} → (A → Data) → List A → List ℕ → Type 0
+FailAfter {A} json [] bytes = (bytes ≢ []) × ((x : A) → ¬ IsJsonOf (json x) (first_line bytes))
+FailAfter json (x ∷ xs) bytes = (bytes ≢ []) × IsJsonOf (json x) (first_line bytes) × FailAfter json xs (after_line bytes)
 
 -- the line of a JSON value: its text without white space, and a line feed
 abbrev pub line_text : Data → List ℕ

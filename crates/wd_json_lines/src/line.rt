@@ -5,7 +5,7 @@ ghost use Rattle.serde_json.specs.Data.{Data};
 ghost use Rattle.serde_json.specs.Written.{compact_text};
 ghost use Rattle.wd_json.specs.Json.{IsJsonOf};
 ghost use Rattle.wd_json.specs.declared.misread.Misread.TheVariants as misread;
-ghost use Rattle.wd_json_lines.specs.Lines.{behind_line, first_line};
+ghost use Rattle.wd_json_lines.specs.Lines.{after_line, first_line};
 ghost use Rattle.wd_json_lines.specs.Lines as spec;
 
 use std::alloc::Global;
@@ -43,7 +43,7 @@ fn line_len(bytes: &[u8]) -> usize
 /// The first line without its line feed, and what follows that.
 pub fn split_line(bytes: &[u8]) -> (&[u8], &[u8])
     ensures line { result.0.now ≡ first_line bytes.now }
-    ensures rest { result.1.now ≡ behind_line bytes.now }
+    ensures rest { result.1.now ≡ after_line bytes.now }
 {
     let (line, rest) = bytes.split_at(line_len(bytes));
     match rest {

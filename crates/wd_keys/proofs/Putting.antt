@@ -10,7 +10,7 @@ pub record IsPutUpTo (text : List ℕ) (changes rest : List Change) (start : ℕ
   pub all : out ++ changed_from text start rest ≡ changed_from text 0 changes
   pub rest_ordered : ComeInOrder text 0 changes → ComeInOrder text start rest
 
--- stretches that come in order end within the text
+-- spans that come in order end within the text
 pub end_within : (text : List ℕ) (changes : List Change) (start : ℕ) → ComeInOrder text start changes → start ≤ length text
 end_within text [] start is = is
 end_within text (change ∷ changes) start (after, long, later) = omega (arith, after, long, end_within text changes change.end later)

@@ -116,12 +116,12 @@ fn limit_put(alloc: Global, limit: &Token, count: &Token) -> Result<Option<Chang
     let TokenKind::Number(rows) = count.kind else {
         return Ok(None);
     };
-    let stretch = Span {
+    let written = Span {
         start: limit.span.start,
         end: count.span.end,
     };
     let words = format!(in alloc; "FETCH FIRST {rows} ROWS WITH TIES")?;
-    Ok(Some(put(alloc, stretch, words.as_str())?))
+    Ok(Some(put(alloc, written, words.as_str())?))
 }
 
 /// WITH TIES in place of ONLY, where that is the last word of the site.

@@ -227,10 +227,10 @@ module _ (n members : ℕ) where
             let k = ltb-true b n e in
             let few : members % n ≡ members = mod-eq_of_lt (omega arith) in
             let most : min b (members % n) ≡ members = ap (min b) few ∙ min-eq_right h in
-            subst (λ x. x ≤ start b) most (behind (b * (members / n)) (min b (members % n)))
+            subst (λ x. x ≤ start b) most (following (b * (members / n)) (min b (members % n)))
           where
-            behind : (x y : ℕ) → y ≤ x + y
-            behind x y = omega arith
+            following : (x y : ℕ) → y ≤ x + y
+            following x y = omega arith
         by false e = subst (λ x. x ≤ start b) start_end (start_rises n b (ltb-false b n e))
 
     empty : (b : ℕ) → members ≤ b → bucket_size (bucket n members) members b ≡ 0

@@ -239,7 +239,7 @@ module _ (class : ClassRule) (rows : List Row) where
       contiguous : IsContiguous class frame rows m
       contiguous = record {
         between = no_gap;
-        behind = λ e i j a b t. taken j (start_on i j a b t) (no_end frame.mode frame.end (distances m j) e);
+        following = λ e i j a b t. taken j (start_on i j a b t) (no_end frame.mode frame.end (distances m j) e);
         before = λ e i j a b t. taken i (no_start frame.mode frame.start (distances m i) e) (end_back i j a b t);
         range = (
             let at = λ (i : ℕ) (q : Row). in_frame class frame (group_of class rows) m (row_at rows m) i q in

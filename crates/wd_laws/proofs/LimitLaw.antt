@@ -15,7 +15,7 @@ use Rattle.wd_plan.proofs.Sorted.{Rising}
 use Rattle.wd_plan.specs.Facts.{DeterminesAll, HasWidth}
 use Rattle.wd_plan.specs.Settled.{IsSettledLimit}
 use Rattle.wd_value.specs.Keys.{compare_keys}
-use Rattle.wd_plan.specs.Outcomes.{cut, first_rows, peers}
+use Rattle.wd_plan.specs.Outcomes.{limited_rows, first_rows, peers}
 use Rattle.wd_plan.specs.Plans.{LimitRule}
 use Rattle.wd_plan.specs.Sorting.{IsInOrder, IsOrdering, limit_class, order_columns}
 use Rattle.wd_value.specs.declared.order.SortColumn.{SortColumn}
@@ -140,15 +140,15 @@ module _ (limit : LimitRule) (rows others : List Row) (o1 o2 : List ℕ) (perm :
       ∙ same_rows_at_places (limit_class limit) rows (gives_all_looks (limit_class limit) rows width wide h) [] (ordered rows o1) (ordered others o2) (Perm-ordered rows o1 v1.once) (both perm (Perm-ordered others o2 v2.once)) v1.in_order v2.in_order
       ∙ one_part limit [] (ordered others o2)
 
-  cut_whole : (count : Option ℕ) (offset : ℕ) (ties : Bool) → count ≡ None → offset ≡ 0 → Perm Row (cut (record { keys = limit.keys; offset = offset; count = count; ties = ties }) (ordered rows o1)) (cut (record { keys = limit.keys; offset = offset; count = count; ties = ties }) (ordered others o2))
+  cut_whole : (count : Option ℕ) (offset : ℕ) (ties : Bool) → count ≡ None → offset ≡ 0 → Perm Row (limited_rows (record { keys = limit.keys; offset = offset; count = count; ties = ties }) (ordered rows o1)) (limited_rows (record { keys = limit.keys; offset = offset; count = count; ties = ties }) (ordered others o2))
   cut_whole None offset ties c e = subst (λ n. Perm Row (drop n (ordered rows o1)) (drop n (ordered others o2))) (sym e) all_rows
   cut_whole (Some n) offset ties c e = cc
 
-  cut_ties : (count : Option ℕ) (offset : ℕ) (ties : Bool) → ties ≡ true → offset ≡ 0 → Perm Row (cut (record { keys = limit.keys; offset = offset; count = count; ties = ties }) (ordered rows o1)) (cut (record { keys = limit.keys; offset = offset; count = count; ties = ties }) (ordered others o2))
+  cut_ties : (count : Option ℕ) (offset : ℕ) (ties : Bool) → ties ≡ true → offset ≡ 0 → Perm Row (limited_rows (record { keys = limit.keys; offset = offset; count = count; ties = ties }) (ordered rows o1)) (limited_rows (record { keys = limit.keys; offset = offset; count = count; ties = ties }) (ordered others o2))
   cut_ties None offset ties t e = subst (λ n. Perm Row (drop n (ordered rows o1)) (drop n (ordered others o2))) (sym e) all_rows
   cut_ties (Some n) offset ties t e = subst (λ s. Perm Row (first_rows limit.keys s n (drop offset (ordered rows o1))) (first_rows limit.keys s n (drop offset (ordered others o2)))) (sym t) (subst (λ k. Perm Row (first_rows limit.keys true n (drop k (ordered rows o1))) (first_rows limit.keys true n (drop k (ordered others o2)))) (sym e) (Perm-ties n))
 
-  pub Perm-cut : (width : ℕ) → HasWidth width rows → IsSettledLimit limit width rows → Perm Row (cut limit (ordered rows o1)) (cut limit (ordered others o2))
+  pub Perm-cut : (width : ℕ) → HasWidth width rows → IsSettledLimit limit width rows → Perm Row (limited_rows limit (ordered rows o1)) (limited_rows limit (ordered others o2))
   Perm-cut width wide (inl h) = cut_whole limit.count limit.offset limit.ties h.0 h.1
   Perm-cut width wide (inr (inl h)) = cut_ties limit.count limit.offset limit.ties h.0 h.1
-  Perm-cut width wide (inr (inr h)) = Perm-same _ _ (ap (cut limit) (same_order width wide h))
+  Perm-cut width wide (inr (inr h)) = Perm-same _ _ (ap (limited_rows limit) (same_order width wide h))

@@ -4,7 +4,7 @@ use Rattle.wd_laws.proofs.Outcomes.{Agree-from_Alike, Alike-filter, Alike-join, 
 use Rattle.wd_laws.proofs.Grouping.{Alike-group}
 use Rattle.wd_laws.proofs.Renaming.{renamed_order, renamed_ordering}
 use Rattle.wd_laws.specs.Laws.{LimitCommutes, StepsCommute}
-use Rattle.wd_plan.specs.Outcomes.{cut}
+use Rattle.wd_plan.specs.Outcomes.{limited_rows}
 use Rattle.wd_plan.specs.Sorting.{limit_class}
 use Rattle.wd_value.proofs.Perms.{Perm, Perm-from_SameBag, SameBag-from_Perm}
 use Rattle.wd_value.proofs.SameLaws.{same_row-Decides}
@@ -26,5 +26,5 @@ steps_commute = record {
 pub limit_commutes : LimitCommutes
 limit_commutes limit rows ps ordering once v = record {
   valid = renamed_ordering rows ps once (limit_class limit) ordering v;
-  same_rows = ap (cut limit) (renamed_order rows ps once ordering);
+  same_rows = ap (limited_rows limit) (renamed_order rows ps once ordering);
 }

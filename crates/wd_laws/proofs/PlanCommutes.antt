@@ -1,5 +1,5 @@
 -- Over rearranged tables a plan has the outcome that it had under the renamed choice, but for the order of its rows.
-use Rattle.std.proofs.Common.{◌≡◌, ℕ, zero, suc, ◌+◌, ◌≤◌, List, [], ◌∷◌, ◌++◌, map, length, take, drop, refl, sym, ◌∙◌, ap, subst, arith, eqb, Ok, Err}
+use Rattle.std.proofs.Common.{◌≡◌, ℕ, ◌+◌, ◌≤◌, List, [], ◌∷◌, ◌++◌, map, length, take, drop, refl, sym, ◌∙◌, ap, subst, arith, eqb, Ok, Err}
 use Rattle.std.specs.List.{AllByRecursion}
 use Rattle.std.proofs.Math.Seq.{drop-append_seam}
 use Rattle.std.proofs.lemmas.Bool.Decides.{Decides-eqb}
@@ -10,13 +10,12 @@ use Rattle.wd_laws.proofs.Grouping.{Alike-group}
 use Rattle.wd_laws.proofs.NodesCommute.{rearranged}
 use Rattle.wd_laws.proofs.Outcomes.{Agree-from_Alike, Alike, Alike-all_ok, Alike-filter, Alike-join, Alike-map, Perm-distinct, Perm-pairs}
 use Rattle.wd_laws.proofs.Parts.{rows_at_positions}
-use Rattle.wd_laws.proofs.Renaming.{commutes, renamed_order, renamed_ordering}
-use Rattle.wd_plan.specs.Choices.{AreLawful, AreOrderings, AtRows}
+use Rattle.wd_laws.proofs.Renaming.{commutes, renamed_order, renamed_orderings}
+use Rattle.wd_plan.specs.Choices.{AreLawful, AreOrderings, AreOrderingsOver}
 use Rattle.wd_plan.specs.Faults.{and_then}
-use Rattle.wd_laws.specs.Laws.{AreRenamed, AreRenamedAt, Commutes, PlanCommutes, SameTables, own_orderings, renamed}
-use Rattle.wd_plan.specs.Outcomes.{RowsOrFault, cut, distinct, extended, filter_outcome, group_outcome, join_outcome, map_outcome, ordering_at, outcome, pairs, window_outcome}
-use Rattle.wd_plan.specs.Plans.{Distinct, Filter, Group, Join, Limit, LimitRule, Map, PlanTree, Scan, Window, WindowRule, ordering_count}
-use Rattle.wd_plan.specs.Sorting.{IsOrdering, limit_class}
+use Rattle.wd_laws.specs.Laws.{AreRenamed, AreRenamedAt, Commutes, IsRearranged, PlanCommutes, SameTables, renamed}
+use Rattle.wd_plan.specs.Outcomes.{RowsOrFault, limited_rows, extended, join_outcome, ordering_at, outcome, pairs, step_outcome, window_outcome}
+use Rattle.wd_plan.specs.Plans.{Step, Filter, Map, Group, Window, Distinct, Limit, PlanTree, Scan, Join, Over, step_classes, ordering_count, own_orderings}
 use Rattle.wd_value.proofs.Perms.{Perm, Perm-map, Perm-refl, SameBag-from_Perm, both, done, flip, keep}
 use Rattle.wd_value.specs.Bags.{EachOnce, positions}
 use Rattle.wd_value.specs.Rows.{Instance, Row, row_at, rows_at}
@@ -58,44 +57,41 @@ places rows others p =
 once : (rows others : List Row) (s : Places rows others) → EachOnce (length rows) s.at
 once rows others s = SameBag-from_Perm eqb Decides-eqb s.perm
 
--- ---- a node's own orderings
+-- ---- a step's own orderings
 
--- a Window's renamed orderings are lawful, and its outcome is rearranged
-renamed_at_window : (w : WindowRule) (a b : RowsOrFault) (os own : List (List ℕ)) → Alike a b → AreRenamedAt a b os own
-    → AtRows b (λ rows. AreOrderings w rows os) (AllByRecursion (λ o. o ≡ []) os)
-    → AtRows a (λ rows. AreOrderings w rows own) (AllByRecursion (λ o. o ≡ []) own) × Alike (and_then a (λ rows. window_outcome w rows own)) (and_then b (λ rows. window_outcome w rows os))
-renamed_at_window w (Ok rows) (Ok others) os own p (ps, re, is) v =
-    let v' : AreOrderings w (rows_at rows ps) os = subst (λ l. AreOrderings w l os) (sym re.shown) v in
-    let c : Commutes w rows ps os = commutes rows ps re.once w os v' in
+-- over rearranged rows a step under the renamed orderings has the rearranged outcome
+renamed_step : (step : Step) (rows others : List Row) (ps : List ℕ) (os : List (List ℕ)) → Perm Row rows others → IsRearranged rows others ps → AreOrderings (step_classes step) others os → Alike (step_outcome step (map (map (renamed rows ps)) os) rows) (step_outcome step os others)
+renamed_step (Filter condition) rows others ps os p re v = Alike-filter condition rows others p
+renamed_step (Map outputs) rows others ps os p re v = Alike-map outputs rows others p
+renamed_step (Group rule) rows others ps os p re v = Alike-group rule rows others p
+renamed_step (Window w) rows others ps os p re v =
+    let c : Commutes w rows ps os = commutes rows ps re.once w os (subst (λ l. AreOrderings w.classes l os) (sym re.shown) v) in
     let os' = map (map (renamed rows ps)) os in
     let moved : Alike (window_outcome w rows os') (window_outcome w (rows_at rows ps) os) = subst (Alike (window_outcome w rows os')) (sym c.same_rows) (Alike-all_ok _ _ (Perm-map (extended w rows os') (Perm-ordering rows ps re.once))) in
-    let there : Alike (window_outcome w rows os') (window_outcome w others os) = subst (λ l. Alike (window_outcome w rows os') (window_outcome w l os)) re.shown moved in
-    (subst (AreOrderings w rows) (sym is) c.valid, subst (λ (mine : List (List ℕ)). Alike (window_outcome w rows mine) (window_outcome w others os)) (sym is) there)
-renamed_at_window w (Ok rows) (Err g) os own p is v = absurd p
-renamed_at_window w (Err f) (Ok others) os own p is v = absurd p
-renamed_at_window w (Err f) (Err g) os own p is v = (subst (AllByRecursion (λ o. o ≡ [])) (sym is) v, p)
-
--- the first ordering of those that are renamed is renamed
-first_renamed : (f : ℕ → ℕ) (os : List (List ℕ)) → ordering_at (map (map f) os) 0 ≡ map f (ordering_at os 0)
-first_renamed f [] = refl
-first_renamed f (o ∷ os) = refl
-
--- likewise a Limit
-renamed_at_limit : (limit : LimitRule) (a b : RowsOrFault) (os own : List (List ℕ)) → Alike a b → AreRenamedAt a b os own
-    → AtRows b (λ rows. IsOrdering (limit_class limit) rows (ordering_at os 0)) (ordering_at os 0 ≡ [])
-    → AtRows a (λ rows. IsOrdering (limit_class limit) rows (ordering_at own 0)) (ordering_at own 0 ≡ [])
-    × Alike (and_then a (λ rows. Ok (cut limit (rows_at rows (ordering_at own 0))))) (and_then b (λ rows. Ok (cut limit (rows_at rows (ordering_at os 0)))))
-renamed_at_limit limit (Ok rows) (Ok others) os own p (ps, re, is) v =
+    subst (λ l. Alike (window_outcome w rows os') (window_outcome w l os)) re.shown moved
+renamed_step Distinct rows others ps os p re v = Perm-distinct p
+renamed_step (Limit limit) rows others ps os p re v =
     let o = ordering_at os 0 in
-    let mine : ordering_at own 0 ≡ map (renamed rows ps) o = ap (λ l. ordering_at l 0) is ∙ first_renamed (renamed rows ps) os in
-    let v' : IsOrdering (limit_class limit) (rows_at rows ps) o = subst (λ l. IsOrdering (limit_class limit) l o) (sym re.shown) v in
-    let same : rows_at others o ≡ rows_at rows (ordering_at own 0) = ap (λ l. rows_at l o) (sym re.shown) ∙ renamed_order rows ps re.once o ∙ ap (rows_at rows) (sym mine) in (
-      subst (IsOrdering (limit_class limit) rows) (sym mine) (renamed_ordering rows ps re.once (limit_class limit) o v'),
-      subst (λ l. Perm Row (cut limit (rows_at rows (ordering_at own 0))) (cut limit l)) (sym same) (Perm-refl _),
+    let mine : ordering_at (map (map (renamed rows ps)) os) 0 ≡ map (renamed rows ps) o = first_renamed (renamed rows ps) os in
+    let same : rows_at others o ≡ rows_at rows (ordering_at (map (map (renamed rows ps)) os) 0) = ap (λ l. rows_at l o) (sym re.shown) ∙ renamed_order rows ps re.once o ∙ ap (rows_at rows) (sym mine) in
+    subst (λ l. Perm Row (limited_rows limit (rows_at rows (ordering_at (map (map (renamed rows ps)) os) 0))) (limited_rows limit l)) (sym same) (Perm-refl _)
+  where
+    -- the first ordering of those that are renamed is renamed
+    first_renamed : (f : ℕ → ℕ) (os : List (List ℕ)) → ordering_at (map (map f) os) 0 ≡ map f (ordering_at os 0)
+    first_renamed f [] = refl
+    first_renamed f (o ∷ os) = refl
+
+-- the renamed orderings are lawful, and the outcome is rearranged
+renamed_at : (step : Step) (a b : RowsOrFault) (os own : List (List ℕ)) → Alike a b → AreRenamedAt a b os own → AreOrderingsOver (step_classes step) b os
+    → AreOrderingsOver (step_classes step) a own × Alike (and_then a (step_outcome step own)) (and_then b (step_outcome step os))
+renamed_at step (Ok rows) (Ok others) os own p (ps, re, is) v =
+    let v' : AreOrderings (step_classes step) (rows_at rows ps) os = subst (λ l. AreOrderings (step_classes step) l os) (sym re.shown) v in (
+      subst (AreOrderings (step_classes step) rows) (sym is) (renamed_orderings rows ps re.once (step_classes step) os v'),
+      subst (λ (mine : List (List ℕ)). Alike (step_outcome step mine rows) (step_outcome step os others)) (sym is) (renamed_step step rows others ps os p re v),
     )
-renamed_at_limit limit (Ok rows) (Err g) os own p is v = absurd p
-renamed_at_limit limit (Err f) (Ok others) os own p is v = absurd p
-renamed_at_limit limit (Err f) (Err g) os own p is v = (ap (λ l. ordering_at l 0) is ∙ v, p)
+renamed_at step (Ok rows) (Err g) os own p is v = absurd p
+renamed_at step (Err f) (Ok others) os own p is v = absurd p
+renamed_at step (Err f) (Err g) os own p is v = (subst (AllByRecursion (λ o. o ≡ [])) (sym is) v, p)
 
 -- ---- the renamed choice
 
@@ -105,13 +101,6 @@ over (Ok xs) (Ok ys) f g p h = h xs ys p
 over (Ok xs) (Err d) f g p h = absurd p
 over (Err c) (Ok ys) f g p h = absurd p
 over (Err c) (Err d) f g p h = p
-
--- a Limit's ordering is the first of its own
-own_first : (n : ℕ) (choice : List (List ℕ)) → ordering_at choice n ≡ ordering_at (own_orderings n 1 choice) 0
-own_first zero [] = refl
-own_first zero (o ∷ os) = refl
-own_first (suc n) [] = refl
-own_first (suc n) (o ∷ os) = own_first n os
 
 follows : (plan : PlanTree) (instance other : Instance) (choice own : List (List ℕ)) → SameTables instance other → AreLawful plan other choice → AreRenamed plan instance other choice own
     → AreLawful plan instance own × Alike (outcome plan instance own) (outcome plan other choice)
@@ -123,36 +112,19 @@ follows (Join condition left right) instance other choice own same v r =
       over _ _ (λ ls. and_then (outcome right instance (drop (ordering_count left) own)) (λ rs. join_outcome condition (pairs ls rs))) (λ ls. and_then (outcome right other (drop (ordering_count left) choice)) (λ rs. join_outcome condition (pairs ls rs))) a.1 (λ ls ks p.
           over _ _ (λ rs. join_outcome condition (pairs ls rs)) (λ rs. join_outcome condition (pairs ks rs)) b.1 (λ rs ss q. Alike-join condition _ _ (Perm-pairs p q))),
     )
-follows (Filter condition input) instance other choice own same v r =
-    let a = follows input instance other choice own same v r in (a.0, over _ _ (filter_outcome condition) (filter_outcome condition) a.1 (Alike-filter condition))
-follows (Map outputs input) instance other choice own same v r =
-    let a = follows input instance other choice own same v r in (a.0, over _ _ (map_outcome outputs) (map_outcome outputs) a.1 (Alike-map outputs))
-follows (Group rule input) instance other choice own same v r =
-    let a = follows input instance other choice own same v r in (a.0, over _ _ (group_outcome rule) (group_outcome rule) a.1 (Alike-group rule))
-follows (Window w input) instance other choice own same v r =
+follows (Over step input) instance other choice own same v r =
     let a = follows input instance other choice own same v.0 r.0 in
-    let b = renamed_at_window w _ _ _ _ a.1 r.1 v.1 in ((a.0, b.0), b.1)
-follows (Distinct input) instance other choice own same v r =
-    let a = follows input instance other choice own same v r in (a.0, over _ _ (λ rows. Ok (distinct rows)) (λ rows. Ok (distinct rows)) a.1 (λ xs ys p. Perm-distinct p))
-follows (Limit limit input) instance other choice own same v r =
-    let n = ordering_count input in
-    let a = follows input instance other choice own same v.0 r.0 in
-    let lawful = subst (λ (o : List ℕ). AtRows (outcome input other choice) (λ rows. IsOrdering (limit_class limit) rows o) (o ≡ [])) (own_first n choice) v.1 in
-    let b = renamed_at_limit limit _ _ _ _ a.1 r.1 lawful in (
-      (a.0, subst (λ (o : List ℕ). AtRows (outcome input instance own) (λ rows. IsOrdering (limit_class limit) rows o) (o ≡ [])) (sym (own_first n own)) b.0),
-      subst (λ (o : List ℕ). Alike (and_then (outcome input instance own) (λ rows. Ok (cut limit (rows_at rows o)))) (outcome (Limit limit input) other choice)) (sym (own_first n own))
-          (subst (λ (o : List ℕ). Alike (and_then (outcome input instance own) (λ rows. Ok (cut limit (rows_at rows (ordering_at (own_orderings n 1 own) 0))))) (and_then (outcome input other choice) (λ rows. Ok (cut limit (rows_at rows o))))) (sym (own_first n choice)) b.1),
-    )
+    let b = renamed_at step _ _ _ _ a.1 r.1 v.1 in ((a.0, b.0), b.1)
 
 -- ---- each choice can be renamed
 
--- a renamed choice, whatever stands behind it
+-- a renamed choice, whatever stands after it
 record Renamed (plan : PlanTree) (instance other : Instance) (choice : List (List ℕ)) : Type 0 where
   own : List (List ℕ)
   number : length own ≡ ordering_count plan
   each : (more : List (List ℕ)) → AreRenamed plan instance other choice (own ++ more)
 
--- a node's orderings, renamed
+-- a step's orderings, renamed
 record OwnRenamed (a b : RowsOrFault) (os : List (List ℕ)) : Type 0 where
   own : List (List ℕ)
   number : length own ≡ length os
@@ -166,44 +138,47 @@ own_renamed (Ok rows) (Err g) os p = absurd p
 own_renamed (Err f) (Ok others) os p = absurd p
 own_renamed (Err f) (Err g) os p = record { own = os; number = refl; is = refl }
 
--- what a node reads after the orderings of the nodes below it
-behind : (below own : List (List ℕ)) (n : ℕ) → length below ≡ n → drop n (below ++ own) ≡ own
-behind below own n e = subst (λ k. drop k (below ++ own) ≡ own) e (drop-append_seam below own)
+-- what a step reads after the orderings of the nodes below it
+following : (below own : List (List ℕ)) (n : ℕ) → length below ≡ n → drop n (below ++ own) ≡ own
+following below own n e = subst (λ k. drop k (below ++ own) ≡ own) e (drop-append_seam below own)
 
 taken : (own more : List (List ℕ)) (n : ℕ) → length own ≡ n → take n (own ++ more) ≡ own
 taken own more n e = take-append-le n own more (omega (arith, e)) ∙ take_all n own (omega (arith, e))
 
-mine_long : (below n : ℕ) (choice : List (List ℕ)) → below + n ≤ length choice → length (own_orderings below n choice) ≡ n
-mine_long below n choice h = length-take n (drop below choice) ∙ omega (arith, length-drop below choice)
-
-module _ (input : PlanTree) (instance other : Instance) (choice : List (List ℕ)) (same : SameTables instance other) (v : AreLawful input other choice) (m : Renamed input instance other choice) (n : ℕ) where
+module _ (input : PlanTree) (instance other : Instance) (choice : List (List ℕ)) (same : SameTables instance other) (v : AreLawful input other choice) (m : Renamed input instance other choice) (step : Step) (long : ordering_count input + length (step_classes step) ≤ length choice) where
   abbrev below : ℕ
   below = ordering_count input
 
+  abbrev n : ℕ
+  n = length (step_classes step)
+
   abbrev mine : List (List ℕ) → List (List ℕ)
-  mine = own_orderings below n
+  mine = own_orderings step input
+
+  mine_long : length (mine choice) ≡ n
+  mine_long = length-take n (drop below choice) ∙ omega (arith, length-drop below choice)
 
   alike : Alike (outcome input instance m.own) (outcome input other choice)
   alike =
       let a = follows input instance other choice (m.own ++ []) same v (m.each []) in
       subst (λ (r : RowsOrFault). Alike r (outcome input other choice)) (outcome-append input instance m.own [] (omega (arith, m.number))) a.1
 
-  -- the node's renamed orderings behind those of the nodes below
+  -- the step's renamed orderings after those of the nodes below
   node_own : OwnRenamed (outcome input instance m.own) (outcome input other choice) (mine choice)
   node_own = own_renamed _ _ (mine choice) alike
 
-  node_each : length (mine choice) ≡ n → (more : List (List ℕ)) → AreRenamed input instance other choice ((m.own ++ node_own.own) ++ more)
+  node_each : (more : List (List ℕ)) → AreRenamed input instance other choice ((m.own ++ node_own.own) ++ more)
       × AreRenamedAt (outcome input instance ((m.own ++ node_own.own) ++ more)) (outcome input other choice) (mine choice) (mine ((m.own ++ node_own.own) ++ more))
-  node_each e more =
+  node_each more =
       let all = append_assoc m.own node_own.own more in
-      let back : drop below (m.own ++ (node_own.own ++ more)) ≡ node_own.own ++ more = behind m.own (node_own.own ++ more) below m.number in
-      let own : mine (m.own ++ (node_own.own ++ more)) ≡ node_own.own = ap (take n) back ∙ taken node_own.own more n (node_own.number ∙ e) in
+      let back : drop below (m.own ++ (node_own.own ++ more)) ≡ node_own.own ++ more = following m.own (node_own.own ++ more) below m.number in
+      let own : mine (m.own ++ (node_own.own ++ more)) ≡ node_own.own = ap (take n) back ∙ taken node_own.own more n (node_own.number ∙ mine_long) in
       let kept : outcome input instance (m.own ++ (node_own.own ++ more)) ≡ outcome input instance m.own = outcome-append input instance m.own (node_own.own ++ more) (omega (arith, m.number)) in
       subst (λ (c : List (List ℕ)). AreRenamed input instance other choice c × AreRenamedAt (outcome input instance c) (outcome input other choice) (mine choice) (mine c)) (sym all)
       (m.each (node_own.own ++ more), subst (λ (r : RowsOrFault). AreRenamedAt r (outcome input other choice) (mine choice) (mine (m.own ++ (node_own.own ++ more)))) (sym kept) (subst (AreRenamedAt (outcome input instance m.own) (outcome input other choice) (mine choice)) (sym own) node_own.is))
 
-  node_number : length (mine choice) ≡ n → length (m.own ++ node_own.own) ≡ below + n
-  node_number e = length-append m.own node_own.own ∙ omega (arith, m.number, node_own.number, e)
+  node_number : length (m.own ++ node_own.own) ≡ below + n
+  node_number = length-append m.own node_own.own ∙ omega (arith, m.number, node_own.number, mine_long)
 
 renamed_choice : (plan : PlanTree) (instance other : Instance) (choice : List (List ℕ)) → SameTables instance other → ordering_count plan ≤ length choice → AreLawful plan other choice → Renamed plan instance other choice
 renamed_choice (Scan table columns) instance other choice same long v = record { own = []; number = refl; each = λ more. tt }
@@ -217,25 +192,11 @@ renamed_choice (Join condition left right) instance other choice same long v =
       each = λ more.
           let all = append_assoc l.own r.own more in
           subst (λ (c : List (List ℕ)). AreRenamed left instance other choice c × AreRenamed right instance other (drop n choice) (drop n c)) (sym all)
-          (l.each (r.own ++ more), subst (AreRenamed right instance other (drop n choice)) (sym (behind l.own (r.own ++ more) n l.number)) (r.each more));
+          (l.each (r.own ++ more), subst (AreRenamed right instance other (drop n choice)) (sym (following l.own (r.own ++ more) n l.number)) (r.each more));
     }
-renamed_choice (Filter condition input) instance other choice same long v =
-    let m = renamed_choice input instance other choice same long v in record { own = m.own; number = m.number; each = m.each }
-renamed_choice (Map outputs input) instance other choice same long v =
-    let m = renamed_choice input instance other choice same long v in record { own = m.own; number = m.number; each = m.each }
-renamed_choice (Group rule input) instance other choice same long v =
-    let m = renamed_choice input instance other choice same long v in record { own = m.own; number = m.number; each = m.each }
-renamed_choice (Window w input) instance other choice same long v =
+renamed_choice (Over step input) instance other choice same long v =
     let m = renamed_choice input instance other choice same (omega (arith, long)) v.0 in
-    let n = length w.classes in
-    let e : length (own_orderings (ordering_count input) n choice) ≡ n = mine_long (ordering_count input) n choice (omega (arith, long)) in
-    record { own = m.own ++ (node_own input instance other choice same v.0 m n).own; number = node_number input instance other choice same v.0 m n e; each = node_each input instance other choice same v.0 m n e }
-renamed_choice (Distinct input) instance other choice same long v =
-    let m = renamed_choice input instance other choice same long v in record { own = m.own; number = m.number; each = m.each }
-renamed_choice (Limit limit input) instance other choice same long v =
-    let m = renamed_choice input instance other choice same (omega (arith, long)) v.0 in
-    let e : length (own_orderings (ordering_count input) 1 choice) ≡ 1 = mine_long (ordering_count input) 1 choice (omega (arith, long)) in
-    record { own = m.own ++ (node_own input instance other choice same v.0 m 1).own; number = node_number input instance other choice same v.0 m 1 e; each = node_each input instance other choice same v.0 m 1 e }
+    record { own = m.own ++ (node_own input instance other choice same v.0 m step long).own; number = node_number input instance other choice same v.0 m step long; each = node_each input instance other choice same v.0 m step long }
 
 pub plan_commutes : PlanCommutes
 plan_commutes = record {

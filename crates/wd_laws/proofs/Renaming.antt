@@ -11,7 +11,7 @@ use Rattle.wd_plan.specs.Calls.{call_value, value_at}
 use Rattle.wd_plan.specs.Choices.{AreOrderings}
 use Rattle.wd_plan.specs.Faults.{all_ok, and_then}
 use Rattle.wd_laws.specs.Laws.{Commutes, renamed}
-use Rattle.wd_plan.specs.Outcomes.{call_at, class_at, extended, ordering_at, window_outcome}
+use Rattle.wd_plan.specs.Outcomes.{call_at, class_among, class_at, extended, ordering_at, window_outcome}
 use Rattle.wd_plan.specs.Partitions.{members, partition_of, place_in}
 use Rattle.wd_plan.specs.Plans.{ClassRule, WindowRule}
 use Rattle.wd_plan.specs.Sorting.{IsInOrder, IsOrdering, same_partition}
@@ -136,11 +136,14 @@ module _ (rows : List Row) (ps : List ℕ) (once : EachOnce (length rows) ps) wh
   all_below [] h = tt
   all_below (o ∷ os) h = (below_ordering o (h 0 (omega arith)), all_below os (λ n l. h (suc n) (omega arith)))
 
-  pub commutes : (w : WindowRule) (os : List (List ℕ)) → AreOrderings w others os → Commutes w rows ps os
+  pub renamed_orderings : (classes : List ClassRule) (os : List (List ℕ)) → AreOrderings classes others os → AreOrderings classes rows (map (map f) os)
+  renamed_orderings classes os v = record {
+    number = length-map os (map f) ∙ v.number;
+    each = λ n l. subst (IsOrdering (class_among classes n) rows) (sym (get_or_map_nil os n)) (renamed_ordering (class_among classes n) (ordering_at os n) (v.each n l));
+  }
+
+  pub commutes : (w : WindowRule) (os : List (List ℕ)) → AreOrderings w.classes others os → Commutes w rows ps os
   commutes w os v = record {
-    valid = record {
-      number = length-map os (map f) ∙ v.number;
-      each = λ n l. subst (IsOrdering (class_at w n) rows) (sym (get_or_map_nil os n)) (renamed_ordering (class_at w n) (ordering_at os n) (v.each n l));
-    };
+    valid = renamed_orderings w.classes os v;
     same_rows = renamed_window w os (all_below os (λ n l. (v.each n (subst (λ k. n < k) v.number l)).once));
   }

@@ -1,20 +1,21 @@
 -- Every instance has a valid choice for each plan: any rows can be sorted by the keys of a class.
-use Rattle.std.proofs.Common.{◌≡◌, ℕ, Bool, true, false, cond, List, [], ◌∷◌, ◌++◌, map, length, take, drop, refl, sym, ◌∙◌, ap, subst, arith, Ordering, Less, Equal, Greater, is_gt, eqb, Ok, Err}
+use Rattle.std.proofs.Common.{◌≡◌, ℕ, Bool, true, false, cond, List, [], ◌∷◌, ◌++◌, map, length, drop, refl, sym, ◌∙◌, ap, subst, arith, Ordering, Less, Equal, Greater, is_gt, eqb, Ok, Err}
 use Rattle.std.specs.List.{AllByRecursion}
 use Rattle.std.specs.Ordering.{ordering_reverse}
 use Rattle.std.proofs.lemmas.Bool.Decides.{Decides-eqb}
-use Rattle.std.proofs.lemmas.List.{length-append, length-map, get_or-map, take_all}
-use Rattle.std.proofs.Math.Seq.{drop-append_seam, get_or-append_seam}
+use Rattle.std.proofs.lemmas.List.{length-append, length-map, get_or-map}
+use Rattle.std.proofs.Math.Seq.{drop-append_seam}
 use Rattle.wd_value.specs.Bags.{positions}
 use Rattle.wd_value.specs.Rows.{Row, row_at, rows_at}
 use Rattle.wd_value.proofs.Perms.{Perm, done, keep, flip, both, Perm-refl, Perm-all, SameBag-from_Perm}
-use Rattle.wd_plan.specs.Choices.{AtRows, AreOrderings, AreLawful}
+use Rattle.wd_plan.specs.Choices.{AreOrderingsOver, AreLawful}
 use Rattle.wd_value.specs.Keys.{compare_keys}
 use Rattle.wd_laws.specs.Laws.{HasValidChoice}
-use Rattle.wd_plan.specs.Outcomes.{RowsOrFault, outcome, class_at, ordering_at}
-use Rattle.wd_plan.specs.Plans.{ClassRule, WindowRule, LimitRule, Scan, Join, Filter, Map, Group, Window, Distinct, Limit, ordering_count}
-use Rattle.wd_plan.specs.Sorting.{IsInOrder, IsOrdering, same_partition, limit_class}
-use Rattle.wd_plan.proofs.ChoiceLaws.{AreLawful-append, outcome-append}
+use Rattle.wd_plan.specs.Outcomes.{RowsOrFault, outcome, class_among, ordering_at}
+use Rattle.wd_plan.specs.Plans.{ClassRule, Scan, Join, Over, step_classes, ordering_count}
+use Rattle.wd_plan.specs.Sorting.{IsInOrder, IsOrdering, same_partition}
+use Rattle.wd_plan.proofs.ChoiceLaws.{AreLawful-append}
+use Rattle.wd_laws.proofs.ChoiceLaws.{AreLawful-over}
 use Rattle.wd_value.proofs.KeyLaws.{compare_keys_total}
 use Rattle.wd_plan.proofs.Parts.{NotAfter}
 use Rattle.wd_plan.proofs.Sorted.{Rising}
@@ -116,23 +117,15 @@ all_empty : (classes : List ClassRule) → AllByRecursion (λ (o : List ℕ). o 
 all_empty [] = tt
 all_empty (class ∷ classes) = (refl, all_empty classes)
 
-own_lawful : (w : WindowRule) (input : RowsOrFault) → AtRows input (λ rows. AreOrderings w rows (own input w.classes)) (AllByRecursion (λ o. o ≡ []) (own input w.classes))
-own_lawful w (Ok rows) = record {
-  number = length-own (Ok rows) w.classes;
+own_lawful : (classes : List ClassRule) (input : RowsOrFault) → AreOrderingsOver classes input (own input classes)
+own_lawful classes (Ok rows) = record {
+  number = length-own (Ok rows) classes;
   each = λ n within. (
       let order = λ (class : ClassRule). sorted class rows (positions (length rows)) in
-      let at : ordering_at (own (Ok rows) w.classes) n ≡ order (class_at w n) = get_or-map order w.classes n (record { partition = []; order = [] }) [] within in
-      subst (IsOrdering (class_at w n) rows) (sym at) (some_ordering (class_at w n) rows));
+      let at : ordering_at (own (Ok rows) classes) n ≡ order (class_among classes n) = get_or-map order classes n (record { partition = []; order = [] }) [] within in
+      subst (IsOrdering (class_among classes n) rows) (sym at) (some_ordering (class_among classes n) rows));
 }
-own_lawful w (Err fault) = all_empty w.classes
-
-own_limit : (limit : LimitRule) (input : RowsOrFault) → AtRows input (λ rows. IsOrdering (limit_class limit) rows (ordering_at (own input (limit_class limit ∷ [])) 0)) (ordering_at (own input (limit_class limit ∷ [])) 0 ≡ [])
-own_limit limit (Ok rows) = some_ordering (limit_class limit) rows
-own_limit limit (Err fault) = refl
-
--- what a node reads after the orderings of the nodes below it
-behind : (below own_ones : List (List ℕ)) (n : ℕ) → length below ≡ n → drop n (below ++ own_ones) ≡ own_ones
-behind below own_ones n e = subst (λ k. drop k (below ++ own_ones) ≡ own_ones) e (drop-append_seam below own_ones)
+own_lawful classes (Err fault) = all_empty classes
 
 pub has_valid_choice : HasValidChoice
 has_valid_choice (Scan table columns) instance = ([], record { number = refl; lawful = tt })
@@ -140,54 +133,20 @@ has_valid_choice (Join condition left right) instance =
     let l = has_valid_choice left instance in
     let r = has_valid_choice right instance in
     let n : length l.0 ≡ ordering_count left = l.1.number in
-    let m : length r.0 ≡ ordering_count right = r.1.number in (
+    let m : length r.0 ≡ ordering_count right = r.1.number in
+    let following : drop (ordering_count left) (l.0 ++ r.0) ≡ r.0 = subst (λ k. drop k (l.0 ++ r.0) ≡ r.0) n (drop-append_seam l.0 r.0) in (
       l.0 ++ r.0,
       record {
         number = length-append l.0 r.0 ∙ omega arith;
-        lawful = (AreLawful-append left instance l.0 r.0 (omega arith) l.1.lawful, subst (AreLawful right instance) (sym (behind l.0 r.0 (ordering_count left) n)) r.1.lawful);
+        lawful = (AreLawful-append left instance l.0 r.0 (omega arith) l.1.lawful, subst (AreLawful right instance) (sym following) r.1.lawful);
       },
     )
-has_valid_choice (Filter condition input) instance = let b = has_valid_choice input instance in (b.0, record { number = b.1.number; lawful = b.1.lawful })
-has_valid_choice (Map outputs input) instance = let b = has_valid_choice input instance in (b.0, record { number = b.1.number; lawful = b.1.lawful })
-has_valid_choice (Group rule input) instance = let b = has_valid_choice input instance in (b.0, record { number = b.1.number; lawful = b.1.lawful })
-has_valid_choice (Window w input) instance =
+has_valid_choice (Over step input) instance =
     let b = has_valid_choice input instance in
     let n : length b.0 ≡ ordering_count input = b.1.number in
     let rows = outcome input instance b.0 in
-    let o = own rows w.classes in
-    let m : length o ≡ length w.classes = length-own rows w.classes in
-    let taken : take (length w.classes) (drop (ordering_count input) (b.0 ++ o)) ≡ o = ap (take (length w.classes)) (behind b.0 o (ordering_count input) n) ∙ take_all (length w.classes) o (omega arith) in
-    let below : outcome input instance (b.0 ++ o) ≡ rows = outcome-append input instance b.0 o (omega arith) in (
+    let o = own rows (step_classes step) in
+    let m : length o ≡ length (step_classes step) = length-own rows (step_classes step) in (
       b.0 ++ o,
-      record {
-        number = length-append b.0 o ∙ omega arith;
-        lawful = (
-          AreLawful-append input instance b.0 o (omega arith) b.1.lawful,
-          subst (λ (os : List (List ℕ)). AtRows (outcome input instance (b.0 ++ o)) (λ rows. AreOrderings w rows os) (AllByRecursion (λ o. o ≡ []) os)) (sym taken)
-              (subst (λ (r : RowsOrFault). AtRows r (λ rows. AreOrderings w rows o) (AllByRecursion (λ o. o ≡ []) o)) (sym below) (own_lawful w rows)),
-        );
-      },
+      record { number = length-append b.0 o ∙ omega arith; lawful = AreLawful-over step input instance b.0 o n m b.1.lawful (own_lawful (step_classes step) rows) },
     )
-has_valid_choice (Distinct input) instance = let b = has_valid_choice input instance in (b.0, record { number = b.1.number; lawful = b.1.lawful })
-has_valid_choice (Limit limit input) instance =
-    let b = has_valid_choice input instance in
-    let n : length b.0 ≡ ordering_count input = b.1.number in
-    let rows = outcome input instance b.0 in
-    let o = own rows (limit_class limit ∷ []) in
-    let m : length o ≡ 1 = length-own rows (limit_class limit ∷ []) in
-    let at : ordering_at (b.0 ++ o) (ordering_count input) ≡ ordering_at o 0 = one_after rows b.0 (ordering_count input) n in
-    let below : outcome input instance (b.0 ++ o) ≡ rows = outcome-append input instance b.0 o (omega arith) in (
-      b.0 ++ o,
-      record {
-        number = length-append b.0 o ∙ omega arith;
-        lawful = (
-          AreLawful-append input instance b.0 o (omega arith) b.1.lawful,
-          subst (λ (x : List ℕ). AtRows (outcome input instance (b.0 ++ o)) (λ rows. IsOrdering (limit_class limit) rows x) (x ≡ [])) (sym at)
-              (subst (λ (r : RowsOrFault). AtRows r (λ rows. IsOrdering (limit_class limit) rows (ordering_at o 0)) (ordering_at o 0 ≡ [])) (sym below) (own_limit limit rows)),
-        );
-      },
-    )
-  where
-    one_after : (rows : RowsOrFault) (below : List (List ℕ)) (n : ℕ) → length below ≡ n → ordering_at (below ++ own rows (limit_class limit ∷ [])) n ≡ ordering_at (own rows (limit_class limit ∷ [])) 0
-    one_after (Ok rs) below n e = subst (λ k. ordering_at (below ++ own (Ok rs) (limit_class limit ∷ [])) k ≡ ordering_at (own (Ok rs) (limit_class limit ∷ [])) 0) e (get_or-append_seam below (sorted (limit_class limit) rs (positions (length rs))) [] [])
-    one_after (Err fault) below n e = subst (λ k. ordering_at (below ++ [] ∷ []) k ≡ []) e (get_or-append_seam below [] [] [])

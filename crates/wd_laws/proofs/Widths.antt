@@ -1,5 +1,5 @@
 -- The rows of a node have its width, and their values its columns' kinds.
-use Rattle.std.proofs.Common.{◌≡◌, ℕ, zero, suc, ◌+◌, ◌-◌, ◌<◌, ◌≤◌, ◌⊎◌, inl, inr, Bool, true, false, cond, not, ◌&&◌, List, [], ◌∷◌, ◌++◌, map, flat_map, length, take, take_while, drop, refl, sym, ◌∙◌, ap, subst, arith, nat_lt, Option, Some, None, option_and_then, option_map, slice_get, Result, Ok, Err}
+use Rattle.std.proofs.Common.{◌≡◌, ℕ, zero, suc, ◌+◌, ◌-◌, ◌<◌, ◌≤◌, ◌⊎◌, inl, inr, Bool, true, false, cond, not, ◌&&◌, List, [], ◌∷◌, ◌++◌, map, flat_map, length, take_while, drop, refl, sym, ◌∙◌, ap, subst, arith, nat_lt, Option, Some, None, option_and_then, option_map, slice_get, Result, Ok, Err}
 use Rattle.std.specs.List.{AllByRecursion, list_all}
 use Rattle.std.proofs.lemmas.Bool.{and_parts, false≢true, ltb-false, ltb-true}
 use Rattle.std.proofs.lemmas.List.{get_or-append_right, get_or_append_left, length-append}
@@ -20,13 +20,13 @@ use Rattle.wd_plan.specs.declared.expression.ValueKind.{ValueKind}
 use Rattle.wd_plan.specs.declared.expression.ValueKind.TheVariants.{Number}
 use Rattle.wd_value.specs.declared.order.SortColumn.{SortColumn}
 use Rattle.wd_plan.specs.declared.window.Call.{Call}
-use Rattle.wd_plan.specs.Choices.{AreLawful, AtRows}
+use Rattle.wd_plan.specs.Choices.{AreLawful, AreOrderings, AreOrderingsOver, AtRows}
 use Rattle.wd_plan.specs.Expressions.{Expression, value_of}
 use Rattle.wd_plan.specs.Faults.{all_ok, and_then, least_fault, unless, values_among}
-use Rattle.wd_plan.specs.Fits.{Kinds, are_bounds, are_outputs, fits, has_class, has_keys_for, has_table, is_call, is_condition, is_join, is_limit, is_narrow, is_of_kind, is_typed, is_group, is_window, kind_of, kind_of_call, kind_of_group_call, kind_of_type, kinds_of, table_kind, takes, width}
-use Rattle.wd_plan.specs.Outcomes.{RowsOrFault, call_at, class_at, cut, distinct, extended, filter_outcome, first_rows, group_outcome, group_row, group_value, groups, join_outcome, map_outcome, ordering_at, outcome, pairs, passes, peers, rows_of_group, set_rows, shown, window_outcome}
+use Rattle.wd_plan.specs.Fits.{Kinds, are_bounds, fits, has_class, has_keys_for, has_table, is_call, is_join, is_narrow, is_of_kind, is_step, is_typed, kind_of, kind_of_call, kind_of_group_call, kind_of_type, kinds_of, step_kinds, step_width, table_kind, takes, width}
+use Rattle.wd_plan.specs.Outcomes.{RowsOrFault, call_at, class_at, limited_rows, distinct, extended, filter_outcome, first_rows, group_outcome, group_row, group_value, groups, join_outcome, map_outcome, ordering_at, outcome, pairs, passes, peers, rows_of_group, set_rows, shown, step_outcome, window_outcome}
 use Rattle.wd_plan.specs.Partitions.{members, partition_of, place_in}
-use Rattle.wd_plan.specs.Plans.{ClassRule, GroupCall, OfRows, Grouping, GroupRule, LimitRule, PlanTree, Scan, Join, Filter, Map, Group, Window, Distinct, Limit, WindowRule, has, ordering_count}
+use Rattle.wd_plan.specs.Plans.{ClassRule, GroupCall, OfRows, Grouping, GroupRule, LimitRule, WindowRule, Step, Filter, Map, Group, Window, Distinct, Limit, PlanTree, Scan, Join, Over, has, step_classes, ordering_count, own_orderings}
 use Rattle.wd_plan.specs.Sorting.{IsOrdering, limit_class}
 use Rattle.wd_plan.proofs.Parts.{all_filter}
 use Rattle.wd_plan.proofs.Ranges.{has_the_table, table_columns}
@@ -84,20 +84,20 @@ all_first P keys true (suc zero) (r ∷ rows) a = (a.0, all_while P (peers keys 
 all_first P keys false (suc zero) (r ∷ rows) a = (a.0, tt)
 all_first P keys ties (suc (suc n)) (r ∷ rows) a = (a.0, all_first P keys ties (suc n) rows a.1)
 
-all_cut : (P : Row → Type 0) (limit : LimitRule) (rows : List Row) → AllByRecursion P rows → AllByRecursion P (cut limit rows)
+all_cut : (P : Row → Type 0) (limit : LimitRule) (rows : List Row) → AllByRecursion P rows → AllByRecursion P (limited_rows limit rows)
 all_cut P limit rows a = by limit.count
   where
-    by : (count : Option ℕ) → AllByRecursion P (cut (record limit { count = count }) rows)
+    by : (count : Option ℕ) → AllByRecursion P (limited_rows (record limit { count = count }) rows)
     by None = all_after P limit.offset rows a
     by (Some n) = all_first P limit.keys limit.ties n (drop limit.offset rows) (all_after P limit.offset rows a)
 
-pub all_limited : (P : Row → Type 0) (limit : LimitRule) (ordering : List ℕ) (r : RowsOrFault) → AllRows P r → AtRows r (λ rows. IsOrdering (limit_class limit) rows ordering) (ordering ≡ []) → AllRows P (and_then r (λ rows. Ok (cut limit (rows_at rows ordering))))
-all_limited P limit ordering (Ok rows) a lawful = all_cut P limit (rows_at rows ordering) (Perm-all P (Perm-ordered rows ordering lawful.once) a)
-all_limited P limit ordering (Err fault) a lawful = tt
+pub all_limited : (P : Row → Type 0) (limit : LimitRule) (ordering : List ℕ) (rows : List Row) → AllByRecursion P rows → IsOrdering (limit_class limit) rows ordering → AllByRecursion P (limited_rows limit (rows_at rows ordering))
+all_limited P limit ordering rows a lawful = all_cut P limit (rows_at rows ordering) (Perm-all P (Perm-ordered rows ordering lawful.once) a)
 
-all_then : (P Q : Row → Type 0) (r : RowsOrFault) (f : List Row → RowsOrFault) → ((rows : List Row) → AllByRecursion P rows → AllRows Q (f rows)) → AllRows P r → AllRows Q (and_then r f)
-all_then P Q (Ok rows) f h a = h rows a
-all_then P Q (Err fault) f h a = tt
+-- a step over rows under lawful orderings
+all_then : (P Q : Row → Type 0) (r : RowsOrFault) (classes : List ClassRule) (own : List (List ℕ)) (f : List Row → RowsOrFault) → ((rows : List Row) → AllByRecursion P rows → AreOrderings classes rows own → AllRows Q (f rows)) → AllRows P r → AreOrderingsOver classes r own → AllRows Q (and_then r f)
+all_then P Q (Ok rows) classes own f h a v = h rows a v
+all_then P Q (Err fault) classes own f h a v = tt
 
 -- ---- steps that make rows
 
@@ -325,6 +325,18 @@ module _ (kinds : Kinds) (columns : ℕ) (g : GroupRule) (rows : List Row) (are 
 
 -- ---- plans
 
+step_good : (step : Step) (kinds : Kinds) (columns : ℕ) (own : List (List ℕ)) → is_step kinds columns step ≡ true → (rows : List Row) → AllByRecursion (IsGood columns kinds) rows → AreOrderings (step_classes step) rows own
+    → AllRows (IsGood (step_width step columns) (step_kinds step columns kinds)) (step_outcome step own rows)
+step_good (Filter condition) kinds columns own f rows a v = all_filtered (IsGood columns kinds) condition rows a
+step_good (Map outputs) kinds columns own f rows a v = map_good kinds columns outputs (and_parts (is_narrow (length outputs)) (list_all (is_typed kinds) outputs) f).1 rows a
+step_good (Group g) kinds columns own f rows a v = group_good kinds columns g rows (kinds_only columns kinds rows a)
+step_good (Window w) kinds columns own f rows a v =
+    let parts = and_parts (is_narrow (columns + length w.calls)) (list_all (has_class kinds) w.classes && list_all (is_call kinds w.classes) w.calls) f in
+    let calls = and_parts (list_all (has_class kinds) w.classes) (list_all (is_call kinds w.classes) w.calls) parts.1 in
+    window_good kinds columns w calls.1 own rows a
+step_good Distinct kinds columns own f rows a v = all_distinct (IsGood columns kinds) rows a
+step_good (Limit limit) kinds columns own f rows a v = all_limited (IsGood columns kinds) limit (ordering_at own 0) rows a (v.each 0 (omega arith))
+
 all_good : (tables : List TableRule) (instance : Instance) → Meets tables instance → (plan : PlanTree) (choice : List (List ℕ)) → fits tables plan ≡ true → AreLawful plan instance choice → AllRows (IsGood (width plan) (kinds_of tables plan)) (outcome plan instance choice)
 all_good tables instance meets (Scan table columns) choice f lawful = scan_good tables instance table columns meets (and_parts (is_narrow columns) (has_table tables table columns) f).1
 all_good tables instance meets (Join condition left right) choice f lawful =
@@ -333,29 +345,10 @@ all_good tables instance meets (Join condition left right) choice f lawful =
     let after = drop (ordering_count left) choice in
     join_good (IsGood (width left) (kinds_of tables left)) (IsGood (width right) (kinds_of tables right)) (IsGood (width left + width right) (kinds_of tables (Join condition left right))) (beside_good (width left) (width right) (kinds_of tables left) (kinds_of tables right)) condition (outcome left instance choice) (outcome right instance after)
     (all_good tables instance meets left choice sides.0 lawful.0) (all_good tables instance meets right after sides.1 lawful.1)
-all_good tables instance meets (Filter condition input) choice f lawful =
-    let P = IsGood (width input) (kinds_of tables input) in
-    all_then P P (outcome input instance choice) (filter_outcome condition) (all_filtered P condition) (all_good tables instance meets input choice (and_parts (fits tables input) (is_condition (kinds_of tables input) condition) f).0 lawful)
-all_good tables instance meets (Map outputs input) choice f lawful =
-    let parts = and_parts (fits tables input) (are_outputs (kinds_of tables input) outputs) f in
-    let typed = and_parts (is_narrow (length outputs)) (list_all (is_typed (kinds_of tables input)) outputs) parts.1 in
-    all_then (IsGood (width input) (kinds_of tables input)) (IsGood (length outputs) (kinds_of tables (Map outputs input))) (outcome input instance choice) (map_outcome outputs) (map_good (kinds_of tables input) (width input) outputs typed.1) (all_good tables instance meets input choice parts.0 lawful)
-all_good tables instance meets (Group g input) choice f lawful =
-    let parts = and_parts (fits tables input) (is_group (kinds_of tables input) (width input) g) f in
-    all_then (IsGood (width input) (kinds_of tables input)) (IsGood (g.columns + length g.calls) (kinds_of tables (Group g input))) (outcome input instance choice) (group_outcome g)
-    (λ rows a. group_good (kinds_of tables input) (width input) g rows (kinds_only (width input) (kinds_of tables input) rows a)) (all_good tables instance meets input choice parts.0 lawful)
-all_good tables instance meets (Window w input) choice f lawful =
-    let parts = and_parts (fits tables input) (is_window (kinds_of tables input) (width input) w) f in
-    let own = and_parts (is_narrow (width input + length w.calls)) (list_all (has_class (kinds_of tables input)) w.classes && list_all (is_call (kinds_of tables input) w.classes) w.calls) parts.1 in
-    let calls = and_parts (list_all (has_class (kinds_of tables input)) w.classes) (list_all (is_call (kinds_of tables input) w.classes) w.calls) own.1 in
-    let orderings = take (length w.classes) (drop (ordering_count input) choice) in
-    all_then (IsGood (width input) (kinds_of tables input)) (IsGood (width input + length w.calls) (kinds_of tables (Window w input))) (outcome input instance choice) (λ rows. window_outcome w rows orderings) (window_good (kinds_of tables input) (width input) w calls.1 orderings) (all_good tables instance meets input choice parts.0 lawful.0)
-all_good tables instance meets (Distinct input) choice f lawful =
-    let P = IsGood (width input) (kinds_of tables input) in
-    all_then P P (outcome input instance choice) (λ rows. Ok (distinct rows)) (all_distinct P) (all_good tables instance meets input choice f lawful)
-all_good tables instance meets (Limit limit input) choice f lawful =
-    let P = IsGood (width input) (kinds_of tables input) in
-    all_limited P limit (ordering_at choice (ordering_count input)) (outcome input instance choice) (all_good tables instance meets input choice (and_parts (fits tables input) (is_limit (kinds_of tables input) limit) f).0 lawful.0) lawful.1
+all_good tables instance meets (Over step input) choice f lawful =
+    let parts = and_parts (fits tables input) (is_step (kinds_of tables input) (width input) step) f in
+    let own = own_orderings step input choice in
+    all_then (IsGood (width input) (kinds_of tables input)) (IsGood (width (Over step input)) (kinds_of tables (Over step input))) (outcome input instance choice) (step_classes step) own (step_outcome step own) (step_good step (kinds_of tables input) (width input) own parts.1) (all_good tables instance meets input choice parts.0 lawful.0) lawful.1
 
 -- ---- the laws
 

@@ -42,7 +42,7 @@ extended_agrees w rows others os1 os2 p q e a = λ i. and_then (all_ok (map_agre
 abbrev pub IsCallByRow : WindowRule → List Row → Call → Type 0
 IsCallByRow w rows call = IsByRow (class_at w call.class) call.frame call.function rows
 
-module _ (w : WindowRule) (rows others : List Row) (os1 os2 : List (List ℕ)) (perm : Perm Row rows others) (v1 : AreOrderings w rows os1) (v2 : AreOrderings w others os2) where
+module _ (w : WindowRule) (rows others : List Row) (os1 os2 : List (List ℕ)) (perm : Perm Row rows others) (v1 : AreOrderings w.classes rows os1) (v2 : AreOrderings w.classes others os2) where
   pub call_by_row : (call : Call) → call.class < length w.classes → IsCallByRow w rows call → (p q : ℕ) → p < length rows → q < length others → row_at rows p ≡ row_at others q → call_at w rows os1 p call ≡ call_at w others os2 q call
   call_by_row call n h p q k l e = by_row (class_at w call.class) call.frame call.function rows others (ordering_at os1 call.class) (ordering_at os2 call.class) p q h perm (v1.each call.class n) (v2.each call.class n) k l e
 
@@ -111,7 +111,7 @@ all_both : {X : Type 0} (P Q R : X → Type 0) → ((x : X) → P x → Q x → 
 all_both P Q R f [] a b = tt
 all_both P Q R f (x ∷ xs) a b = (f x a.0 b.0, all_both P Q R f xs a.1 b.1)
 
-pub Alike-window : (w : WindowRule) (e width : ℕ) (rows others : List Row) (os1 os2 : List (List ℕ)) → Perm Row rows others → AreOrderings w rows os1 → AreOrderings w others os2 → HasWidth width rows → NamesClasses w → AllByRecursion (IsSettledCall w e width rows) w.calls → Alike (window_outcome w rows os1) (window_outcome w others os2)
+pub Alike-window : (w : WindowRule) (e width : ℕ) (rows others : List Row) (os1 os2 : List (List ℕ)) → Perm Row rows others → AreOrderings w.classes rows os1 → AreOrderings w.classes others os2 → HasWidth width rows → NamesClasses w → AllByRecursion (IsSettledCall w e width rows) w.calls → Alike (window_outcome w rows os1) (window_outcome w others os2)
 Alike-window w e width rows others os1 os2 perm v1 v2 wide n a = by_cases (sorts_out w e width rows w.calls n a)
   where
     by_cases : AllByRecursion (λ call. (call.class < length w.classes) × IsCallByRow w rows call) w.calls ⊎ ((e < length w.classes) × DeterminesAll rows width (class_columns (class_at w e))) → Alike (window_outcome w rows os1) (window_outcome w others os2)

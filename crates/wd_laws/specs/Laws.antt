@@ -28,9 +28,9 @@ use Rattle.wd_plan.specs.Faults.{all_ok, and_then}
 use Rattle.wd_plan.specs.Fits.{AreBelow, Kinds, fits, is_of_kind, kinds_of, width}
 use Rattle.wd_plan.specs.Frames.{frame_of, in_frame}
 use Rattle.wd_plan.specs.Settled.{IsByRow, IsSettledCall, IsSettledLimit, IsSettledPlan}
-use Rattle.wd_plan.specs.Outcomes.{RowsOrFault, Agree, outcome, filter_outcome, map_outcome, join_outcome, pairs, distinct, window_outcome, extended, cut, group_outcome, groups, mask, rows_of_group, set_rows, shown}
+use Rattle.wd_plan.specs.Outcomes.{RowsOrFault, Agree, outcome, filter_outcome, map_outcome, join_outcome, pairs, distinct, window_outcome, extended, limited_rows, group_outcome, groups, mask, rows_of_group, set_rows, shown}
 use Rattle.wd_plan.specs.Partitions.{GroupsRise, members, partition_of, group_of}
-use Rattle.wd_plan.specs.Plans.{ClassRule, GroupCall, OfRows, Grouping, GroupRule, WindowRule, LimitRule, PlanTree, Scan, Join, Filter, Map, Group, Window, Distinct, Limit, NamesClasses, ordering_count}
+use Rattle.wd_plan.specs.Plans.{ClassRule, GroupCall, OfRows, Grouping, GroupRule, WindowRule, LimitRule, PlanTree, Scan, Join, Over, NamesClasses, ordering_count, own_orderings}
 use Rattle.wd_plan.specs.Sorting.{IsOrdering, class_columns, limit_class}
 
 -- agreeing is reflexive, symmetric and transitive
@@ -89,14 +89,14 @@ SameResults = (class : ClassRule) (calls : List (Frame × Function)) (width : �
 -- a Window whose calls are settled, at most one class of them by exchange, has one outcome over rearranged rows
 abbrev pub WindowHasOne : Type 0
 WindowHasOne = (w : WindowRule) (exchange width : ℕ) (rows others : List Row) (os1 os2 : List (List ℕ))
-    → SameBag same_row rows others → AreOrderings w rows os1 → AreOrderings w others os2 → HasWidth width rows → NamesClasses w
+    → SameBag same_row rows others → AreOrderings w.classes rows os1 → AreOrderings w.classes others os2 → HasWidth width rows → NamesClasses w
     → AllByRecursion (IsSettledCall w exchange width rows) w.calls → Agree (window_outcome w rows os1) (window_outcome w others os2)
 
 -- the limit law: a settled limit cuts the same rows under every ordering
 abbrev pub LimitHasOne : Type 0
 LimitHasOne = (limit : LimitRule) (width : ℕ) (rows others : List Row) (o1 o2 : List ℕ)
     → SameBag same_row rows others → IsOrdering (limit_class limit) rows o1 → IsOrdering (limit_class limit) others o2
-    → HasWidth width rows → IsSettledLimit limit width rows → SameBag same_row (cut limit (rows_at rows o1)) (cut limit (rows_at others o2))
+    → HasWidth width rows → IsSettledLimit limit width rows → SameBag same_row (limited_rows limit (rows_at rows o1)) (limited_rows limit (rows_at others o2))
 
 -- the tables of one instance are rearrangements of the other's
 abbrev pub SameTables : Instance → Instance → Type 0
@@ -111,12 +111,12 @@ PlanHasOne = (plan : PlanTree) (instance other : Instance) (c1 c2 : List (List �
 
 -- over rearranged rows a Window gives the rearranged rows of the renamed orderings, which are lawful too
 pub record Commutes (w : WindowRule) (rows : List Row) (ps : List ℕ) (os : List (List ℕ)) : Type 0 where
-  pub valid : AreOrderings w rows (map (map (renamed rows ps)) os)
+  pub valid : AreOrderings w.classes rows (map (map (renamed rows ps)) os)
   pub same_rows : window_outcome w (rows_at rows ps) os ≡ all_ok (map (extended w rows (map (map (renamed rows ps)) os)) ps)
 
 -- the renaming law of a Window
 abbrev pub WindowCommutes : Type 0
-WindowCommutes = (w : WindowRule) (rows : List Row) (ps : List ℕ) (os : List (List ℕ)) → EachOnce (length rows) ps → AreOrderings w (rows_at rows ps) os → Commutes w rows ps os
+WindowCommutes = (w : WindowRule) (rows : List Row) (ps : List ℕ) (os : List (List ℕ)) → EachOnce (length rows) ps → AreOrderings w.classes (rows_at rows ps) os → Commutes w rows ps os
 
 -- ROW_NUMBER over the members of a partition, in their ordering, gives 1 up to the number of members
 abbrev pub RowNumbersCount : Type 0
@@ -190,37 +190,26 @@ SetsAreWindows = (rule : GroupRule) (set : List ℕ) (rows : List Row) (ordering
 -- over rearranged rows a Limit keeps the very list that it keeps under the renamed ordering, which is lawful too
 pub record CutCommutes (limit : LimitRule) (rows : List Row) (ps ordering : List ℕ) : Type 0 where
   pub valid : IsOrdering (limit_class limit) rows (map (renamed rows ps) ordering)
-  pub same_rows : cut limit (rows_at (rows_at rows ps) ordering) ≡ cut limit (rows_at rows (map (renamed rows ps) ordering))
+  pub same_rows : limited_rows limit (rows_at (rows_at rows ps) ordering) ≡ limited_rows limit (rows_at rows (map (renamed rows ps) ordering))
 
 -- the renaming law of a Limit
 abbrev pub LimitCommutes : Type 0
 LimitCommutes = (limit : LimitRule) (rows : List Row) (ps ordering : List ℕ)
     → EachOnce (length rows) ps → IsOrdering (limit_class limit) (rows_at rows ps) ordering → CutCommutes limit rows ps ordering
 
--- a node's own orderings, after those of the nodes below it
-abbrev pub own_orderings : ℕ → ℕ → List (List ℕ) → List (List ℕ)
-own_orderings below number choice = take number (drop below choice)
-
--- orderings of a node's rearranged rows, with each position renamed to where its row was; without rows nothing is renamed
+-- orderings of a step's rearranged rows, with each position renamed to where its row was; without rows nothing is renamed
 abbrev pub AreRenamedAt : RowsOrFault → RowsOrFault → List (List ℕ) → List (List ℕ) → Type 0
 AreRenamedAt (Ok rows) (Ok others) orderings own = (ps : List ℕ) × IsRearranged rows others ps × (own ≡ map (map (renamed rows ps)) orderings)
 AreRenamedAt rows others orderings own = own ≡ orderings
 
--- a choice over rearranged tables with its positions renamed: each ordering by the way its node's rows are rearranged
+-- a choice over rearranged tables with its positions renamed: each ordering by the way its step's input rows are rearranged
 abbrev pub AreRenamed : PlanTree → Instance → Instance → List (List ℕ) → List (List ℕ) → Type 0
 AreRenamed (Scan table columns) instance other choice own = ⊤
 AreRenamed (Join condition left right) instance other choice own =
     AreRenamed left instance other choice own × AreRenamed right instance other (drop (ordering_count left) choice) (drop (ordering_count left) own)
-AreRenamed (Filter condition input) instance other choice own = AreRenamed input instance other choice own
-AreRenamed (Map outputs input) instance other choice own = AreRenamed input instance other choice own
-AreRenamed (Group rule input) instance other choice own = AreRenamed input instance other choice own
-AreRenamed (Window w input) instance other choice own =
+AreRenamed (Over step input) instance other choice own =
     AreRenamed input instance other choice own
-    × (let mine = own_orderings (ordering_count input) (length w.classes) in AreRenamedAt (outcome input instance own) (outcome input other choice) (mine choice) (mine own))
-AreRenamed (Distinct input) instance other choice own = AreRenamed input instance other choice own
-AreRenamed (Limit limit input) instance other choice own =
-    AreRenamed input instance other choice own
-    × (let mine = own_orderings (ordering_count input) 1 in AreRenamedAt (outcome input instance own) (outcome input other choice) (mine choice) (mine own))
+    × AreRenamedAt (outcome input instance own) (outcome input other choice) (own_orderings step input choice) (own_orderings step input own)
 
 -- a renamed choice with no ordering left over
 pub record IsRenamed (plan : PlanTree) (instance other : Instance) (choice own : List (List ℕ)) : Type 0 where
@@ -246,7 +235,7 @@ frame_takes class frame partition m n = in_frame class frame (group_of class par
 pub record IsContiguous (class : ClassRule) (frame : Frame) (partition : List Row) (m : ℕ) : Type 0 where
   pub between : (i j k : ℕ) → i < j → j < k → k < length partition
       → frame_takes class frame partition m i ≡ true → frame_takes class frame partition m k ≡ true → frame_takes class frame partition m j ≡ true
-  pub behind : frame.end ≡ UnboundedFollowing → (i j : ℕ) → i < j → j < length partition
+  pub following : frame.end ≡ UnboundedFollowing → (i j : ℕ) → i < j → j < length partition
       → frame_takes class frame partition m i ≡ true → frame_takes class frame partition m j ≡ true
   pub before : frame.start ≡ UnboundedPreceding → (i j : ℕ) → i < j → j < length partition
       → frame_takes class frame partition m j ≡ true → frame_takes class frame partition m i ≡ true

@@ -12,15 +12,15 @@ pub record Continues (schema query : List ℕ) (places : List KeyPlace) (lists r
   pub on : (found : Option Mended) → IsFirst schema query places rest found → IsFirst schema query places lists found
 
 -- a list that fails stands before others
-pub behind_failed : (schema query : List ℕ) (places : List KeyPlace) (keys : String Global) (rest : List (String Global)) (found : Option Mended)
+pub after_failed : (schema query : List ℕ) (places : List KeyPlace) (keys : String Global) (rest : List (String Global)) (found : Option Mended)
     → Fails schema query places (string_bytes keys) → IsFirst schema query places rest found → IsFirst schema query places (keys ∷ rest) found
-behind_failed schema query places keys rest None fails is = (fails, is)
-behind_failed schema query places keys rest (Some mended) fails is = inr (fails, is)
+after_failed schema query places keys rest None fails is = (fails, is)
+after_failed schema query places keys rest (Some mended) fails is = inr (fails, is)
 
 -- past a list that fails
 pub past_failed : (schema query : List ℕ) (places : List KeyPlace) (lists rest : List (String Global)) (keys : String Global)
     → Continues schema query places lists (keys ∷ rest) → Fails schema query places (string_bytes keys) → Continues schema query places lists rest
-past_failed schema query places lists rest keys is fails = record { on = λ found first. is.on found (behind_failed schema query places keys rest found fails first) }
+past_failed schema query places lists rest keys is fails = record { on = λ found first. is.on found (after_failed schema query places keys rest found fails first) }
 
 -- the list at a place, and those after it
 pub at_list : (lists : List (String Global)) (i : ℕ) (keys : String Global) → i < length lists → keys ≡ get_or lists i keys → drop i lists ≡ keys ∷ drop (i + 1) lists

@@ -19,8 +19,8 @@ use Rattle.wd_lex.proofs.RunFacts.{Stops}
 use Rattle.wd_lex.proofs.CompleteReading.{line_stops}
 
 -- after ASCII
-behind_passing : (p : ℕ → Bool) (text : List ℕ) → IsUtf8 text → ((b : ℕ) → p b ≡ true → b < 128) → (n : ℕ) → n ≡ prefix_len p text → IsCharBoundary text n
-behind_passing p text utf8 ascii n e = ⊎_elim
+after_passing : (p : ℕ → Bool) (text : List ℕ) → IsUtf8 text → ((b : ℕ) → p b ≡ true → b < 128) → (n : ℕ) → n ≡ prefix_len p text → IsCharBoundary text n
+after_passing p text utf8 ascii n e = ⊎_elim
     (λ some.
     let last : n - 1 < prefix_len p text = omega (arith, e) in
     let within : n - 1 < length text = omega (arith, prefix_len-le-length p text) in
@@ -37,11 +37,11 @@ before_failing p text ascii n e = ⊎_elim
     (λ past. let end : length text ≡ n = omega (arith, e, prefix_len-le-length p text) in subst (IsCharBoundary text) end (IsCharBoundary-end text))
     (cases_lt n (length text))
 
-pub boundary_behind_run : (c : Class) (text : List ℕ) → IsUtf8 text → (n : ℕ) → n ≡ prefix_len (is_in c) text → IsCharBoundary text n
-boundary_behind_run class.Blank text utf8 n e = behind_passing (is_in class.Blank) text utf8 (λ b passes. grind (arith, nat_tests)) n e
-boundary_behind_run class.Line text utf8 n e = before_failing (is_in class.Line) text (λ b fails. grind (arith, nat_tests)) n e
-boundary_behind_run class.Word text utf8 n e = behind_passing (is_in class.Word) text utf8 (λ b passes. grind (arith, nat_tests)) n e
-boundary_behind_run class.Digit text utf8 n e = behind_passing (is_in class.Digit) text utf8 (λ b passes. grind (arith, nat_tests)) n e
+pub boundary_after_run : (c : Class) (text : List ℕ) → IsUtf8 text → (n : ℕ) → n ≡ prefix_len (is_in c) text → IsCharBoundary text n
+boundary_after_run class.Blank text utf8 n e = after_passing (is_in class.Blank) text utf8 (λ b passes. grind (arith, nat_tests)) n e
+boundary_after_run class.Line text utf8 n e = before_failing (is_in class.Line) text (λ b fails. grind (arith, nat_tests)) n e
+boundary_after_run class.Word text utf8 n e = after_passing (is_in class.Word) text utf8 (λ b passes. grind (arith, nat_tests)) n e
+boundary_after_run class.Digit text utf8 n e = after_passing (is_in class.Digit) text utf8 (λ b passes. grind (arith, nat_tests)) n e
 
 -- ---- after pieces that end in ASCII
 
@@ -51,8 +51,8 @@ pub record EndsInAscii (bytes : List ℕ) : Type 0 where
   pub whole : bytes ≡ front ++ last ∷ []
   pub ascii : last < 128
 
-pub boundary_behind : (text bytes rest : List ℕ) → IsUtf8 text → text ≡ bytes ++ rest → EndsInAscii bytes → (n : ℕ) → n ≡ length bytes → IsCharBoundary text n
-boundary_behind text bytes rest utf8 whole h n e =
+pub boundary_after : (text bytes rest : List ℕ) → IsUtf8 text → text ≡ bytes ++ rest → EndsInAscii bytes → (n : ℕ) → n ≡ length bytes → IsCharBoundary text n
+boundary_after text bytes rest utf8 whole h n e =
     let parts : text ≡ h.front ++ h.last ∷ rest = whole ∙ ap (λ l. l ++ rest) h.whole ∙ append_assoc h.front (h.last ∷ []) rest in
     let there : get_or text (length h.front) 0 ≡ h.last = ap (λ l. get_or l (length h.front) 0) parts ∙ get_or_at h.front h.last rest 0 (length h.front) refl in
     let end : length h.front + 1 ≡ n = omega (arith, e, ap length h.whole, length-append h.front (h.last ∷ [])) in
@@ -127,7 +127,7 @@ comment_boundary_by bytes None end utf8 h e = absurd cc
 comment_boundary_by bytes (Some at) end utf8 h e =
     let same : at ≡ end = cc in
     let tail = comment_ends h.inside h.ends in
-    boundary_behind (codes "/*" ++ bytes) (codes "/*" ++ h.inside) h.rest utf8 (ap (λ l. codes "/*" ++ l) h.whole)
+    boundary_after (codes "/*" ++ bytes) (codes "/*" ++ h.inside) h.rest utf8 (ap (λ l. codes "/*" ++ l) h.whole)
     (record { front = codes "/*" ++ tail.front; last = tail.last; whole = ap (λ l. codes "/*" ++ l) tail.whole; ascii = tail.ascii }) end (omega (arith, h.there, same))
 
 -- a text may be cut after a comment
@@ -137,8 +137,8 @@ comment_boundary text end utf8 starts e =
     subst (λ l. IsCharBoundary l end) (sym whole) (comment_boundary_by (drop 2 text) (comment_end 0 2 (drop 2 text)) end (subst IsUtf8 whole utf8) (comment_end_is 0 2 (drop 2 text)) e)
 
 -- what follows ASCII is text
-pub utf8_behind : (text front rest : List ℕ) (b : ℕ) → IsUtf8 text → text ≡ front ++ b ∷ rest → b < 128 → IsUtf8 rest
-utf8_behind text front rest b utf8 whole ascii =
+pub utf8_after : (text front rest : List ℕ) (b : ℕ) → IsUtf8 text → text ≡ front ++ b ∷ rest → b < 128 → IsUtf8 rest
+utf8_after text front rest b utf8 whole ascii =
     let there : get_or text (length front) 0 ≡ b = ap (λ l. get_or l (length front) 0) whole ∙ get_or_at front b rest 0 (length front) refl in
     let within : length front < length text = omega (arith, ap length whole, length-append front (b ∷ rest)) in
     let boundary = IsCharBoundary-after_ascii text (length front) utf8 within (subst (λ x. x < 128) (sym there) ascii) in
@@ -163,7 +163,7 @@ symbol_front_whole bytes = cond_both (is_some (lookup symbols (take 2 bytes))) (
 
 pub symbol_boundary : (text front : List ℕ) → IsUtf8 text → front ≡ symbol_front text → is_some (lookup symbols front) ≡ true → IsCharBoundary text (length front)
 symbol_boundary text front utf8 e is =
-    boundary_behind text front (drop (length front) text) utf8 (subst (λ l. text ≡ l ++ drop (length l) text) (sym e) (symbol_front_whole text)) (symbol_ends front is) (length front) refl
+    boundary_after text front (drop (length front) text) utf8 (subst (λ l. text ≡ l ++ drop (length l) text) (sym e) (symbol_front_whole text)) (symbol_ends front is) (length front) refl
 
 -- ---- after each piece
 
@@ -192,22 +192,22 @@ line_boundary text line (next ∷ rest) whole stops =
 
 piece_boundary : (text : List ℕ) (piece : Piece) (rest : List ℕ) → IsUtf8 text → text ≡ spelling piece ++ rest → Stands piece rest → IsCharBoundary text (length (spelling piece))
 piece_boundary text (Blanks bytes) rest utf8 whole h =
-    boundary_behind text bytes rest utf8 whole (word_ends is_blank is_blank (λ b e. e) (λ b passes. grind (arith, nat_tests)) bytes h.is) (length bytes) refl
+    boundary_after text bytes rest utf8 whole (word_ends is_blank is_blank (λ b e. e) (λ b passes. grind (arith, nat_tests)) bytes h.is) (length bytes) refl
 piece_boundary text (LineComment line) rest utf8 whole h = line_boundary text (codes "--" ++ line) rest whole (line_stops line rest h)
 piece_boundary text (BlockComment inside) rest utf8 whole h =
     let tail = comment_ends inside h.is in
-    boundary_behind text (codes "/*" ++ inside) rest utf8 whole
+    boundary_after text (codes "/*" ++ inside) rest utf8 whole
     (record { front = codes "/*" ++ tail.front; last = tail.last; whole = ap (λ l. codes "/*" ++ l) tail.whole; ascii = tail.ascii }) (length (codes "/*" ++ inside)) refl
 piece_boundary text (Word bytes) rest utf8 whole h =
-    boundary_behind text bytes rest utf8 whole (word_ends begins_word goes_on_word word_goes_on (λ b passes. grind (arith, nat_tests)) bytes h.is) (length bytes) refl
+    boundary_after text bytes rest utf8 whole (word_ends begins_word goes_on_word word_goes_on (λ b passes. grind (arith, nat_tests)) bytes h.is) (length bytes) refl
 piece_boundary text (Number digits) rest utf8 whole h =
-    boundary_behind text digits rest utf8 whole (word_ends is_digit is_digit (λ b e. e) (λ b passes. grind (arith, nat_tests)) digits h.is) (length digits) refl
-piece_boundary text (QuotedName name) rest utf8 whole h = boundary_behind text (in_quotes double_quote name) rest utf8 whole (quotes_end double_quote name (omega arith)) (length (in_quotes double_quote name)) refl
-piece_boundary text (QuotedText inside) rest utf8 whole h = boundary_behind text (in_quotes single_quote inside) rest utf8 whole (quotes_end single_quote inside (omega arith)) (length (in_quotes single_quote inside)) refl
-piece_boundary text (Symbol bytes) rest utf8 whole h = boundary_behind text bytes rest utf8 whole (symbol_ends bytes h.is) (length bytes) refl
+    boundary_after text digits rest utf8 whole (word_ends is_digit is_digit (λ b e. e) (λ b passes. grind (arith, nat_tests)) digits h.is) (length digits) refl
+piece_boundary text (QuotedName name) rest utf8 whole h = boundary_after text (in_quotes double_quote name) rest utf8 whole (quotes_end double_quote name (omega arith)) (length (in_quotes double_quote name)) refl
+piece_boundary text (QuotedText inside) rest utf8 whole h = boundary_after text (in_quotes single_quote inside) rest utf8 whole (quotes_end single_quote inside (omega arith)) (length (in_quotes single_quote inside)) refl
+piece_boundary text (Symbol bytes) rest utf8 whole h = boundary_after text bytes rest utf8 whole (symbol_ends bytes h.is) (length bytes) refl
 
 -- what follows a piece is text
-pub utf8_behind_piece : (text : List ℕ) (piece : Piece) (rest : List ℕ) → IsUtf8 text → text ≡ spelling piece ++ rest → Stands piece rest → IsUtf8 rest
-utf8_behind_piece text piece rest utf8 whole h =
+pub utf8_after_piece : (text : List ℕ) (piece : Piece) (rest : List ℕ) → IsUtf8 text → text ≡ spelling piece ++ rest → Stands piece rest → IsUtf8 rest
+utf8_after_piece text piece rest utf8 whole h =
     subst IsUtf8 (ap (drop (length (spelling piece))) whole ∙ drop_at (spelling piece) rest (length (spelling piece)) refl)
     (IsUtf8-drop text (length (spelling piece)) utf8 (piece_boundary text piece rest utf8 whole h))

@@ -17,7 +17,7 @@ use Rattle.wd_lex.specs.Laws.{HasAnswer}
 use Rattle.wd_lex.specs.Reading.{Reading, piece_at, as_token}
 use Rattle.wd_lex.proofs.KindFacts.{spelling_some}
 use Rattle.wd_lex.proofs.SoundReading.{IsFront, IsRead, piece_at_sound}
-use Rattle.wd_lex.proofs.Boundaries.{utf8_behind_piece}
+use Rattle.wd_lex.proofs.Boundaries.{utf8_after_piece}
 use Rattle.wd_lex.proofs.TextLaws.{ArePieces_push, spellings_push, tokens_from-append, tokens_in_order, order_later, cause_at, one_answer}
 
 -- ---- the byte order mark
@@ -116,16 +116,16 @@ pair_or none (Err e) = none
 
 step_by : (text : List ℕ) (tokens : List Token) (rest after : List ℕ) (found : Option TokenKind) (place : ℕ) (read : Reading) → IsReadUpTo text tokens rest → IsRead place rest read → as_token read ≡ Ok (found, after)
     → IsStep text tokens rest after found
-step_by text tokens rest after found place (Ok (piece, behind)) h front e =
+step_by text tokens rest after found place (Ok (piece, following)) h front e =
     let same = ap (pair_or (found, after)) e in
     let kind_is : kind_of piece ≡ found = ap (λ (x : Option TokenKind × List ℕ). x.0) same in
-    let rest_is : behind ≡ after = ap (λ (x : Option TokenKind × List ℕ). x.1) same in
+    let rest_is : following ≡ after = ap (λ (x : Option TokenKind × List ℕ). x.1) same in
     record {
       more = λ from to e₁ e₂.
           subst (λ k. IsReadUpTo text (with_token tokens k (record { start = from; end = to })) after) kind_is
           (front_more text tokens piece rest after from to h (subst (IsFront rest piece) rest_is front) e₁ e₂);
-      shorter = omega (arith, ap length rest_is, ap length front.whole, length-append (spelling piece) behind, spelling_some piece front.stands.is);
-      utf8 = λ text_is. subst IsUtf8 rest_is (utf8_behind_piece rest piece behind text_is front.whole front.stands);
+      shorter = omega (arith, ap length rest_is, ap length front.whole, length-append (spelling piece) following, spelling_some piece front.stands.is);
+      utf8 = λ text_is. subst IsUtf8 rest_is (utf8_after_piece rest piece following text_is front.whole front.stands);
     }
 step_by text tokens rest after found place (Err refusal) h refused e = absurd cc
 

@@ -48,16 +48,16 @@ comment_end depth at (b ∷ c ∷ bytes) =
     else (if b == 47 && c == 42 then comment_end (depth + 1) (at + 2) bytes else comment_end depth (at + 1) (c ∷ bytes))
 
 -- a found inside, with these bytes before it
-abbrev pub behind : List ℕ → Option (List ℕ × List ℕ) → Option (List ℕ × List ℕ)
-behind front found = option_map (λ x. (front ++ x.0, x.1)) found
+abbrev pub following : List ℕ → Option (List ℕ × List ℕ) → Option (List ℕ × List ℕ)
+following front found = option_map (λ x. (front ++ x.0, x.1)) found
 
 -- the inside of quotes, and what follows the quote that closes it
 abbrev pub unquote : ℕ → List ℕ → Option (List ℕ × List ℕ)
 unquote quote [] = None
 unquote quote (b ∷ []) = if b == quote then Some ([], []) else None
 unquote quote (b ∷ c ∷ bytes) =
-    if b == quote then (if c == quote then behind (b ∷ []) (unquote quote bytes) else Some ([], c ∷ bytes))
-    else behind (b ∷ []) (unquote quote (c ∷ bytes))
+    if b == quote then (if c == quote then following (b ∷ []) (unquote quote bytes) else Some ([], c ∷ bytes))
+    else following (b ∷ []) (unquote quote (c ∷ bytes))
 
 -- the longest symbol there, or one byte
 abbrev pub symbol_front : List ℕ → List ℕ

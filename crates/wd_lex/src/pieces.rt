@@ -98,7 +98,7 @@ fn comment(place: u64, text: &str) -> Result<(Option<TokenKind>, &str), LexError
 }
 
 /// The inside of quotes and what follows them, for what follows the opening quote.
-fn unquoted(alloc: Global, quote: char, text: &str) -> Result<Option<(Text, &str)>, AllocError>
+fn unquote(alloc: Global, quote: char, text: &str) -> Result<Option<(Text, &str)>, AllocError>
     requires { quote < 128 }
     ensures { IfOk result (λ found. option_map (λ x. (x.0, x.1.now)) found ≡ spec.unquote quote text.now) }
 {
@@ -123,7 +123,7 @@ fn quoted_name(alloc: Global, place: u64, text: &str) -> Result<(Option<TokenKin
     requires { slice_index text.now 0 ≡ 34 }
     ensures { Gives (λ x. (x.0, x.1.now)) result (as_token (read_as Kind.QuotedName place text.now)) }
 {
-    match unquoted(alloc, '"', text.split_at(1).1)? {
+    match unquote(alloc, '"', text.split_at(1).1)? {
         Some((name, rest)) if !name.as_str().is_empty() => Ok((
             Some(TokenKind::Quoted(name)),
             rest,
@@ -138,7 +138,7 @@ fn quoted_text(alloc: Global, place: u64, text: &str) -> Result<(Option<TokenKin
     requires { slice_index text.now 0 ≡ 39 }
     ensures { Gives (λ x. (x.0, x.1.now)) result (as_token (read_as Kind.QuotedText place text.now)) }
 {
-    match unquoted(alloc, '\'', text.split_at(1).1)? {
+    match unquote(alloc, '\'', text.split_at(1).1)? {
         Some((literal, rest)) => Ok((Some(TokenKind::Literal(literal)), rest)),
         None => Err(LexError::TextNotClosed { place }),
     }

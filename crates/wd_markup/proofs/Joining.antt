@@ -15,7 +15,7 @@ IsPage-nil = ∣ ([], refl) ∣₁
 both : (a b : List ℕ) (xs ys : List Piece) → a ≡ shown xs → b ≡ shown ys → a ++ b ≡ shown (xs ++ ys)
 both a b xs ys e f = ap (λ t. t ++ b) e ∙ ap (λ t. shown xs ++ t) f ∙ sym (flat_map-append shown_piece xs ys)
 
--- what one page holds behind what another holds
+-- what one page holds after what another holds
 pub IsPage-append : (a b : List ℕ) → IsPage a → IsPage b → IsPage (a ++ b)
 IsPage-append a b left right =
     ∥∥₁_elim left ∥∥₁_prop (λ x. ∥∥₁_map right (λ y. (x.0 ++ y.0, both a b x.0 y.0 x.1 y.1)))

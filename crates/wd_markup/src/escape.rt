@@ -6,15 +6,15 @@ ghost use Rattle.wd_markup.specs.Escapes as spec;
 use std::alloc::{AllocError, Global};
 
 /// A text, escaped.
-pub(crate) fn escaped(alloc: Global, text: &[u8]) -> Result<String, AllocError>
+pub(crate) fn escape_text(alloc: Global, text: &[u8]) -> Result<String, AllocError>
     ensures { IfOk result (λ s. string_bytes s ≡ spec.escaped text.now) }
 {
     let lossy = String::from_utf8_lossy(alloc, text)?;
-    escaped_chars(alloc, lossy.as_str())
+    escape_chars(alloc, lossy.as_str())
 }
 
 /// The characters of a text, escaped.
-fn escaped_chars(alloc: Global, text: &str) -> Result<String, AllocError>
+fn escape_chars(alloc: Global, text: &str) -> Result<String, AllocError>
     ensures { IfOk result (λ s. string_bytes s ≡ spec.escaped_chars text.now) }
 {
     let mut more = String::new(alloc);

@@ -105,7 +105,7 @@ impl Page {
         ensures written { OnOk result (self.new ≡ self.old ++ escaped text.now) }
         ensures kept { OnErr result (self.new ≡ self.old) }
     {
-        let more = escape::escaped(self.alloc, text)?;
+        let more = escape::escape_text(self.alloc, text)?;
         self.push(more.as_str())
     }
 
@@ -166,7 +166,7 @@ fn closing(alloc: Global, tag: Tag) -> Result<String, AllocError>
 fn element_of(alloc: Global, tag: Tag, class: Class, text: &[u8]) -> Result<String, AllocError>
     ensures { IfOk result (λ s. string_bytes s ≡ shown_piece (piece.Opening tag class) ++ escaped text.now ++ shown_piece (piece.Closing tag)) }
 {
-    let text = escape::escaped(alloc, text)?;
+    let text = escape::escape_text(alloc, text)?;
     let last = closing(alloc, tag)?;
     let mut element = opening(alloc, tag, class)?;
     element.push_str(text.as_str())?;

@@ -21,5 +21,5 @@ membership_comes_out = record {
   below_or_stays = λ at. refl;
   denied_stays = λ at. refl;
   star_stays = λ at. refl;
-  behind_between_stays = λ at. refl;
+  after_between_stays = λ at. refl;
 }

@@ -80,8 +80,8 @@ abbrev pub starred : List TokenKind
 starred = mark m.Select ∷ mark m.Star ∷ mark m.From ∷ x ∷ mark m.Where ∷ in_y
 
 -- SELECT n FROM x WHERE n BETWEEN n AND n IN ( SELECT k FROM y )
-abbrev pub behind_between : List TokenKind
-behind_between = of_x ++ mark m.Where ∷ n ∷ t.Word (codes "between") ∷ n ∷ mark m.And ∷ in_y
+abbrev pub after_between : List TokenKind
+after_between = of_x ++ mark m.Where ∷ n ∷ t.Word (codes "between") ∷ n ∷ mark m.And ∷ in_y
 
 -- SELECT n FROM x WHERE EXISTS ( SELECT n FROM y a WHERE x.n = a.k AND a.n = a.n )
 abbrev pub exists_in_y : List TokenKind
@@ -108,4 +108,4 @@ pub record MembershipComesOut : Type 0 where
   pub below_or_stays : Becomes below_or below_or
   pub denied_stays : Becomes denied denied
   pub star_stays : Becomes starred starred
-  pub behind_between_stays : Becomes behind_between behind_between
+  pub after_between_stays : Becomes after_between after_between

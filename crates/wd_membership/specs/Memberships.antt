@@ -8,7 +8,7 @@ use Rattle.wd_clauses.specs.declared.level.Stop.TheVariants.{Comma}
 use Rattle.wd_clauses.specs.Names.{is_name, is_same_name}
 use Rattle.wd_clauses.specs.Reach as clauses
 use Rattle.wd_operands.specs.Operands.{operand_length}
-use Rattle.wd_distinct_on.specs.Items.{behind_as}
+use Rattle.wd_distinct_on.specs.Items.{after_as}
 use Rattle.wd_distinct_on.specs.Kinds.{begins, is_dot}
 use Rattle.wd_distinct_on.specs.Respelled.{◌>>=◌}
 use Rattle.wd_using.specs.declared.level.Extent.TheVariants as extent
@@ -44,7 +44,7 @@ value_with item (Some name) = take (length item - 2) item
 
 -- the value of an item, without AS and a name
 abbrev pub value_of : List Token → List Token
-value_of item = value_with item (behind_as (drop (length item - 2) item))
+value_of item = value_with item (after_as (drop (length item - 2) item))
 
 -- one item, which does not end with a star
 abbrev pub is_value : List Token → Bool
@@ -59,13 +59,13 @@ in_query operand word select =
     else None
 
 -- IN and a query after an operand, which is not empty
-abbrev pub behind_operand : List Token → List Token → Option Membership
-behind_operand operand [] = None
-behind_operand operand (word ∷ tokens) = if is_end operand || not (is_in word.kind) then None else query_in tokens >>= in_query operand word
+abbrev pub after_operand : List Token → List Token → Option Membership
+after_operand operand [] = None
+after_operand operand (word ∷ tokens) = if is_end operand || not (is_in word.kind) then None else query_in tokens >>= in_query operand word
 
 -- x IN ( query ), and nothing else; x binds more tightly than IN
 abbrev pub in_at : List Token → Option Membership
-in_at tokens = behind_operand (take (operand_length tokens) tokens) (drop (operand_length tokens) tokens)
+in_at tokens = after_operand (take (operand_length tokens) tokens) (drop (operand_length tokens) tokens)
 
 -- ---- EXISTS ( SELECT .. FROM u a WHERE a.k = t.j AND q )
 
@@ -90,13 +90,13 @@ paired alias left right table other =
 abbrev pub if_columns : Token → List Token → List Token → Option Pair
 if_columns alias left right = table_of_column left >>= λ table. table_of_column right >>= λ other. paired alias left right table other
 
-abbrev pub behind_column : Token → List Token → List Token → Option Pair
-behind_column alias left [] = None
-behind_column alias left (word ∷ right) = if is_equals word.kind then if_columns alias left right else None
+abbrev pub after_column : Token → List Token → List Token → Option Pair
+after_column alias left [] = None
+after_column alias left (word ∷ right) = if is_equals word.kind then if_columns alias left right else None
 
 -- a.k = t.j or t.j = a.k, unless it comes after the AND of BETWEEN
 abbrev pub pair_in : Token → Bool → List Token → Option Pair
-pair_in alias is_behind tokens = if is_behind then None else behind_column alias (take 3 tokens) (drop 3 tokens)
+pair_in alias is_after tokens = if is_after then None else after_column alias (take 3 tokens) (drop 3 tokens)
 
 abbrev pub with_pair : Option Pair → List Pair → List Pair
 with_pair None pairs = pairs
@@ -104,8 +104,8 @@ with_pair (Some pair) pairs = pair ∷ pairs
 
 -- the pairs among conjuncts
 abbrev pub pairs_in : Token → Bool → List Conjunct → List Pair
-pairs_in alias is_behind [] = []
-pairs_in alias is_behind (conjunct ∷ conjuncts) = with_pair (pair_in alias is_behind conjunct.test) (pairs_in alias (stands extent.Between conjunct.test) conjuncts)
+pairs_in alias is_after [] = []
+pairs_in alias is_after (conjunct ∷ conjuncts) = with_pair (pair_in alias is_after conjunct.test) (pairs_in alias (stands extent.Between conjunct.test) conjuncts)
 
 abbrev pub unless_pair : Conjunct → Option Pair → List Conjunct → List Conjunct
 unless_pair conjunct None conjuncts = conjunct ∷ conjuncts
@@ -113,8 +113,8 @@ unless_pair conjunct (Some pair) conjuncts = conjuncts
 
 -- the other conjuncts
 abbrev pub others_in : Token → Bool → List Conjunct → List Conjunct
-others_in alias is_behind [] = []
-others_in alias is_behind (conjunct ∷ conjuncts) = unless_pair conjunct (pair_in alias is_behind conjunct.test) (others_in alias (stands extent.Between conjunct.test) conjuncts)
+others_in alias is_after [] = []
+others_in alias is_after (conjunct ∷ conjuncts) = unless_pair conjunct (pair_in alias is_after conjunct.test) (others_in alias (stands extent.Between conjunct.test) conjuncts)
 
 -- no column of another table
 abbrev pub is_own : Token → List Token → Bool
@@ -167,12 +167,12 @@ pub record Member : Type 0 where
 
 -- a conjunct as it is read; the tokens after the AND of BETWEEN are not looked at
 abbrev pub member_of : Bool → Conjunct → Member
-member_of is_behind conjunct = record { conjunct = conjunct; membership = (if is_behind then None else membership_at conjunct.test) }
+member_of is_after conjunct = record { conjunct = conjunct; membership = (if is_after then None else membership_at conjunct.test) }
 
 -- the conjuncts as they are read
 abbrev pub members : Bool → List Conjunct → List Member
-members is_behind [] = []
-members is_behind (conjunct ∷ conjuncts) = member_of is_behind conjunct ∷ members (stands extent.Between conjunct.test) conjuncts
+members is_after [] = []
+members is_after (conjunct ∷ conjuncts) = member_of is_after conjunct ∷ members (stands extent.Between conjunct.test) conjuncts
 
 abbrev pub is_found : Option Membership → Bool
 is_found None = false

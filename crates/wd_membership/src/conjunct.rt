@@ -21,8 +21,8 @@ pub struct Conjunct<'t> {
 pub fn stands(part: Extent, tokens: &[Token]) -> bool
     ensures { result ≡ spec.stands part tokens.now }
 {
-    let (_before, behind) = split_at(part, tokens);
-    !is_end(behind)
+    let (_before, following) = split_at(part, tokens);
+    !is_end(following)
 }
 
 // The most conjuncts of a WHERE clause.
@@ -40,9 +40,9 @@ fn conjuncts_at(alloc: Global, tokens: &[Token]) -> Result<Option<Vec<Conjunct<'
             return Ok(None);
         }
         left -= 1;
-        let (test, behind) = split_at(Extent::Conjunct, after);
+        let (test, following) = split_at(Extent::Conjunct, after);
         conjuncts.push(Conjunct { word, test })?;
-        rest = behind;
+        rest = following;
     }
     Ok(Some(conjuncts))
 }

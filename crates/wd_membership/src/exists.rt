@@ -12,7 +12,7 @@ use crate::membership::{Membership, Pair, Test};
 use crate::query::query_in;
 use std::alloc::{AllocError, Global};
 use wd_clauses::{Stop, is_name, is_same_name, split};
-use wd_distinct_on::{cut, is_dot};
+use wd_distinct_on::{is_dot, split_at_place};
 use wd_lex::Token;
 use wd_using::{Extent, Select, alias_at};
 
@@ -24,8 +24,8 @@ fn name_of_table(tokens: &[Token]) -> Option<&Token>
         return None;
     };
     let alias = alias_at(table, rest);
-    let (_table, behind) = cut(alias.count, &tokens[1..]);
-    if is_name(&table.kind) && is_end(behind) {
+    let (_table, following) = split_at_place(alias.count, &tokens[1..]);
+    if is_name(&table.kind) && is_end(following) {
         Some(alias.name)
     } else {
         None
@@ -44,7 +44,7 @@ fn table_of_column(tokens: &[Token]) -> Option<&Token>
 }
 
 /// A column of the query's own table, and one of another.
-fn paired<'t>(
+fn pair_of<'t>(
     alias: &Token,
     left: &'t [Token],
     right: &'t [Token],
@@ -78,14 +78,14 @@ fn if_columns<'t>(alias: &Token, left: &'t [Token], right: &'t [Token]) -> Optio
         return None;
     };
     match table_of_column(right) {
-        Some(other) => paired(alias, left, right, table, other),
+        Some(other) => pair_of(alias, left, right, table, other),
         None => None,
     }
 }
 
 /// `= t.j` after a column.
-fn behind_column<'t>(alias: &Token, left: &'t [Token], tokens: &'t [Token]) -> Option<Pair<'t>>
-    ensures { Finds named.pair result (spec.behind_column alias.now left.now tokens.now) }
+fn after_column<'t>(alias: &Token, left: &'t [Token], tokens: &'t [Token]) -> Option<Pair<'t>>
+    ensures { Finds named.pair result (spec.after_column alias.now left.now tokens.now) }
 {
     match tokens {
         [word, right @ ..] if is_equals(&word.kind) => if_columns(alias, left, right),
@@ -94,14 +94,14 @@ fn behind_column<'t>(alias: &Token, left: &'t [Token], tokens: &'t [Token]) -> O
 }
 
 /// `a.k = t.j` or `t.j = a.k`, unless it comes after the AND of BETWEEN.
-fn pair_in<'t>(alias: &Token, is_behind: bool, tokens: &'t [Token]) -> Option<Pair<'t>>
-    ensures { Finds named.pair result (spec.pair_in alias.now is_behind tokens.now) }
+fn pair_in<'t>(alias: &Token, is_after: bool, tokens: &'t [Token]) -> Option<Pair<'t>>
+    ensures { Finds named.pair result (spec.pair_in alias.now is_after tokens.now) }
 {
-    if is_behind {
+    if is_after {
         return None;
     }
-    let (left, behind) = cut(3, tokens);
-    behind_column(alias, left, behind)
+    let (left, following) = split_at_place(3, tokens);
+    after_column(alias, left, following)
 }
 
 /// The pairs among conjuncts.
@@ -113,13 +113,13 @@ fn pairs_in<'t>(
     ensures { IfOk result (λ x. map named.pair x.items ≡ spec.pairs_in alias.now false (map named.conjunct conjuncts.now)) }
 {
     let mut pairs = Vec::new(alloc);
-    let mut is_behind = false;
+    let mut is_after = false;
     let mut rest = conjuncts;
     while let [conjunct, after @ ..] = rest {
-        if let Some(pair) = pair_in(alias, is_behind, conjunct.test) {
+        if let Some(pair) = pair_in(alias, is_after, conjunct.test) {
             pairs.push(pair)?;
         }
-        is_behind = stands(Extent::Between, conjunct.test);
+        is_after = stands(Extent::Between, conjunct.test);
         rest = after;
     }
     Ok(pairs)
@@ -134,13 +134,13 @@ fn others_in<'t>(
     ensures { IfOk result (λ x. map named.conjunct x.items ≡ spec.others_in alias.now false (map named.conjunct conjuncts.now)) }
 {
     let mut others = Vec::new(alloc);
-    let mut is_behind = false;
+    let mut is_after = false;
     let mut rest = conjuncts;
     while let [conjunct, after @ ..] = rest {
-        if pair_in(alias, is_behind, conjunct.test).is_none() {
+        if pair_in(alias, is_after, conjunct.test).is_none() {
             others.push(*conjunct)?;
         }
-        is_behind = stands(Extent::Between, conjunct.test);
+        is_after = stands(Extent::Between, conjunct.test);
         rest = after;
     }
     Ok(others)
@@ -173,7 +173,7 @@ fn are_own(alias: &Token, mut conjuncts: &[Conjunct]) -> bool
 }
 
 /// The membership of a pair or more, if nothing else is compared with another table's column.
-fn parted<'t>(
+fn membership_of_pairs<'t>(
     word: &'t Token,
     select: &Select<'t>,
     pairs: Vec<Pair<'t>>,
@@ -209,7 +209,7 @@ fn with_conjuncts<'t>(
 {
     let pairs = pairs_in(alloc, alias, conjuncts)?;
     let others = others_in(alloc, alias, conjuncts)?;
-    Ok(parted(word, select, pairs, others, alias))
+    Ok(membership_of_pairs(word, select, pairs, others, alias))
 }
 
 /// The membership of these conditions.

@@ -12,10 +12,10 @@ use crate::kind::{begins_star, is_end, is_in};
 use crate::query::query_in;
 use std::alloc::{AllocError, Global};
 use wd_clauses::{Stop, split};
-use wd_distinct_on::cut;
+use wd_distinct_on::split_at_place;
 use wd_lex::Token;
 use wd_operands::operand_length;
-use wd_using::{Extent, Select, behind_as};
+use wd_using::{Extent, Select, after_as};
 
 /// A test of whether a row is among others.
 #[derive(Clone, Copy, PartialEq, Eq)]
@@ -55,7 +55,7 @@ fn value_of(item: &[Token]) -> &[Token]
     ensures { result.now ≡ spec.value_of item.now }
 {
     let count = item.len().saturating_sub(2);
-    match behind_as(&item[count..]) {
+    match after_as(&item[count..]) {
         Some(_) => &item[..count],
         None => item,
     }
@@ -65,8 +65,8 @@ fn value_of(item: &[Token]) -> &[Token]
 fn is_value(items: &[Token]) -> bool
     ensures { result ≡ spec.is_value items.now }
 {
-    let (_item, behind) = split(Stop::Comma, items);
-    is_end(behind) && !begins_star(&items[items.len().saturating_sub(1)..])
+    let (_item, following) = split(Stop::Comma, items);
+    is_end(following) && !begins_star(&items[items.len().saturating_sub(1)..])
 }
 
 /// `x IN ( select )`, if the query has one item, and its rows do not depend on their order.
@@ -98,12 +98,12 @@ fn in_query<'t>(
 }
 
 /// `IN ( query )` after an operand.
-fn behind_operand<'t>(
+fn after_operand<'t>(
     alloc: Global,
     operand: &'t [Token],
     tokens: &'t [Token],
 ) -> Result<Option<Membership<'t>>, AllocError>
-    ensures { IfOk result (λ found. Finds named.membership found (spec.behind_operand operand.now tokens.now)) }
+    ensures { IfOk result (λ found. Finds named.membership found (spec.after_operand operand.now tokens.now)) }
 {
     let [word, rest @ ..] = tokens else {
         return Ok(None);
@@ -124,8 +124,8 @@ fn behind_operand<'t>(
 fn in_at(alloc: Global, tokens: &[Token]) -> Result<Option<Membership<'_>>, AllocError>
     ensures { IfOk result (λ found. Finds named.membership found (spec.in_at tokens.now)) }
 {
-    let (operand, behind) = cut(operand_length(tokens), tokens);
-    let found = behind_operand(alloc, operand, behind)?;
+    let (operand, following) = split_at_place(operand_length(tokens), tokens);
+    let found = after_operand(alloc, operand, following)?;
     Ok(found)
 }
 
@@ -146,12 +146,12 @@ fn membership_at(alloc: Global, tokens: &[Token]) -> Result<Option<Membership<'_
 /// A conjunct as it is read.
 fn member_of<'t>(
     alloc: Global,
-    is_behind: bool,
+    is_after: bool,
     conjunct: Conjunct<'t>,
 ) -> Result<Member<'t>, AllocError>
-    ensures { IfOk result (λ x. named.member x ≡ spec.member_of is_behind (named.conjunct conjunct.entry)) }
+    ensures { IfOk result (λ x. named.member x ≡ spec.member_of is_after (named.conjunct conjunct.entry)) }
 {
-    if is_behind {
+    if is_after {
         return Ok(Member {
             conjunct,
             membership: None,
@@ -169,11 +169,11 @@ pub fn members<'t>(alloc: Global, conjuncts: &[Conjunct<'t>]) -> Result<Vec<Memb
     ensures { IfOk result (λ x. map named.member x.items ≡ spec.members false (map named.conjunct conjuncts.now)) }
 {
     let mut members = Vec::new(alloc);
-    let mut is_behind = false;
+    let mut is_after = false;
     let mut rest = conjuncts;
     while let [conjunct, after @ ..] = rest {
-        members.push(member_of(alloc, is_behind, *conjunct)?)?;
-        is_behind = stands(Extent::Between, conjunct.test);
+        members.push(member_of(alloc, is_after, *conjunct)?)?;
+        is_after = stands(Extent::Between, conjunct.test);
         rest = after;
     }
     Ok(members)

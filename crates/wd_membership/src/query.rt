@@ -48,7 +48,7 @@ fn inside(tokens: &[Token]) -> Option<&[Token]>
 }
 
 /// `( tokens )`, and nothing else.
-fn bracketed(tokens: &[Token]) -> Option<&[Token]>
+fn in_brackets(tokens: &[Token]) -> Option<&[Token]>
     ensures { Finds (λ x. x.now) result (spec.bracketed tokens.now) }
 {
     match tokens {
@@ -78,7 +78,7 @@ fn whole(tokens: &[Token]) -> Option<Select<'_>>
 pub fn query_in(tokens: &[Token]) -> Option<Select<'_>>
     ensures { Finds pieces result (spec.query_in tokens.now) }
 {
-    match bracketed(tokens) {
+    match in_brackets(tokens) {
         Some(query) => whole(query),
         None => None,
     }

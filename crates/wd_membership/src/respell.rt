@@ -10,10 +10,10 @@ use crate::conjunct::{Conjunct, conjuncts};
 use crate::kind::{has_all, has_ours};
 use crate::membership::{has_membership, members};
 use crate::query::select_at;
-use crate::write::written;
+use crate::write::write_select;
 use std::alloc::Global;
 use wd_clauses::{RespellError, Stop, split};
-use wd_distinct_on::{Selects, cut, respelled_backwards, starts_with_select};
+use wd_distinct_on::{Selects, respelled_backwards, split_at_place, starts_with_select};
 use wd_lex::Token;
 use wd_using::Select;
 
@@ -31,7 +31,7 @@ fn if_any(
 {
     let members = members(alloc, conjuncts)?;
     if has_membership(&members) {
-        let tokens = written(alloc, front, select, &members)?;
+        let tokens = write_select(alloc, front, select, &members)?;
         Ok(Some(tokens))
     } else {
         Ok(None)
@@ -68,7 +68,7 @@ fn respelled_at(
 ) -> Result<Option<Vec<Token>>, RespellError>
     ensures { MayWrite (λ x. x.items) result (spec.respelled_at place tokens.now) }
 {
-    let (front, rest) = cut(place, tokens);
+    let (front, rest) = split_at_place(place, tokens);
     match select_at(rest) {
         Some(select) => {
             let tokens = respelled_select(alloc, front, &select)?;

@@ -12,7 +12,9 @@ use crate::conjunct::Conjunct;
 use crate::membership::{Member, Membership, Pair};
 use crate::name::{column_name, table_name};
 use std::alloc::Global;
-use wd_clauses::{RespellError, Stop, add, add_all, added, copied, copy_token, split};
+use wd_clauses::{
+    RespellError, Stop, add, add_all, added_terminal, copy_token, copy_tokens, split,
+};
 use wd_lex::{Terminal, Token};
 use wd_using::Select;
 
@@ -29,7 +31,7 @@ fn add_item(
 {
     let name = column_name(alloc, membership.test, table, column, membership.word)?;
     add_all(written, pair.inner)?;
-    add(written, added(Terminal::As, membership.word))?;
+    add(written, added_terminal(Terminal::As, membership.word))?;
     add(written, name)?;
     Ok(())
 }
@@ -41,7 +43,7 @@ fn add_comma(written: &mut Vec<Token>, pairs: &[Pair], word: &Token) -> Result<(
     match pairs {
         [] => Ok(()),
         [_, ..] => {
-            add(written, added(Terminal::Comma, word))?;
+            add(written, added_terminal(Terminal::Comma, word))?;
             Ok(())
         }
     }
@@ -54,7 +56,7 @@ fn add_and(written: &mut Vec<Token>, pairs: &[Pair], word: &Token) -> Result<(),
     match pairs {
         [] => Ok(()),
         [_, ..] => {
-            add(written, added(Terminal::And, word))?;
+            add(written, added_terminal(Terminal::And, word))?;
             Ok(())
         }
     }
@@ -87,7 +89,7 @@ fn add_conditions(written: &mut Vec<Token>, conjuncts: &[Conjunct]) -> Result<()
     let mut first = Terminal::Where;
     let mut rest = conjuncts;
     while let [conjunct, after @ ..] = rest {
-        add(written, added(first, conjunct.word))?;
+        add(written, added_terminal(first, conjunct.word))?;
         add_all(written, conjunct.test)?;
         first = Terminal::And;
         rest = after;
@@ -105,8 +107,11 @@ fn add_alias(
     ensures { Writes written.old.items written.new.items result (spec.alias (named.membership membership.now) table) }
 {
     let name = table_name(alloc, membership.test, table, membership.word)?;
-    add(written, added(Terminal::RightBracket, membership.word))?;
-    add(written, added(Terminal::As, membership.word))?;
+    add(
+        written,
+        added_terminal(Terminal::RightBracket, membership.word),
+    )?;
+    add(written, added_terminal(Terminal::As, membership.word))?;
     add(written, name)?;
     Ok(())
 }
@@ -121,7 +126,7 @@ fn add_query(
     ensures { Writes written.old.items written.new.items result (spec.query (named.membership membership.now) table) }
 {
     add(written, copy_token(membership.select)?)?;
-    add(written, added(Terminal::Distinct, membership.word))?;
+    add(written, added_terminal(Terminal::Distinct, membership.word))?;
     add_items(alloc, written, membership, table)?;
     add_all(written, membership.tables)?;
     add_conditions(written, &membership.conjuncts)?;
@@ -138,8 +143,11 @@ fn add_derived(
 ) -> Result<(), RespellError>
     ensures { Writes written.old.items written.new.items result (spec.derived (named.membership membership.now) table) }
 {
-    add(written, added(Terminal::Comma, membership.word))?;
-    add(written, added(Terminal::LeftBracket, membership.word))?;
+    add(written, added_terminal(Terminal::Comma, membership.word))?;
+    add(
+        written,
+        added_terminal(Terminal::LeftBracket, membership.word),
+    )?;
     add_query(alloc, written, membership, table)?;
     add_alias(alloc, written, membership, table)?;
     Ok(())
@@ -157,9 +165,9 @@ fn add_column(
 {
     let qualifier = table_name(alloc, membership.test, table, membership.word)?;
     let name = column_name(alloc, membership.test, table, column, membership.word)?;
-    add(written, added(Terminal::Equals, membership.word))?;
+    add(written, added_terminal(Terminal::Equals, membership.word))?;
     add(written, qualifier)?;
-    add(written, added(Terminal::Dot, membership.word))?;
+    add(written, added_terminal(Terminal::Dot, membership.word))?;
     add(written, name)?;
     Ok(())
 }
@@ -310,7 +318,7 @@ fn add_select(
 }
 
 /// What replaces a select after these tokens.
-pub fn written(
+pub fn write_select(
     alloc: Global,
     front: &[Token],
     select: &Select,
@@ -318,7 +326,7 @@ pub fn written(
 ) -> Result<Vec<Token>, RespellError>
     ensures { Makes (λ x. x.items) (λ x. x) result (front.now ++ spec.written (pieces select.now) (map named.member members.now)) }
 {
-    let mut written = copied(alloc, front)?;
+    let mut written = copy_tokens(alloc, front)?;
     add_select(alloc, &mut written, select, members)?;
     Ok(written)
 }

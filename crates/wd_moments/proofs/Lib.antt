@@ -1,4 +1,3 @@
 pub mod AddFacts
 pub mod DecimalFacts
-pub mod OperandFacts
 pub mod StepFacts

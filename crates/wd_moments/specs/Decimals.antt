@@ -8,9 +8,9 @@ use Rattle.wd_lex.specs.declared.token.TokenKind.TheVariants as t
 use Rattle.wd_operands.specs.Operands.{is_sign}
 use Rattle.wd_moments.specs.declared.decimal.Stand.{Stand}
 use Rattle.wd_moments.specs.declared.decimal.Stand.TheVariants.{Term, Factor, Other, Within}
-use Rattle.wd_amounts.specs.declared.numeral.Numeral.{Numeral}
-use Rattle.wd_amounts.specs.Numerals.{numeral_at}
-use Rattle.wd_amounts.specs.Tokens.{◌>>=◌, depth_after}
+use Rattle.wd_units.specs.declared.numeral.Numeral.{Numeral}
+use Rattle.wd_units.specs.Numerals.{numeral_at}
+use Rattle.wd_units.specs.Tokens.{◌>>=◌, depth_after}
 use Rattle.wd_moments.specs.Literals.{Written, number_token}
 
 -- a whole number in units of the last place: multiplied by ten for each place, while 64 bits with a sign hold it

@@ -5,16 +5,16 @@ use Rattle.wd_lex.specs.declared.token.Terminal.TheVariants as m
 use Rattle.wd_lex.specs.declared.token.Token.{Token}
 use Rattle.wd_lex.specs.declared.token.TokenKind.{TokenKind}
 use Rattle.wd_lex.specs.declared.token.TokenKind.TheVariants as t
-use Rattle.wd_amounts.specs.declared.unit.Unit.{Unit as Counts}
-use Rattle.wd_amounts.specs.declared.unit.Unit.TheVariants.{Days, Microseconds, Decimal}
-use Rattle.wd_amounts.specs.Amounts.{amount_at}
-use Rattle.wd_amounts.specs.Numerals.{numeral_at}
+use Rattle.wd_units.specs.declared.unit.Unit.{Unit as Counts}
+use Rattle.wd_units.specs.declared.unit.Unit.TheVariants.{Days, Microseconds, Decimal}
+use Rattle.wd_units.specs.Amounts.{amount_at}
+use Rattle.wd_units.specs.Numerals.{numeral_at}
 use Rattle.wd_amounts.specs.Terms.{Known, unit_of}
-use Rattle.wd_amounts.specs.declared.token.Stop.TheVariants.{Frame}
-use Rattle.wd_amounts.specs.Tokens.{◌>>=◌, begins_item, is_comparison, operand_at, part_length}
+use Rattle.wd_units.specs.declared.token.Stop.TheVariants.{Frame}
+use Rattle.wd_units.specs.Tokens.{◌>>=◌, begins_item, is_comparison, operand_at, part_length}
 use Rattle.wd_moments.specs.declared.item.Start.{Start}
 use Rattle.wd_moments.specs.declared.item.Start.TheVariants.{Elsewhere, AtSide, AtItem}
-use Rattle.wd_moments.specs.Comparisons.{begins_side}
+use Rattle.wd_clashes.specs.Comparisons.{begins_side}
 
 -- what may begin after a token: an item, which may also be the left side of a comparison, or such a side alone
 abbrev pub start_after : TokenKind → Start

@@ -1,4 +1,3 @@
-pub mod Comparisons
 pub mod Decimals
 pub mod Given
 pub mod Items
@@ -6,4 +5,3 @@ pub mod Literals
 pub mod Numbered
 pub mod Seen
 pub mod Sides
-pub mod Unlike

@@ -5,19 +5,16 @@ use Rattle.wd_lex.specs.declared.token.Terminal.TheVariants as m
 use Rattle.wd_lex.specs.declared.token.Span.{Span as Place}
 use Rattle.wd_lex.specs.declared.token.Token.{Token}
 use Rattle.wd_lex.specs.declared.token.TokenKind.TheVariants as t
-use Rattle.wd_amounts.specs.declared.amount.Amount.{Amount}
-use Rattle.wd_amounts.specs.declared.unit.Unit.{Unit as Counts}
-use Rattle.wd_amounts.specs.declared.unit.Unit.TheVariants.{Days, Span}
-use Rattle.wd_amounts.specs.Amounts.{amount_at, number_said}
+use Rattle.wd_units.specs.declared.amount.Amount.{Amount}
+use Rattle.wd_units.specs.declared.unit.Unit.{Unit as Counts}
+use Rattle.wd_units.specs.declared.unit.Unit.TheVariants.{Days, Span}
+use Rattle.wd_units.specs.Amounts.{amount_at, number_said}
 
 abbrev pub made : Terminal → Place → Token
 made x at = record { kind = t.Terminal x; span = at }
 
 abbrev pub number_token : ℕ → Place → Token
 number_token n at = record { kind = t.Number n; span = at }
-
-abbrev pub word_token : List ℕ → Place → Token
-word_token text at = record { kind = t.Word text; span = at }
 
 abbrev pub negative_tokens : Place → ℕ → List Token
 negative_tokens at n = made m.LeftBracket at ∷ made m.Minus at ∷ number_token n at ∷ made m.RightBracket at ∷ []

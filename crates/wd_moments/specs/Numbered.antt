@@ -7,15 +7,15 @@ use Rattle.wd_lex.specs.declared.token.Token.{Token}
 use Rattle.wd_dialect_read.specs.declared.said.Statement.{Statement}
 use Rattle.wd_amounts.specs.Names.{known_in}
 use Rattle.wd_amounts.specs.Terms.{Known}
-use Rattle.wd_amounts.specs.Tokens.{depth_after}
-use Rattle.wd_amounts.specs.declared.unit.Unit.{Unit as Counts}
-use Rattle.wd_amounts.specs.declared.unit.Unit.TheVariants.{Days, Microseconds}
+use Rattle.wd_units.specs.Tokens.{depth_after}
+use Rattle.wd_units.specs.declared.unit.Unit.{Unit as Counts}
+use Rattle.wd_units.specs.declared.unit.Unit.TheVariants.{Days, Microseconds}
 use Rattle.wd_moments.specs.Literals.{made, number_token}
 use Rattle.wd_moments.specs.Sides.{StepTo, side, stepped}
-use Rattle.wd_moments.specs.Unlike.{unlike_from, with_word}
+use Rattle.wd_clashes.specs.Unlike.{unlike_from, with_word}
 use Rattle.wd_moments.specs.declared.item.Start.{Start}
 use Rattle.wd_moments.specs.declared.item.Start.TheVariants.{Elsewhere, AtSide}
-use Rattle.wd_moments.specs.Comparisons.{Comparison, comparison_at}
+use Rattle.wd_clashes.specs.Comparisons.{Comparison, comparison_at}
 use Rattle.wd_moments.specs.Items.{Item, is_item, is_side, item_at, start_after}
 
 -- what opens and what closes the midnight of a day
@@ -26,8 +26,8 @@ abbrev pub midnight_back : Place → List Token
 midnight_back at = made m.RightBracket at ∷ made m.Star at ∷ number_token 86400000000 at ∷ made m.RightBracket at ∷ []
 
 -- the comparison and the item that begin here
-abbrev pub compared_at : Known → Start → List Token → Option Comparison
-compared_at known start tokens = if is_side start then comparison_at known tokens else None
+abbrev pub comparison_begun : Known → Start → List Token → Option Comparison
+comparison_begun known start tokens = if is_side start then comparison_at known tokens else None
 
 abbrev pub item_begun : Known → Start → List Token → Option Item
 item_begun known start tokens = if is_item start then item_at known tokens else None
@@ -55,7 +55,7 @@ module _ (itself : List Token → List Token) (known : Known) where
   step_by (token ∷ tokens) None None = (token ∷ [], start_after token.kind, tokens)
 
   unfoldable pub step : Start → List Token → StepTo Start
-  step start tokens = step_by tokens (compared_at known start tokens) (item_begun known start tokens)
+  step start tokens = step_by tokens (comparison_begun known start tokens) (item_begun known start tokens)
 
   abbrev pub walked : List Token → List Token
   walked tokens = stepped step (length tokens) AtSide tokens

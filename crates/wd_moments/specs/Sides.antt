@@ -6,12 +6,12 @@ use Rattle.wd_lex.specs.declared.token.TokenKind.{TokenKind}
 use Rattle.wd_lex.specs.declared.token.TokenKind.TheVariants as t
 use Rattle.wd_operands.specs.Nests.{nest_length}
 use Rattle.wd_operands.specs.Operands.{is_over}
-use Rattle.wd_amounts.specs.declared.token.Stop.TheVariants.{Link, Then}
-use Rattle.wd_amounts.specs.declared.unit.Unit.{Unit as Counts}
-use Rattle.wd_amounts.specs.declared.unit.Unit.TheVariants.{Decimal}
+use Rattle.wd_units.specs.declared.token.Stop.TheVariants.{Link, Then}
+use Rattle.wd_units.specs.declared.unit.Unit.{Unit as Counts}
+use Rattle.wd_units.specs.declared.unit.Unit.TheVariants.{Decimal}
 use Rattle.wd_amounts.specs.Terms.{Known, is_star, unit_of}
-use Rattle.wd_amounts.specs.Tokens.{part_length}
-use Rattle.wd_amounts.specs.Units.{counts_decimal}
+use Rattle.wd_units.specs.Tokens.{part_length}
+use Rattle.wd_units.specs.Units.{counts_decimal}
 use Rattle.wd_moments.specs.declared.decimal.Stand.{Stand}
 use Rattle.wd_moments.specs.declared.decimal.Stand.TheVariants.{Term, Factor}
 use Rattle.wd_moments.specs.Decimals.{beyond, first_in_units, stand_after}

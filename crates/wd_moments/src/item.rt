@@ -1,17 +1,17 @@
 //! Operands outside of comparisons that count a moment or a decimal: items of a select list, keys and their frames, and arguments.
 
 ghost use Rattle.std.specs.Prelude.{◌≡◌, ◌≤◌, length};
-ghost use Rattle.wd_amounts.specs.Given.{Finds};
+ghost use Rattle.wd_units.specs.Given.{Finds};
 ghost use Rattle.wd_amounts.specs.Seen.{known_seen};
 ghost use Rattle.wd_moments.specs.Items as spec;
 ghost use Rattle.wd_moments.specs.Seen.{item_seen};
 
-use crate::comparison::begins_side;
-use wd_amounts::{
-    KnownNames, Stop, Unit, amount_at, begins_item, is_comparison, numeral_at, operand_at,
-    part_length, unit_of,
-};
+use wd_amounts::{KnownNames, unit_of};
+use wd_clashes::begins_side;
 use wd_lex::{Terminal, Token, TokenKind};
+use wd_units::{
+    Stop, Unit, amount_at, begins_item, is_comparison, numeral_at, operand_at, part_length,
+};
 
 /// What may begin at a token.
 #[derive(Clone, Copy)]
@@ -170,7 +170,7 @@ fn item_of<'t>(unit: Option<Unit>, tokens: &'t [Token], count: usize) -> Option<
 
 /// The operand at the start and its frame, if it counts a moment or a decimal, and literals or numbers are in them.
 #[tactic(auto, unfolding(crate::specs::Items::item_at))]
-pub fn item_at<'t>(known: &KnownNames, tokens: &'t [Token]) -> Option<Item<'t>>
+pub fn item_at<'t>(known: &KnownNames<Unit>, tokens: &'t [Token]) -> Option<Item<'t>>
     ensures { Finds item_seen result (spec.item_at (known_seen known.now) tokens.now) }
 {
     let Some((operand, rest)) = operand_at(tokens) else {

@@ -1,15 +1,15 @@
 //! Numbers in place of the literals of moments.
 
 ghost use Rattle.std.specs.Prelude.{◌≡◌, ◌≤◌, length, Some, IfOk};
-ghost use Rattle.wd_amounts.specs.Amounts as amounts;
+ghost use Rattle.wd_units.specs.Amounts as amounts;
 ghost use Rattle.wd_moments.specs.Given.{Adds, most_tokens};
 ghost use Rattle.wd_moments.specs.Literals as spec;
 ghost use Rattle.wd_moments.specs.Literals.{by_amount, by_days, by_number, first_written};
 
 use crate::error::MomentError;
 use crate::write::{push_copy, push_mark, push_number};
-use wd_amounts::{Amount, Unit, amount_at, number_said};
 use wd_lex::{Span, Terminal, Token};
+use wd_units::{Amount, Unit, amount_at, number_said};
 
 /// The microseconds of a day.
 pub const DAY: u64 = 86_400_000_000;

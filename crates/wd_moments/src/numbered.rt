@@ -2,28 +2,29 @@
 
 ghost use Rattle.std.specs.Prelude.{◌≡◌, ◌≤◌, ◌<◌, ◌+◌, length, true, IfOk, IfErr};
 ghost use Rattle.wd_moments.specs.declared.error.MomentError.{MomentError};
-ghost use Rattle.wd_amounts.specs.Given.{Finds};
+ghost use Rattle.wd_units.specs.Given.{Finds};
 ghost use Rattle.wd_amounts.specs.Seen.{known_seen};
 ghost use Rattle.wd_moments.specs.Decimals.{depth_of};
 ghost use Rattle.wd_moments.specs.Given.{Adds, most_tokens};
 ghost use Rattle.wd_moments.specs.Numbered as spec;
 ghost use Rattle.wd_moments.specs.Numbered.{compared, midnight_back, midnight_front, numbers_for, numbers_within, side_beside, step};
-ghost use Rattle.wd_moments.specs.Seen.{comparison_seen, item_seen};
+ghost use Rattle.wd_clashes.specs.Seen.{comparison_seen};
+ghost use Rattle.wd_moments.specs.Seen.{item_seen};
 ghost use Rattle.wd_moments.specs.Sides.{piece, side};
-ghost use Rattle.wd_moments.specs.Unlike.{unlike_from, with_word};
+ghost use Rattle.wd_clashes.specs.Unlike.{unlike_from, with_word};
 
-use crate::comparison::{Comparison, comparison_at};
 use crate::decimal::{Stand, beyond};
 use crate::error::MomentError;
 use crate::item::{Item, Start, is_item, is_side, item_at, start_after};
 use crate::literal::DAY;
 use crate::side::{own_length, push_one};
-use crate::unlike::{first_unlike, worded};
 use crate::write::{push_copies, push_copy, push_mark, push_number};
 use std::alloc::Global;
-use wd_amounts::{KnownNames, Unit, depth_after, known_names};
+use wd_amounts::{KnownNames, known_names};
+use wd_clashes::{Comparison, comparison_at, copy_with_word, first_unlike};
 use wd_dialect_read::Statement;
 use wd_lex::{Span, Terminal, Token};
+use wd_units::{Unit, depth_after};
 
 /// How many levels deep parts of an operand are written on their own.
 const MOST_LEVELS: usize = 65;
@@ -49,8 +50,12 @@ fn push_midnight_back(out: &mut Vec<Token>, at: Span) -> Result<(), MomentError>
 }
 
 /// The comparison that begins here, if one may.
-fn compared_at<'t>(known: &KnownNames, start: Start, tokens: &'t [Token]) -> Option<Comparison<'t>>
-    ensures { Finds comparison_seen result (spec.compared_at (known_seen known.now) start tokens.now) }
+fn comparison_begun<'t>(
+    known: &KnownNames<Unit>,
+    start: Start,
+    tokens: &'t [Token],
+) -> Option<Comparison<'t>>
+    ensures { Finds comparison_seen result (spec.comparison_begun (known_seen known.now) start tokens.now) }
 {
     if is_side(start) {
         comparison_at(known, tokens)
@@ -60,7 +65,7 @@ fn compared_at<'t>(known: &KnownNames, start: Start, tokens: &'t [Token]) -> Opt
 }
 
 /// The item that begins here, if one may.
-fn item_begun<'t>(known: &KnownNames, start: Start, tokens: &'t [Token]) -> Option<Item<'t>>
+fn item_begun<'t>(known: &KnownNames<Unit>, start: Start, tokens: &'t [Token]) -> Option<Item<'t>>
     ensures { Finds item_seen result (spec.item_begun (known_seen known.now) start tokens.now) }
 {
     if is_item(start) {
@@ -75,7 +80,7 @@ fn item_begun<'t>(known: &KnownNames, start: Start, tokens: &'t [Token]) -> Opti
 #[cycle(push_numbered)]
 fn push_piece<'t>(
     out: &mut Vec<Token>,
-    known: &KnownNames,
+    known: &KnownNames<Unit>,
     levels: usize,
     unit: Unit,
     stand: Stand,
@@ -101,7 +106,7 @@ fn push_piece<'t>(
 #[cycle(push_numbered)]
 fn push_side(
     out: &mut Vec<Token>,
-    known: &KnownNames,
+    known: &KnownNames<Unit>,
     levels: usize,
     unit: Unit,
     tokens: &[Token],
@@ -126,7 +131,7 @@ fn push_side(
 #[cycle(push_numbered)]
 fn push_beside(
     out: &mut Vec<Token>,
-    known: &KnownNames,
+    known: &KnownNames<Unit>,
     levels: usize,
     at: Span,
     unit: Unit,
@@ -150,7 +155,7 @@ fn push_beside(
 #[cycle(push_numbered)]
 fn push_compared(
     out: &mut Vec<Token>,
-    known: &KnownNames,
+    known: &KnownNames<Unit>,
     levels: usize,
     comparison: &Comparison,
 ) -> Result<(), MomentError>
@@ -176,7 +181,7 @@ fn push_compared(
 #[cycle(push_numbered)]
 fn push_step<'t>(
     out: &mut Vec<Token>,
-    known: &KnownNames,
+    known: &KnownNames<Unit>,
     levels: usize,
     start: Start,
     tokens: &'t [Token],
@@ -186,7 +191,7 @@ fn push_step<'t>(
     ensures next { IfOk result (λ x. x.0 ≡ (step (numbers_within (known_seen known.now) levels) (known_seen known.now) start tokens.now).1) }
     ensures rest { IfOk result (λ x. x.1.now ≡ (step (numbers_within (known_seen known.now) levels) (known_seen known.now) start tokens.now).2) }
 {
-    if let Some(comparison) = compared_at(known, start, tokens) {
+    if let Some(comparison) = comparison_begun(known, start, tokens) {
         push_compared(out, known, levels, &comparison)?;
         return Ok((Start::Elsewhere, comparison.rest));
     }
@@ -208,7 +213,7 @@ fn push_step<'t>(
 #[cycle(push_numbered)]
 fn push_numbered(
     out: &mut Vec<Token>,
-    known: &KnownNames,
+    known: &KnownNames<Unit>,
     levels: usize,
     tokens: &[Token],
 ) -> Result<(), MomentError>
@@ -232,7 +237,11 @@ fn push_numbered(
 }
 
 /// The tokens with numbers beside what counts their unit.
-fn numbered(alloc: Global, known: &KnownNames, tokens: &[Token]) -> Result<Vec<Token>, MomentError>
+fn copy_with_numbers(
+    alloc: Global,
+    known: &KnownNames<Unit>,
+    tokens: &[Token],
+) -> Result<Vec<Token>, MomentError>
     ensures numbered { IfOk result (λ out. out.items ≡ numbers_for (known_seen known.now) tokens.now) }
     ensures within { IfOk result (λ out. length out.items ≤ most_tokens) }
     ensures long { IfErr result (λ e. e ≡ MomentError.TooLong → most_tokens < length (numbers_for (known_seen known.now) tokens.now)) }
@@ -260,7 +269,7 @@ fn is_deep(tokens: &[Token]) -> bool
 }
 
 /// Equal tokens, if there are not too many.
-fn unchanged(alloc: Global, tokens: &[Token]) -> Result<Vec<Token>, MomentError>
+fn copy_tokens(alloc: Global, tokens: &[Token]) -> Result<Vec<Token>, MomentError>
     ensures same { IfOk result (λ out. out.items ≡ tokens.now) }
     ensures within { IfOk result (λ out. length out.items ≤ most_tokens) }
     ensures long { IfErr result (λ e. e ≡ MomentError.TooLong → most_tokens < length tokens.now) }
@@ -271,9 +280,9 @@ fn unchanged(alloc: Global, tokens: &[Token]) -> Result<Vec<Token>, MomentError>
 }
 
 /// The tokens with numbers, and with a word in place of the first operator that has no equation.
-fn numbered_or_worded(
+fn rewrite_amounts(
     alloc: Global,
-    known: &KnownNames,
+    known: &KnownNames<Unit>,
     tokens: &[Token],
 ) -> Result<Vec<Token>, MomentError>
     requires { length tokens.now ≤ 9223372036854775806 }
@@ -283,10 +292,10 @@ fn numbered_or_worded(
 {
     match first_unlike(known, tokens) {
         Some(unlike) => {
-            let said = worded(alloc, unlike, tokens)?;
-            numbered(alloc, known, &said)
+            let said = copy_with_word(alloc, unlike, tokens)?;
+            copy_with_numbers(alloc, known, &said)
         }
-        None => numbered(alloc, known, tokens),
+        None => copy_with_numbers(alloc, known, tokens),
     }
 }
 
@@ -311,8 +320,8 @@ pub fn with_numbers(
     ensures long { IfErr result (λ e. e ≡ MomentError.TooLong → most_tokens < length (spec.with_numbers statements.now tokens.now)) }
 {
     if is_deep(tokens) {
-        return unchanged(alloc, tokens);
+        return copy_tokens(alloc, tokens);
     }
     let known = known_names(alloc, statements, tokens)?;
-    numbered_or_worded(alloc, &known, tokens)
+    rewrite_amounts(alloc, &known, tokens)
 }

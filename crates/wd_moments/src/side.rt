@@ -10,9 +10,10 @@ ghost use Rattle.wd_moments.specs.Sides.{first_by, one_piece};
 use crate::decimal::{Stand, beyond, push_in_units, stand_after};
 use crate::error::MomentError;
 use crate::literal::push_written;
-use wd_amounts::{KnownNames, Stop, Unit, counts_decimal, is_over, is_star, part_length, unit_of};
+use wd_amounts::{KnownNames, is_star, unit_of};
 use wd_lex::{Terminal, Token, TokenKind};
 use wd_operands::nest_length;
+use wd_units::{Stop, Unit, counts_decimal, is_over, part_length};
 
 fn is_when(kind: &TokenKind) -> bool
     ensures { result ≡ spec.is_when kind.now }
@@ -49,7 +50,7 @@ fn begins_star(tokens: &[Token]) -> bool
 }
 
 /// Whether the first `count` tokens are a factor of a product, and count no decimal.
-fn is_multiplier(known: &KnownNames, stand: Stand, count: usize, tokens: &[Token]) -> bool
+fn is_multiplier(known: &KnownNames<Unit>, stand: Stand, count: usize, tokens: &[Token]) -> bool
     requires { count ≤ length tokens.now }
     ensures { result ≡ spec.is_multiplier (known_seen known.now) stand count tokens.now }
 {
@@ -58,7 +59,7 @@ fn is_multiplier(known: &KnownNames, stand: Stand, count: usize, tokens: &[Token
 }
 
 /// How many tokens at the start are a factor by which a decimal is multiplied.
-fn multiplier_length(known: &KnownNames, stand: Stand, tokens: &[Token]) -> usize
+fn multiplier_length(known: &KnownNames<Unit>, stand: Stand, tokens: &[Token]) -> usize
     ensures value { result ≡ spec.multiplier_length (known_seen known.now) stand tokens.now }
     ensures within { result ≤ length tokens.now }
 {
@@ -73,7 +74,7 @@ fn multiplier_length(known: &KnownNames, stand: Stand, tokens: &[Token]) -> usiz
 /// How many tokens of an operand are written on their own from here on: WHEN and a condition, OVER and a window, or a factor by which a
 /// decimal is multiplied.
 #[tactic(auto, unfolding(crate::specs::Sides::own_length))]
-pub fn own_length(known: &KnownNames, unit: Unit, stand: Stand, tokens: &[Token]) -> usize
+pub fn own_length(known: &KnownNames<Unit>, unit: Unit, stand: Stand, tokens: &[Token]) -> usize
     ensures value { result ≡ spec.own_length (known_seen known.now) unit stand tokens.now }
     ensures within { result ≤ length tokens.now }
 {

@@ -1,11 +1,11 @@
 //! Writes tokens one by one, at most 65,536.
 
-ghost use Rattle.std.specs.Prelude.{◌≡◌, ◌∷◌, [], ◌≤◌, length, IfOk};
+ghost use Rattle.std.specs.Prelude.{◌≡◌, ◌∷◌, [], ◌≤◌, length};
 ghost use Rattle.wd_moments.specs.Given.{Adds, most_tokens};
 ghost use Rattle.wd_moments.specs.Literals.{made, number_token};
 
 use crate::error::MomentError;
-use std::alloc::AllocError;
+use wd_clauses::copy_token;
 use wd_lex::{Span, Terminal, Token, TokenKind};
 
 /// The most tokens that are written.
@@ -41,34 +41,12 @@ pub fn push_number(out: &mut Vec<Token>, at: Span, number: u64) -> Result<(), Mo
     push(out, Token { kind, span: at })
 }
 
-/// An equal kind with memory of its own.
-fn copied_kind(kind: &TokenKind) -> Result<TokenKind, AllocError>
-    ensures { IfOk result (λ copied. copied ≡ kind.now) }
-{
-    match kind {
-        TokenKind::Terminal(terminal) => Ok(TokenKind::Terminal(*terminal)),
-        TokenKind::Word(text) => Ok(TokenKind::Word(text.copy()?)),
-        TokenKind::Quoted(text) => Ok(TokenKind::Quoted(text.copy()?)),
-        TokenKind::Literal(text) => Ok(TokenKind::Literal(text.copy()?)),
-        TokenKind::Number(number) => Ok(TokenKind::Number(*number)),
-    }
-}
-
-/// An equal token with memory of its own.
-pub fn copied(token: &Token) -> Result<Token, AllocError>
-    ensures { IfOk result (λ copied. copied ≡ token.now) }
-{
-    let kind = copied_kind(&token.kind)?;
-    let span = token.span;
-    Ok(Token { kind, span })
-}
-
 /// Adds an equal token.
 pub fn push_copy(out: &mut Vec<Token>, token: &Token) -> Result<(), MomentError>
     requires { length out.old.items ≤ most_tokens }
     ensures { Adds result out.old.items out.new.items (token.now ∷ []) }
 {
-    let own = copied(token)?;
+    let own = copy_token(token)?;
     push(out, own)
 }
 

@@ -11,7 +11,7 @@ abbrev pub table_source : Source → joins.Source
 table_source source = record { columns = map (λ column. column.now) source.columns.items; alias = table_alias source.alias }
 
 abbrev pub join_head : Head → spec.Head
-join_head head = record { natural = option_map (λ word. word.now) head.natural; join = head.join.now; behind = head.behind.now }
+join_head head = record { natural = option_map (λ word. word.now) head.natural; join = head.join.now; after = head.after.now }
 
 abbrev pub natural_table : Joined → spec.NaturalTable
 natural_table joined = record {

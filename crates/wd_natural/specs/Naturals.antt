@@ -16,7 +16,7 @@ use Rattle.wd_natural.specs.Kinds.{begins_condition, is_join, is_natural}
 pub record Head : Type 0 where
   pub natural : Option Token
   pub join : Token
-  pub behind : List Token
+  pub after : List Token
 
 -- a table as it is joined: NATURAL, if it is written, FROM or JOIN, the table with its alias, its columns, and what follows it: a
 -- condition, or INNER before the next JOIN
@@ -27,21 +27,21 @@ pub record NaturalTable : Type 0 where
   pub columns : List (List ℕ)
   pub rest : List Token
 
-abbrev pub behind_inner : List Token → List Token
-behind_inner [] = []
-behind_inner (word ∷ tokens) = if is_inner word.kind then tokens else word ∷ tokens
+abbrev pub after_inner : List Token → List Token
+after_inner [] = []
+after_inner (word ∷ tokens) = if is_inner word.kind then tokens else word ∷ tokens
 
 -- JOIN after NATURAL
 abbrev pub natural_head : Token → List Token → Option Head
 natural_head word [] = None
-natural_head word (join ∷ tokens) = if is_join join.kind then Some (record { natural = Some word; join = join; behind = tokens }) else None
+natural_head word (join ∷ tokens) = if is_join join.kind then Some (record { natural = Some word; join = join; after = tokens }) else None
 
 -- NATURAL [INNER] JOIN, or FROM, or JOIN
 abbrev pub head_at : List Token → Option Head
 head_at [] = None
 head_at (word ∷ tokens) =
-    if is_natural word.kind then natural_head word (behind_inner tokens)
-    else (if begins_table word.kind then Some (record { natural = None; join = word; behind = tokens }) else None)
+    if is_natural word.kind then natural_head word (after_inner tokens)
+    else (if begins_table word.kind then Some (record { natural = None; join = word; after = tokens }) else None)
 
 -- nothing, or INNER before the next JOIN, comes after a table or its condition; a NATURAL JOIN has no condition
 abbrev pub fits : Option Token → List Token → Bool
@@ -71,22 +71,22 @@ with_source head tokens source = record {
 abbrev pub joined_at : List TableRule → Head → List Token → Option NaturalTable
 joined_at schema head tokens = source_at schema tokens >>= λ source. if_read (with_source head tokens source)
 
-abbrev pub with_behind : List Token → NaturalTable → Option (NaturalTable × List Token)
-with_behind behind table = Some (table, behind)
+abbrev pub with_after : List Token → NaturalTable → Option (NaturalTable × List Token)
+with_after after table = Some (table, after)
 
 -- a table with the words that join it, and the tokens after it
-abbrev pub behind_head : List TableRule → Head → Option (NaturalTable × List Token)
-behind_head schema head = joined_at schema head (take (reach Table head.behind) head.behind) >>= with_behind (drop (reach Table head.behind) head.behind)
+abbrev pub after_head : List TableRule → Head → Option (NaturalTable × List Token)
+after_head schema head = joined_at schema head (take (reach Table head.after) head.after) >>= with_after (drop (reach Table head.after) head.after)
 
 unfoldable pub table_at : List TableRule → List Token → Option (NaturalTable × List Token)
-table_at schema tokens = head_at tokens >>= behind_head schema
+table_at schema tokens = head_at tokens >>= after_head schema
 
 -- the most tables of a FROM clause (this project's choice)
 abbrev pub most_tables : ℕ
 most_tables = 32
 
 abbrev pub with_next : (List Token → Option (List NaturalTable)) → NaturalTable → List Token → Option (List NaturalTable)
-with_next further table behind = if is_end behind then Some (table ∷ []) else with_front table (further behind)
+with_next further table after = if is_end after then Some (table ∷ []) else with_front table (further after)
 
 abbrev pub with_further : (List Token → Option (List NaturalTable)) → Option (NaturalTable × List Token) → Option (List NaturalTable)
 with_further further None = None

@@ -25,13 +25,13 @@ with_tables front after tables = Some (front ++ all_joined [] tables ++ after)
 abbrev pub respelled_clause : List TableRule → List Token → List Token → List Token → Option (List Token)
 respelled_clause schema front clause after = tables_in schema clause >>= with_tables front after
 
-abbrev pub respelled_behind : List TableRule → List Token → List Token → Option (List Token)
-respelled_behind schema front tokens =
+abbrev pub respelled_after : List TableRule → List Token → List Token → Option (List Token)
+respelled_after schema front tokens =
     if begins is_from tokens then respelled_clause schema front (take (reach Clause tokens) tokens) (drop (reach Clause tokens) tokens) else None
 
 -- a query in which the FROM clause that begins at a place is respelled
 unfoldable pub respelled_at : List TableRule → ℕ → List Token → Option (List Token)
-respelled_at schema place tokens = respelled_behind schema (take place tokens) (drop place tokens)
+respelled_at schema place tokens = respelled_after schema (take place tokens) (drop place tokens)
 
 -- the most FROM clauses that are looked at (this project's choice)
 abbrev pub most_clauses : ℕ

@@ -10,7 +10,7 @@ ghost use Rattle.wd_using.specs.Joins as joins;
 use crate::kind::{begins_condition, begins_table, is_inner, is_join, is_natural};
 use crate::source::{Source, source_at};
 use std::alloc::{AllocError, Global};
-use wd_distinct_on::cut;
+use wd_distinct_on::split_at_place;
 use wd_lex::Token;
 use wd_schema::Schema;
 use wd_using::{Extent, split_at};
@@ -20,7 +20,7 @@ use wd_using::{Extent, split_at};
 pub struct Head<'t> {
     pub natural: Option<&'t Token>,
     pub join: &'t Token,
-    pub behind: &'t [Token],
+    pub after: &'t [Token],
 }
 
 /// A table as it is joined: NATURAL, if it is written, FROM or JOIN, the table with its alias, its columns, and the tokens after it.
@@ -34,8 +34,8 @@ pub struct Joined<'t> {
 }
 
 /// The tokens after INNER, which may be left out.
-fn behind_inner(tokens: &[Token]) -> &[Token]
-    ensures { result.now ≡ spec.behind_inner tokens.now }
+fn after_inner(tokens: &[Token]) -> &[Token]
+    ensures { result.now ≡ spec.after_inner tokens.now }
 {
     match tokens {
         [word, rest @ ..] if is_inner(&word.kind) => rest,
@@ -48,10 +48,10 @@ fn natural_head<'t>(word: &'t Token, tokens: &'t [Token]) -> Option<Head<'t>>
     ensures { Finds named.join_head result (spec.natural_head word.now tokens.now) }
 {
     match tokens {
-        [join, behind @ ..] if is_join(&join.kind) => Some(Head {
+        [join, after @ ..] if is_join(&join.kind) => Some(Head {
             natural: Some(word),
             join,
-            behind,
+            after,
         }),
         _ => None,
     }
@@ -61,17 +61,17 @@ fn natural_head<'t>(word: &'t Token, tokens: &'t [Token]) -> Option<Head<'t>>
 fn head_at(tokens: &[Token]) -> Option<Head<'_>>
     ensures { Finds named.join_head result (spec.head_at tokens.now) }
 {
-    let [word, behind @ ..] = tokens else {
+    let [word, after @ ..] = tokens else {
         return None;
     };
     if is_natural(&word.kind) {
-        return natural_head(word, behind_inner(behind));
+        return natural_head(word, after_inner(after));
     }
     if begins_table(&word.kind) {
         return Some(Head {
             natural: None,
             join: word,
-            behind,
+            after,
         });
     }
     None
@@ -116,7 +116,7 @@ fn joined_at<'t>(
     let Some(Source { columns, alias }) = source_at(alloc, schema, tokens)? else {
         return Ok(None);
     };
-    let (table, rest) = cut(alias.count, tokens);
+    let (table, rest) = split_at_place(alias.count, tokens);
     if fits(head.natural, rest) && columns.len() <= MOST_COLUMNS {
         return Ok(Some(Joined {
             natural: head.natural,
@@ -141,9 +141,9 @@ fn table_at<'t>(
     let Some(head) = head_at(tokens) else {
         return Ok(None);
     };
-    let (part, behind) = split_at(Extent::Table, head.behind);
+    let (part, after) = split_at(Extent::Table, head.after);
     match joined_at(alloc, schema, &head, part)? {
-        Some(table) => Ok(Some((table, behind))),
+        Some(table) => Ok(Some((table, after))),
         None => Ok(None),
     }
 }
@@ -173,12 +173,12 @@ pub fn joined_tables<'t>(
     let mut rest = tokens;
     for _ in 0..MOST_TABLES {
         match table_at(alloc, schema, rest)? {
-            Some((table, behind)) => {
+            Some((table, after)) => {
                 tables.push(table)?;
-                if is_end(behind) {
+                if is_end(after) {
                     return Ok(Some(tables));
                 }
-                rest = behind;
+                rest = after;
             }
             None => return Ok(None),
         }

@@ -9,10 +9,10 @@ ghost use Rattle.wd_schema.specs.Schemas.{schema_of};
 
 use crate::join::{Joined, joined_tables};
 use crate::kind::{has_natural, starts_with_from};
-use crate::write::written;
+use crate::write::write_clause;
 use std::alloc::{AllocError, Global};
 use wd_clauses::{RespellError, Stop, split};
-use wd_distinct_on::{Selects, cut, respelled_backwards};
+use wd_distinct_on::{Selects, respelled_backwards, split_at_place};
 use wd_lex::Token;
 use wd_schema::Schema;
 
@@ -46,7 +46,7 @@ fn respelled_clause(
 {
     match tables_in(alloc, schema, clause)? {
         Some(tables) => {
-            let tokens = written(alloc, front, &tables, after)?;
+            let tokens = write_clause(alloc, front, &tables, after)?;
             Ok(Some(tokens))
         }
         None => Ok(None),
@@ -63,7 +63,7 @@ fn respelled_at(
 ) -> Result<Option<Vec<Token>>, RespellError>
     ensures { MayWrite (λ x. x.items) result (spec.respelled_at (schema_of schema.now) place tokens.now) }
 {
-    let (front, rest) = cut(place, tokens);
+    let (front, rest) = split_at_place(place, tokens);
     if starts_with_from(rest) {
         let (clause, after) = split(Stop::Clause, rest);
         let tokens = respelled_clause(alloc, schema, front, clause, after)?;

@@ -13,7 +13,7 @@ ghost use Rattle.wd_using.specs.Named as aliases;
 use crate::kind::is_select;
 use std::alloc::{AllocError, Global};
 use wd_clauses::{Stop, closing, parts, split};
-use wd_distinct_on::{cut, item_of};
+use wd_distinct_on::{item_of, split_at_place};
 use wd_lex::{Token, TokenKind};
 use wd_schema::{Column, Schema, Table};
 use wd_using::{Alias, alias_at, begins_distinct, opens};
@@ -26,7 +26,7 @@ pub struct Source<'t> {
 }
 
 /// The declared table of that name.
-fn declared<'t>(schema: &'t Schema, name: &TokenKind) -> Option<&'t Table>
+fn declared_table<'t>(schema: &'t Schema, name: &TokenKind) -> Option<&'t Table>
     ensures { Finds (λ table. rules.table_of table.now) result (spec.declared (schema_of schema.now) name.now) }
 {
     match name {
@@ -81,8 +81,8 @@ fn derived_columns(alloc: Global, tokens: &[Token]) -> Result<Option<Vec<&str>>,
     if !is_select(&select.kind) {
         return Ok(None);
     }
-    let (_distinct, list) = cut(if begins_distinct(rest) { 1 } else { 0 }, rest);
-    let (items, _behind) = split(Stop::From, list);
+    let (_distinct, list) = split_at_place(if begins_distinct(rest) { 1 } else { 0 }, rest);
+    let (items, _after) = split(Stop::From, list);
     match parts(alloc, items)? {
         Some(parts) => {
             let names = item_names(alloc, &parts)?;
@@ -114,7 +114,7 @@ fn declared_source<'t>(
 ) -> Result<Option<Source<'t>>, AllocError>
     ensures { IfOk result (λ found. Finds named.table_source found (spec.declared_source (aliases.table_alias alias.entry) (spec.declared (schema_of schema.now) name.now))) }
 {
-    match declared(schema, name) {
+    match declared_table(schema, name) {
         Some(table) => {
             let columns = names_of_columns(alloc, &table.columns)?;
             Ok(Some(Source { columns, alias }))

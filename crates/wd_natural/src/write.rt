@@ -10,7 +10,7 @@ ghost use Rattle.wd_natural.specs.Written as spec;
 
 use crate::join::Joined;
 use std::alloc::{AllocError, Global};
-use wd_clauses::{RespellError, add, add_all, added, copy_token};
+use wd_clauses::{RespellError, add, add_all, added_terminal, copy_token};
 use wd_distinct_on::added_name;
 use wd_lex::{Terminal, Token};
 
@@ -52,7 +52,7 @@ fn add_name(
 ) -> Result<(), RespellError>
     ensures { Writes written.old.items written.new.items result (spelling.added first word.now ∷ naming.added_name name.now word.now ∷ []) }
 {
-    add(written, added(first, word))?;
+    add(written, added_terminal(first, word))?;
     add(written, added_name(alloc, name, word)?)?;
     Ok(())
 }
@@ -86,13 +86,13 @@ fn add_condition(
     ensures { Writes written.old.items written.new.items result (spec.condition (map (λ name. name.now) names.now) word.now) }
 {
     if names.is_empty() {
-        add(written, added(Terminal::On, word))?;
-        add(written, added(Terminal::True, word))?;
+        add(written, added_terminal(Terminal::On, word))?;
+        add(written, added_terminal(Terminal::True, word))?;
         return Ok(());
     }
-    add(written, added(Terminal::Using, word))?;
+    add(written, added_terminal(Terminal::Using, word))?;
     add_names(alloc, written, names, word)?;
-    add(written, added(Terminal::RightBracket, word))?;
+    add(written, added_terminal(Terminal::RightBracket, word))?;
     Ok(())
 }
 
@@ -161,7 +161,7 @@ fn add_all_joined(
 }
 
 /// What replaces a FROM clause between these tokens.
-pub fn written(
+pub fn write_clause(
     alloc: Global,
     front: &[Token],
     tables: &[Joined],

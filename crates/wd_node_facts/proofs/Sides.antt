@@ -6,7 +6,7 @@ use Rattle.std.proofs.lemmas.Bool.{and_parts}
 use Rattle.std.proofs.lemmas.List.Folds.{list_all-map}
 use Rattle.wd_schema.specs.Tables.{TableRule}
 use Rattle.wd_plan.specs.Fits.{fits, width}
-use Rattle.wd_plan.specs.Plans.{PlanTree, Scan, Join, Filter, Map, Group, Window, Distinct, Limit, GroupRule}
+use Rattle.wd_plan.specs.Plans.{PlanTree, Scan, Join, Over, Filter, Map, Group, Window, Distinct, Limit, GroupRule}
 use Rattle.wd_step_facts.specs.declared.facts.Member.{Member}
 use Rattle.wd_step_facts.specs.declared.facts.Member.TheVariants as member
 use Rattle.wd_step_facts.specs.Facts.{Fact, FactList, columns_named, is_column, is_plain, is_plain_fact, moved, moved_facts}
@@ -64,12 +64,7 @@ facts_same (f ∷ facts) = λ i. record { from = moved_same f.from i; to = moved
 pub none_named : (plan : PlanTree) → AreOfChildren plan [] []
 none_named (Scan table columns) = tt
 none_named (Join condition left right) = (tt, tt)
-none_named (Filter condition input) = tt
-none_named (Map outputs input) = tt
-none_named (Group g input) = tt
-none_named (Window w input) = tt
-none_named (Distinct input) = tt
-none_named (Limit limit input) = tt
+none_named (Over step input) = tt
 
 -- what one child keeps, before others
 one : (kept more own : List Fact) → more ≡ [] → kept ++ own ≡ moved_facts (λ c. 0 + c) member.Row kept ++ (moved_facts (λ c. 0 + c) member.Right more ++ own)
@@ -119,12 +114,12 @@ given_pieces tables plan kept more h = sym (pieces plan h)
     pieces (Join condition left right) h = with_all _ _ _ _ (
         five (moved_facts (λ c. c) member.Left kept) (moved_facts (λ c. width left + c) member.Right more) _ _ _
         ∙ ap (λ f. moved_facts f member.Left kept ++ (moved_facts (λ c. width left + c) member.Right more ++ (given tables (Join condition left right) [] []).list)) plus_none)
-    pieces (Filter condition input) h = with_all _ _ _ _ (append_assoc kept _ _ ∙ one kept more _ h)
-    pieces (Map outputs input) h = with_all _ _ _ _ (λ i. moved_facts (λ c. length outputs + c) member.Row kept ++ (moved_facts (λ c. 0 + c) member.Right (sym h i) ++ (given tables (Map outputs input) [] []).list))
-    pieces (Group g input) h = with_all _ _ _ _ (of_group (group_key_facts g) (facts_of_group g kept) more (facts_of_group g []) (of_none g) h)
-    pieces (Window w input) h = with_all _ _ _ _ (one kept more _ h)
-    pieces (Distinct input) h = with_all _ _ _ _ (one kept more _ h)
-    pieces (Limit limit input) h = with_all _ _ _ _ (sym (append-nil kept) ∙ one kept more [] h)
+    pieces (Over (Filter condition) input) h = with_all _ _ _ _ (append_assoc kept _ _ ∙ one kept more _ h)
+    pieces (Over (Map outputs) input) h = with_all _ _ _ _ (λ i. moved_facts (λ c. length outputs + c) member.Row kept ++ (moved_facts (λ c. 0 + c) member.Right (sym h i) ++ (given tables (Over (Map outputs) input) [] []).list))
+    pieces (Over (Group g) input) h = with_all _ _ _ _ (of_group (group_key_facts g) (facts_of_group g kept) more (facts_of_group g []) (of_none g) h)
+    pieces (Over (Window w) input) h = with_all _ _ _ _ (one kept more _ h)
+    pieces (Over Distinct input) h = with_all _ _ _ _ (one kept more _ h)
+    pieces (Over (Limit limit) input) h = with_all _ _ _ _ (sym (append-nil kept) ∙ one kept more [] h)
 
 -- the same, of what the code finds
 pub given_seen : (tables : List TableRule) (plan : PlanTree) (kept more : List Fact) (group : Bool) (own : FactList) (by beside : ℕ) (row : Member) (through : List Fact) → HasNoOther plan kept more
@@ -182,19 +177,14 @@ module _ (tables : List TableRule) where
   pub left_narrow : (plan : PlanTree) (kept more : List Fact) → fits tables plan ≡ true → AreOfChildren plan kept more → HasNoOther plan kept more → list_all (is_plain_fact (65536 - first_below plan)) (kept_through plan kept) ≡ true
   left_narrow (Scan table columns) kept more f h o = none_plain 65536 kept o.0
   left_narrow (Join condition left right) kept more f h o = left_kept tables condition left right f kept h.0
-  left_narrow (Filter condition input) kept more f h o = wide (Filter condition input) kept f h
-  left_narrow (Map outputs input) kept more f h o = input_kept tables outputs input f kept h
-  left_narrow (Group g input) kept more f h o = group_plain g 65536 kept (wide input kept (and_parts (fits tables input) _ f).0 h)
-  left_narrow (Window w input) kept more f h o = wide input kept (and_parts (fits tables input) _ f).0 h
-  left_narrow (Distinct input) kept more f h o = wide (Distinct input) kept f h
-  left_narrow (Limit limit input) kept more f h o = wide (Limit limit input) kept f h
+  left_narrow (Over (Filter condition) input) kept more f h o = wide (Over (Filter condition) input) kept f h
+  left_narrow (Over (Map outputs) input) kept more f h o = input_kept tables outputs input f kept h
+  left_narrow (Over (Group g) input) kept more f h o = group_plain g 65536 kept (wide input kept (and_parts (fits tables input) _ f).0 h)
+  left_narrow (Over (Window w) input) kept more f h o = wide input kept (and_parts (fits tables input) _ f).0 h
+  left_narrow (Over Distinct input) kept more f h o = wide (Over Distinct input) kept f h
+  left_narrow (Over (Limit limit) input) kept more f h o = wide (Over (Limit limit) input) kept f h
 
   pub right_narrow : (plan : PlanTree) (kept more : List Fact) → fits tables plan ≡ true → AreOfChildren plan kept more → HasNoOther plan kept more → list_all (is_plain_fact (65536 - first_beside plan)) more ≡ true
   right_narrow (Scan table columns) kept more f h o = none_plain 65536 more o.1
   right_narrow (Join condition left right) kept more f h o = right_kept tables condition left right f more h.1
-  right_narrow (Filter condition input) kept more f h o = none_plain 65536 more o
-  right_narrow (Map outputs input) kept more f h o = none_plain 65536 more o
-  right_narrow (Group g input) kept more f h o = none_plain 65536 more o
-  right_narrow (Window w input) kept more f h o = none_plain 65536 more o
-  right_narrow (Distinct input) kept more f h o = none_plain 65536 more o
-  right_narrow (Limit limit input) kept more f h o = none_plain 65536 more o
+  right_narrow (Over step input) kept more f h o = none_plain 65536 more o

@@ -2,7 +2,7 @@
 use Rattle.std.specs.Prelude.{◌≡◌, ℕ, ◌+◌, ◌-◌, Bool, true, false, List, [], ◌++◌, map, length, slice_get, Option, Some, None, ⊤, if◌then◌else◌}
 use Rattle.std.specs.List.{list_all}
 use Rattle.wd_plan.specs.Fits.{width}
-use Rattle.wd_plan.specs.Plans.{PlanTree, Scan, Join, Filter, Map, Group, Window, Distinct, Limit}
+use Rattle.wd_plan.specs.Plans.{PlanTree, Scan, Join, Over, Map, Group}
 use Rattle.wd_step_facts.specs.declared.facts.Member.{Member}
 use Rattle.wd_step_facts.specs.declared.facts.Member.TheVariants as member
 use Rattle.wd_step_facts.specs.Facts.{Fact, FactList, columns_named, fact_of, is_plain_fact, moved_facts}
@@ -58,66 +58,31 @@ pub record AreNarrow (facts : NodeFacts) : Type 0 where
 abbrev pub HasNoOther : PlanTree → List Fact → List Fact → Type 0
 HasNoOther (Scan table columns) kept more = (kept ≡ []) × (more ≡ [])
 HasNoOther (Join condition left right) kept more = ⊤
-HasNoOther (Filter condition input) kept more = more ≡ []
-HasNoOther (Map outputs input) kept more = more ≡ []
-HasNoOther (Group g input) kept more = more ≡ []
-HasNoOther (Window w input) kept more = more ≡ []
-HasNoOther (Distinct input) kept more = more ≡ []
-HasNoOther (Limit limit input) kept more = more ≡ []
+HasNoOther (Over step input) kept more = more ≡ []
 
 -- the number of the child's column 0 among the columns of the facts; at a Join of the left child's
 abbrev pub first_below : PlanTree → ℕ
-first_below (Scan table columns) = 0
-first_below (Join condition left right) = 0
-first_below (Filter condition input) = 0
-first_below (Map outputs input) = length outputs
-first_below (Group g input) = 0
-first_below (Window w input) = 0
-first_below (Distinct input) = 0
-first_below (Limit limit input) = 0
+first_below (Over (Map outputs) input) = length outputs
+first_below plan = 0
 
 -- the member that the child's row becomes
 abbrev pub row_below : PlanTree → Member
-row_below (Scan table columns) = member.Row
 row_below (Join condition left right) = member.Left
-row_below (Filter condition input) = member.Row
-row_below (Map outputs input) = member.Row
-row_below (Group g input) = member.Row
-row_below (Window w input) = member.Row
-row_below (Distinct input) = member.Row
-row_below (Limit limit input) = member.Row
+row_below plan = member.Row
 
 -- the number of the column 0 of a Join's right child
 abbrev pub first_beside : PlanTree → ℕ
-first_beside (Scan table columns) = 0
 first_beside (Join condition left right) = width left
-first_beside (Filter condition input) = 0
-first_beside (Map outputs input) = 0
-first_beside (Group g input) = 0
-first_beside (Window w input) = 0
-first_beside (Distinct input) = 0
-first_beside (Limit limit input) = 0
+first_beside plan = 0
 
 -- the facts that are given by what the child keeps; of a Group what its one set keeps of them
 abbrev pub kept_through : PlanTree → List Fact → List Fact
-kept_through (Scan table columns) kept = kept
-kept_through (Join condition left right) kept = kept
-kept_through (Filter condition input) kept = kept
-kept_through (Map outputs input) kept = kept
-kept_through (Group g input) kept = facts_of_group g kept
-kept_through (Window w input) kept = kept
-kept_through (Distinct input) kept = kept
-kept_through (Limit limit input) kept = kept
+kept_through (Over (Group g) input) kept = facts_of_group g kept
+kept_through plan kept = kept
 
 abbrev pub is_group : PlanTree → Bool
-is_group (Scan table columns) = false
-is_group (Join condition left right) = false
-is_group (Filter condition input) = false
-is_group (Map outputs input) = false
-is_group (Group g input) = true
-is_group (Window w input) = false
-is_group (Distinct input) = false
-is_group (Limit limit input) = false
+is_group (Over (Group g) input) = true
+is_group plan = false
 
 -- a node's own facts and those of its sides; those of a Group come first
 abbrev pub with_own : Bool → FactList → List Fact → List Fact → FactList

@@ -1,4 +1,4 @@
-//! A plan's first table, handed over to it where no other Scan reads it.
+//! A plan's first table, moved into its evaluation where no other Scan reads it.
 
 ghost use Rattle.std.specs.Prelude.{◌≡◌};
 ghost use Rattle.wd_nodes.specs.Held as spec;
@@ -37,22 +37,6 @@ fn first_table(plan: &Plan) -> u16
     }
 }
 
-/// Whether a Scan of the plan reads the table.
-fn scans(number: u16, plan: &Plan) -> bool
-    ensures { result ≡ spec.scans number (plan_of plan.now) }
-{
-    match plan {
-        Plan::Scan { table, .. } => number == *table,
-        Plan::Join { left, right, .. } => scans(number, left) || scans(number, right),
-        Plan::Filter { input, .. } => scans(number, input),
-        Plan::Map { input, .. } => scans(number, input),
-        Plan::Group { input, .. } => scans(number, input),
-        Plan::Window { input, .. } => scans(number, input),
-        Plan::Distinct { input } => scans(number, input),
-        Plan::Limit { input, .. } => scans(number, input),
-    }
-}
-
 /// Whether no Scan of the plan but the first one reads the table.
 fn scans_first_alone(number: u16, plan: &Plan) -> bool
     ensures { result ≡ spec.scans_first_alone number (plan_of plan.now) }
@@ -60,7 +44,7 @@ fn scans_first_alone(number: u16, plan: &Plan) -> bool
     match plan {
         Plan::Scan { .. } => true,
         Plan::Join { left, right, .. } => {
-            scans_first_alone(number, left) && !scans(number, right)
+            scans_first_alone(number, left) && !right.scans(usize::from(number))
         }
         Plan::Filter { input, .. } => scans_first_alone(number, input),
         Plan::Map { input, .. } => scans_first_alone(number, input),

@@ -26,7 +26,7 @@ use wd_plan::{Expr, Group, Outcome};
 use wd_steps::{distinct_positions, map_columns, map_own_rows, passing_positions, shown_columns};
 use wd_value::{OutOfMemory, Row};
 
-/// The table that is handed over, and else the one with this number, or the error that these are more
+/// The table that is moved in, and else the one with this number, or the error that these are more
 /// than `most` rows.
 pub fn scan_table(
     tables: &[Vec<Row>],
@@ -239,7 +239,7 @@ fn map_stored_columns(
 {
     match selected_columns(alloc, outputs)? {
         Some(selected) => {
-            let columns = columns.selected(alloc, &selected)?;
+            let columns = columns.select(alloc, &selected)?;
             Ok(Relation::ByColumn(columns))
         }
         None => map_source(alloc, outputs, &RowSource::of_columns(&columns)),

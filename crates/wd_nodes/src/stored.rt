@@ -133,7 +133,7 @@ pub fn pick_rows(
             Ok(Relation::Made(Outcome::Rows(rows)))
         }
         StoredRows::ByColumn(columns) => {
-            let columns = columns.picked(alloc, positions)?;
+            let columns = columns.pick(alloc, positions)?;
             Ok(Relation::ByColumn(columns))
         }
     }

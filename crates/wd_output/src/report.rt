@@ -47,7 +47,7 @@ impl Report {
     fn add(&mut self, alloc: Global, told: Told<'_, '_, '_>) -> Result<(), OutOfMemory>
         ensures kept { IfErr result (λ _. self.new.bytes.items ≡ self.old.bytes.items) }
     {
-        let more = told_in(alloc, self.format, told)?;
+        let more = block_in(alloc, self.format, told)?;
         Ok(self.bytes.extend_from_slice(&more)?)
     }
 
@@ -211,7 +211,7 @@ impl Report {
 }
 
 /// A block in a format.
-fn told_in(alloc: Global, format: Format, told: Told<'_, '_, '_>) -> Result<Vec<u8>, OutOfMemory> {
+fn block_in(alloc: Global, format: Format, told: Told<'_, '_, '_>) -> Result<Vec<u8>, OutOfMemory> {
     match format {
         Format::Text => Ok(Vec::from_slice(alloc, told.block.as_bytes())?),
         Format::Json => {

@@ -46,7 +46,7 @@ pub fn add_plan(
     };
     let drawn = add_box(alloc, &mut part, grounds, &tables, from, plan)?;
     page.append(&part)?;
-    Ok(drawn.behind.node)
+    Ok(drawn.after.node)
 }
 
 /// The state of a walk over a plan: the number of the next node, and how many tables it has met.
@@ -59,7 +59,7 @@ struct At {
 /// The result of drawing a plan: the state of the walk after it, and the names of its columns.
 #[derive(Drop)]
 struct Drawn {
-    behind: At,
+    after: At,
     names: Vec<Text>,
 }
 
@@ -75,12 +75,12 @@ fn add_box(
     page.open(Tag::Division, Class::Node)?;
     let below = match plan {
         Plan::Scan { .. } => Drawn {
-            behind: at,
+            after: at,
             names: Vec::new(alloc),
         },
         Plan::Join { left, right, .. } => {
             let first = add_box(alloc, page, grounds, tables, at, left)?;
-            let second = add_box(alloc, page, grounds, tables, first.behind, right)?;
+            let second = add_box(alloc, page, grounds, tables, first.after, right)?;
             join_plans(first.names, second)?
         }
         Plan::Filter { input, .. }
@@ -95,7 +95,7 @@ fn add_box(
         page,
         grounds,
         tables,
-        below.behind,
+        below.after,
         &below.names,
         plan,
     )?;
@@ -105,15 +105,12 @@ fn add_box(
 
 /// Two plans joined: the columns of both.
 fn join_plans(names: Vec<Text>, second: Drawn) -> Result<Drawn, OutOfMemory> {
-    let Drawn {
-        behind,
-        names: more,
-    } = second;
+    let Drawn { after, names: more } = second;
     let mut names = names;
     for name in more {
         names.push(name)?;
     }
-    Ok(Drawn { behind, names })
+    Ok(Drawn { after, names })
 }
 
 /// The result of drawing the top node of a plan whose inputs are drawn.
@@ -124,22 +121,32 @@ fn above(
     below: Drawn,
     plan: &Plan,
 ) -> Result<Drawn, OutOfMemory> {
-    let Drawn { behind, names } = below;
-    let At { node, scan } = behind;
+    let Drawn { after, names } = below;
+    let At { node, scan } = after;
     let node = node.saturating_add(1);
-    match plan {
-        Plan::Scan { table, .. } => Ok(Drawn {
-            behind: At {
-                node,
-                scan: scan.saturating_add(1),
-            },
-            names: scan_names(alloc, schema, *table, qualifier(tables, scan))?,
-        }),
-        _ => Ok(Drawn {
-            behind: At { node, scan },
-            names: names_above(alloc, names, plan)?,
-        }),
-    }
+    let next = match plan {
+        Plan::Scan { .. } => scan.saturating_add(1),
+        Plan::Join { .. }
+        | Plan::Filter { .. }
+        | Plan::Map { .. }
+        | Plan::Group { .. }
+        | Plan::Window { .. }
+        | Plan::Distinct { .. }
+        | Plan::Limit { .. } => scan,
+    };
+    let names = match plan {
+        Plan::Scan { table, .. } => scan_names(alloc, schema, *table, qualifier(tables, scan))?,
+        Plan::Map { outputs, .. } => output_names(alloc, &names, outputs)?,
+        Plan::Group { group, .. } => group_names(alloc, &names, group)?,
+        Plan::Window { window, .. } => window_names(alloc, &names, window)?,
+        Plan::Join { .. } | Plan::Filter { .. } | Plan::Distinct { .. } | Plan::Limit { .. } => {
+            names
+        }
+    };
+    Ok(Drawn {
+        after: At { node, scan: next },
+        names,
+    })
 }
 
 /// The qualifier of the names of a table's columns, where several tables are read.
@@ -150,16 +157,6 @@ fn qualifier(tables: &[Text], scan: usize) -> Option<&str> {
     match tables.get(scan) {
         Some(name) => Some(name.as_str()),
         None => None,
-    }
-}
-
-/// The names of a plan's columns, over those of its inputs.
-fn names_above(alloc: Global, names: Vec<Text>, plan: &Plan) -> Result<Vec<Text>, OutOfMemory> {
-    match plan {
-        Plan::Map { outputs, .. } => output_names(alloc, &names, outputs),
-        Plan::Group { group, .. } => group_names(alloc, &names, group),
-        Plan::Window { window, .. } => window_names(alloc, &names, window),
-        _ => Ok(names),
     }
 }
 
@@ -553,7 +550,7 @@ fn push_counts(words: &mut String, limit: &Limit) -> Result<(), OutOfMemory> {
         None => words.push_str("the rows")?,
     }
     if offset > 0 {
-        write!(words, " behind the first {offset}")?;
+        write!(words, " after the first {offset}")?;
     }
     if limit.ties {
         words.push_str(" with ties")?;

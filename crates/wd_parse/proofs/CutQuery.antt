@@ -307,7 +307,7 @@ module _ (c : ℕ) where
 
   -- where the tokens pass a limit, with so many tokens left
   abbrev pub Passed : ℕ → Kinds → ℕ → Type 0
-  Passed d ts left = (front : Kinds) × (token : TokenKind) × (more : Kinds) × (tree : QueryTree) × (behind : Kinds) × (suc (length more) ≡ left) × (ts ≡ front ++ token ∷ more) × (spell tree ≡ front ++ token ∷ behind) × IsWellLevelled tree × QueryPasses c d tree (token ∷ behind)
+  Passed d ts left = (front : Kinds) × (token : TokenKind) × (more : Kinds) × (tree : QueryTree) × (after : Kinds) × (suc (length more) ≡ left) × (ts ≡ front ++ token ∷ more) × (spell tree ≡ front ++ token ∷ after) × IsWellLevelled tree × QueryPasses c d tree (token ∷ after)
 
   select_passed : (d : ℕ) (ts : Kinds) (left : ℕ) → SelectCut d ts left → Passed d ts left
   select_passed d ts left i = let y = i.found [] in (y.0, i.token, i.more, query i.tree false, y.1, i.counted, y.2, y.3, i.good, y.4)

@@ -49,7 +49,7 @@ good_opened : (n d : ℕ) (within : ℕ → List Mark) {P : ℕ → Type 0} {fro
 good_opened n zero within e f = (λ h. let le = h.each.0 in absurd (omega (arith, e, le)), λ b. absurd b)
 good_opened n (suc d) within e f = let g = f d (omega (arith, e)) in (λ h. g.0 (record { each = h.each.1 }), λ b. record { each = (omega (arith, e), (g.1 b).each) })
 
--- an operator behind its left operand and before its right one, and one behind its only operand
+-- an operator after its left operand and before its right one, and one after its only operand
 good_binary : (mark : Mark) {xs ys : List Mark} {P Q : Type 0} → (Good xs ↔ P) → (Good ys ↔ Q) → Good (xs ++ mark ∷ ys) ↔ (P × Q × IsGood mark)
 good_binary mark {xs = xs} {ys = ys} f g = (λ h. let more = second xs (mark ∷ ys) h.each in (f.0 (record { each = first xs (mark ∷ ys) h.each }), g.0 (record { each = more.1 }), more.0), λ p. record { each = both xs (mark ∷ ys) (f.1 p.0).each (p.2, (g.1 p.1).each) })
 

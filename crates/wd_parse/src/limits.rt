@@ -6,7 +6,7 @@ ghost use Rattle.wd_parse.specs.Reading.{row_at, offset_at, fetch_word_at, numbe
 ghost use Rattle.wd_read_cursor.specs.Given.{Gives, Finds, MayGive};
 
 use wd_lex::{Terminal, Token, TokenKind};
-use wd_read_cursor::{KeyWord, Refusal, eat, eat_word, expect_word, number_at, unexpected};
+use wd_read_cursor::{KeyWord, Refusal, eat, eat_word, expect_word, number_at, unexpected_token};
 use wd_syntax::{Count, FetchWord, Limits, Offset, RowWord};
 
 /// `ROW` or `ROWS`, if the tokens begin with one.
@@ -85,7 +85,7 @@ fn fetch_at(tokens: &[Token]) -> Result<(Count, &[Token]), Refusal>
     let (first, rest) = fetch_word_at(tokens)?;
     let (number, rest) = number_option_at(rest);
     let Some((row, after)) = row_at(rest) else {
-        return Err(unexpected(rest));
+        return Err(unexpected_token(rest));
     };
     let (with_ties, after) = ties_at(after)?;
     Ok((

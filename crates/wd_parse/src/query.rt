@@ -16,7 +16,7 @@ use crate::group::grouping;
 use crate::limits::limits_at;
 use std::alloc::Global;
 use wd_lex::{Terminal, Token};
-use wd_read_cursor::{Reader, Refusal, eat, eat_name, expect, list_at, name_at, unexpected};
+use wd_read_cursor::{Reader, Refusal, eat, eat_name, expect, list_at, name_at, unexpected_token};
 use wd_read_expression::{deeper, expression_at, order_at, window_at};
 use wd_syntax::{
     Alias, Expr, From, Item, Joined, Name, NamedWindow, Quantifier, Query, Select, Table,
@@ -215,7 +215,7 @@ fn windows(
 }
 
 // A Vec inside the tree is a list of its elements there: this says once what it holds.
-fn derived_of(select: Box<Select>, alias: Alias) -> Table
+fn derived_table(select: Box<Select>, alias: Alias) -> Table
     ensures { view_table result ≡ derived (view_select select.value) alias }
 {
     Table::Derived(select, alias)
@@ -233,7 +233,7 @@ fn table(alloc: Global, depth: u8, tokens: &[Token]) -> Result<(Table, &[Token])
             let (select, rest) = select(alloc, inside, rest)?;
             let rest = expect(rest, Terminal::RightBracket)?;
             let (alias, rest) = given_at(alloc, rest)?;
-            Ok((derived_of(select, alias), rest))
+            Ok((derived_table(select, alias), rest))
         }
         None => {
             let (name, rest) = name_at(alloc, tokens)?;
@@ -263,7 +263,7 @@ fn inner(
 /// A table and how it is joined, if one begins here.
 #[tactic(auto, unfolding(crate::specs::Reading::join_at))]
 #[cycle(select)]
-fn joined(alloc: Global, depth: u8, tokens: &[Token]) -> Result<Option<(Joined, &[Token])>, Refusal>
+fn join(alloc: Global, depth: u8, tokens: &[Token]) -> Result<Option<(Joined, &[Token])>, Refusal>
     ensures { MayGive (λ x. (view_joined x.0, kinds_of x.1.now)) result (join_at (inside_of most_operators depth) (read most_operators depth whole_height) (kinds_of tokens.now)) }
 {
     if let Some(rest) = eat(tokens, Terminal::Comma) {
@@ -297,7 +297,7 @@ fn joins(alloc: Global, depth: u8, tokens: &[Token]) -> Result<(Vec<Joined>, &[T
     let mut items = Vec::new(alloc);
     let mut rest = tokens;
     for _ in 0..tokens.len() {
-        let Some((item, after)) = joined(alloc, depth, rest)? else {
+        let Some((item, after)) = join(alloc, depth, rest)? else {
             return Ok((items, rest));
         };
         items.push(item)?;
@@ -347,7 +347,7 @@ fn select(alloc: Global, depth: u8, tokens: &[Token]) -> Result<(Box<Select>, &[
 }
 
 /// The query, if no token is left.
-fn ended(select: Box<Select>, semicolon: bool, rest: &[Token]) -> Result<Query, Refusal>
+fn query_at_end(select: Box<Select>, semicolon: bool, rest: &[Token]) -> Result<Query, Refusal>
     ensures { Gives view_query result (if_last (query (view_select select.value) semicolon) (kinds_of rest.now)) }
 {
     match rest {
@@ -355,7 +355,7 @@ fn ended(select: Box<Select>, semicolon: bool, rest: &[Token]) -> Result<Query, 
             select: Box::into_inner(select),
             semicolon,
         }),
-        _ => Err(unexpected(rest)),
+        _ => Err(unexpected_token(rest)),
     }
 }
 
@@ -366,7 +366,7 @@ pub fn whole(alloc: Global, tokens: &[Token]) -> Result<Query, Refusal>
 {
     let (select, rest) = select(alloc, MAX_LEVELS, tokens)?;
     match eat(rest, Terminal::Semicolon) {
-        Some(rest) => ended(select, true, rest),
-        None => ended(select, false, rest),
+        Some(rest) => query_at_end(select, true, rest),
+        None => query_at_end(select, false, rest),
     }
 }

@@ -32,14 +32,14 @@ IsPermutation-from_Perm (Perm.keep x {xs = xs} {ys = ys} p) = IsPermutation-cons
 IsPermutation-from_Perm (Perm.flip x y xs) = IsPermutation-swap (x ∷ y ∷ xs) (y ∷ x ∷ xs) 0 1 (omega arith) (omega arith) refl
 IsPermutation-from_Perm (Perm.both {xs = xs} {ys = ys} {zs = zs} p q) = IsPermutation-trans xs ys zs (IsPermutation-from_Perm p) (IsPermutation-from_Perm q)
 
--- the first one behind the others
-Perm-behind : (x : ℕ) (ys : List ℕ) → Perm ℕ (x ∷ ys) (ys ++ x ∷ [])
-Perm-behind x [] = Perm.keep x Perm.done
-Perm-behind x (y ∷ ys) = Perm.both (Perm.flip x y ys) (Perm.keep y (Perm-behind x ys))
+-- the first one after the others
+Perm-after : (x : ℕ) (ys : List ℕ) → Perm ℕ (x ∷ ys) (ys ++ x ∷ [])
+Perm-after x [] = Perm.keep x Perm.done
+Perm-after x (y ∷ ys) = Perm.both (Perm.flip x y ys) (Perm.keep y (Perm-after x ys))
 
 Perm-rotated : (xs : List ℕ) → Perm ℕ xs (rotated xs)
 Perm-rotated [] = Perm.done
-Perm-rotated (x ∷ xs) = Perm-behind x xs
+Perm-rotated (x ∷ xs) = Perm-after x xs
 
 Perm-exchanged : (xs : List ℕ) → Perm ℕ xs (exchanged xs)
 Perm-exchanged [] = Perm.done

@@ -14,7 +14,7 @@ use crate::steps::{Step, coded_steps, sorted_steps, steps_of};
 use crate::turn::{Turn, given_positions};
 use std::alloc::Global;
 use wd_columns::RowSource;
-use wd_sort::{row_coding, sorted_by_coding, sorted_in};
+use wd_sort::{row_coding, sort_by_coding, sort_positions_in};
 use wd_value::{OutOfMemory, SortColumn};
 
 /// Fewer rows than these are sorted directly: finding numbers for them would take longer.
@@ -41,7 +41,7 @@ pub fn sorted_ordering(
 {
     let columns = sort_columns(alloc, partition, keys)?;
     let given = given_positions(alloc, rows.len(), turn)?;
-    let ordering = sorted_in(alloc, rows, &columns, &given)?;
+    let ordering = sort_positions_in(alloc, rows, &columns, &given)?;
     Ok(ordering)
 }
 
@@ -79,7 +79,7 @@ pub fn index_of_ordering(
         return Ok(None);
     }
     let by_partition = partition_columns(alloc, partition)?;
-    let positions = sorted_in(alloc, rows, &by_partition, ordering)?;
+    let positions = sort_positions_in(alloc, rows, &by_partition, ordering)?;
     match steps_of(alloc, rows, &by_partition, keys, &positions)? {
         None => Ok(None),
         Some(steps) => Ok(Some(PartitionIndex { positions, steps })),
@@ -147,8 +147,8 @@ fn coded_index(
         return Ok(None);
     };
     let all = given_positions(alloc, rows.len(), turn)?;
-    let sorted = sorted_by_coding(alloc, &within, &all)?;
-    let positions = sorted_by_coding(alloc, &partitions, &sorted)?;
+    let sorted = sort_by_coding(alloc, &within, &all)?;
+    let positions = sort_by_coding(alloc, &partitions, &sorted)?;
     match coded_steps(alloc, &partitions.codes, &within.codes, &positions)? {
         Some(steps) => Ok(Some(PartitionIndex { positions, steps })),
         None => Ok(None),

@@ -58,7 +58,7 @@ fn next_end(indexed: &IndexedRows, i: usize, end: u32) -> u32
     requires short { length indexed.now.positions.now < 2 ^ 32 }
     requires indexed { AreIndexedRows indexed.now }
     requires within { i < length indexed.now.positions.now }
-    requires behind { i + 1 < length indexed.now.positions.now → end ≡ spec.ends_at (by_partition indexed.now) indexed.now.positions.now (slice_index indexed.now.positions.now (i + 1)) }
+    requires following { i + 1 < length indexed.now.positions.now → end ≡ spec.ends_at (by_partition indexed.now) indexed.now.positions.now (slice_index indexed.now.positions.now (i + 1)) }
     ensures { result ≡ spec.ends_at (by_partition indexed.now) indexed.now.positions.now (slice_index indexed.now.positions.now i) }
 {
     if i + 1 < indexed.steps.len() && !indexed.steps[i + 1].begins_partition() {

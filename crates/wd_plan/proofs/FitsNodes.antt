@@ -4,26 +4,17 @@ use Rattle.std.proofs.lemmas.Bool.{le-ltb}
 use Rattle.std.specs.List.{list_all, range_with_len}
 use Rattle.wd_schema.specs.Tables.{TableRule}
 use Rattle.wd_plan.specs.Expressions.{Expression}
-use Rattle.wd_plan.specs.Fits.{Kinds, fits, kind_of, kinds_of, width, is_join, kind_of_group_call, is_condition, are_outputs, is_group, is_window}
+use Rattle.wd_plan.specs.Fits.{Kinds, fits, kind_of, kinds_of, width, is_join, is_step, kind_of_group_call}
 use Rattle.wd_plan.specs.declared.fits.KindSource.{KindSource}
 use Rattle.wd_plan.specs.Sources.{kind_from}
-use Rattle.wd_plan.specs.Plans.{PlanTree, GroupRule, WindowRule, Join, Filter, Map, Group, Window}
+use Rattle.wd_plan.specs.Plans.{GroupRule, Step, Map, Group, PlanTree, Join, Over}
 
 -- a first answer that is true leaves the second
 second : (a b r : Bool) → a ≡ true → r ≡ b → r ≡ (a && b)
 second a b r first e = e ∙ ap (λ t. t && b) (sym first)
 
-pub fits-filter : (tables : List TableRule) (plan input : PlanTree) (e : Expression) (r : Bool) → plan ≡ Filter e input → fits tables input ≡ true → r ≡ is_condition (kinds_of tables input) e → r ≡ fits tables plan
-fits-filter tables plan input e r is h own = second (fits tables input) (is_condition (kinds_of tables input) e) r h own ∙ ap (fits tables) (sym is)
-
-pub fits-map : (tables : List TableRule) (plan input : PlanTree) (outputs : List Expression) (r : Bool) → plan ≡ Map outputs input → fits tables input ≡ true → r ≡ are_outputs (kinds_of tables input) outputs → r ≡ fits tables plan
-fits-map tables plan input outputs r is h own = second (fits tables input) (are_outputs (kinds_of tables input) outputs) r h own ∙ ap (fits tables) (sym is)
-
-pub fits-group : (tables : List TableRule) (plan input : PlanTree) (g : GroupRule) (r : Bool) → plan ≡ Group g input → fits tables input ≡ true → r ≡ is_group (kinds_of tables input) (width input) g → r ≡ fits tables plan
-fits-group tables plan input g r is h own = second (fits tables input) (is_group (kinds_of tables input) (width input) g) r h own ∙ ap (fits tables) (sym is)
-
-pub fits-window : (tables : List TableRule) (plan input : PlanTree) (w : WindowRule) (r : Bool) → plan ≡ Window w input → fits tables input ≡ true → r ≡ is_window (kinds_of tables input) (width input) w → r ≡ fits tables plan
-fits-window tables plan input w r is h own = second (fits tables input) (is_window (kinds_of tables input) (width input) w) r h own ∙ ap (fits tables) (sym is)
+pub fits-over : (tables : List TableRule) (plan input : PlanTree) (step : Step) (r : Bool) → plan ≡ Over step input → fits tables input ≡ true → r ≡ is_step (kinds_of tables input) (width input) step → r ≡ fits tables plan
+fits-over tables plan input step r is h own = second (fits tables input) (is_step (kinds_of tables input) (width input) step) r h own ∙ ap (fits tables) (sym is)
 
 pub fits-join : (tables : List TableRule) (plan left right : PlanTree) (condition : Option Expression) (r : Bool) → plan ≡ Join condition left right → fits tables left ≡ true → fits tables right ≡ true → r ≡ is_join (kinds_of tables plan) (width plan) condition → r ≡ fits tables plan
 fits-join tables plan left right condition r is h k own =
@@ -31,13 +22,13 @@ fits-join tables plan left right condition r is h k own =
     second (fits tables left && fits tables right) (is_join (kinds_of tables (Join condition left right)) (width left + width right) condition) r (sym (second (fits tables left) (fits tables right) true h (sym k))) own' ∙ ap (fits tables) (sym is)
 
 -- the kind of a Map's output, where a source gives the kind of each of them
-pub kinds-map : (tables : List TableRule) (plan input : PlanTree) (outputs : List Expression) (column : ℕ) (source : Option KindSource) → plan ≡ Map outputs input
+pub kinds-map : (tables : List TableRule) (plan input : PlanTree) (outputs : List Expression) (column : ℕ) (source : Option KindSource) → plan ≡ Over (Map outputs) input
     → ((kinds : Kinds) → option_and_then (kind_from kinds) source ≡ option_and_then (kind_of kinds) (slice_get outputs column))
     → option_and_then (kind_from (kinds_of tables input)) source ≡ kinds_of tables plan column
 kinds-map tables plan input outputs column source is gives = gives (kinds_of tables input) ∙ ap (λ p. kinds_of tables p column) (sym is)
 
 -- and of a Group's call
-pub kinds-group : (tables : List TableRule) (plan input : PlanTree) (g : GroupRule) (column : ℕ) (source : Option KindSource) → plan ≡ Group g input → g.columns ≤ column
+pub kinds-group : (tables : List TableRule) (plan input : PlanTree) (g : GroupRule) (column : ℕ) (source : Option KindSource) → plan ≡ Over (Group g) input → g.columns ≤ column
     → ((kinds : Kinds) → option_and_then (kind_from kinds) source ≡ option_and_then (kind_of_group_call kinds) (slice_get g.calls (column - g.columns)))
     → option_and_then (kind_from (kinds_of tables input)) source ≡ kinds_of tables plan column
 kinds-group tables plan input g column source is past gives =

@@ -8,11 +8,11 @@ use Rattle.wd_schema.specs.Tables.{TableRule}
 use Rattle.wd_value.specs.declared.order.SortColumn.{SortColumn}
 use Rattle.wd_plan.specs.declared.window.Call.{Call}
 use Rattle.wd_plan.specs.Expressions.{Expression}
-use Rattle.wd_plan.specs.Fits.{AreBelow, Kinds, are_bounds, fits, has_class, has_columns, has_keys, has_keys_for, has_table, is_call, is_condition, is_join, is_limit, is_narrow, is_typed, may_join, is_window, are_outputs, are_sets, is_group, is_group_call, kind_of, kind_of_call, kind_of_group_call, kinds_of, table_kind, takes, width}
+use Rattle.wd_plan.specs.Fits.{AreBelow, Kinds, are_bounds, fits, has_class, has_columns, has_keys, has_keys_for, has_table, is_call, is_join, is_narrow, is_step, is_typed, may_join, is_window, are_sets, is_group, is_group_call, kind_of, kind_of_call, kind_of_group_call, kinds_of, step_kinds, step_width, table_kind, takes, width}
 use Rattle.wd_value.specs.Bags.{positions}
 use Rattle.wd_value.specs.Keys.{key_columns}
 use Rattle.wd_plan.specs.Outcomes.{class_at}
-use Rattle.wd_plan.specs.Plans.{ClassRule, EachNamesClasses, GroupCall, OfRows, Grouping, GroupRule, HasMask, NameBelow, WindowRule, PlanTree, Scan, Join, Filter, Map, Group, Window, Distinct, Limit, has}
+use Rattle.wd_plan.specs.Plans.{ClassRule, EachNamesClasses, GroupCall, OfRows, Grouping, GroupRule, HasMask, NameBelow, StepNamesClasses, WindowRule, Step, Map, Group, Window, PlanTree, Scan, Join, Over, has}
 use Rattle.wd_plan.specs.Sorting.{order_columns}
 
 -- ---- a table's columns
@@ -34,6 +34,33 @@ scan_below tables table columns c t e long g = by (slice_get t.columns c) refl
     by None h = absurd (let k : false ≡ true = rw (e, h) at g in false≢true k)
     by (Some column) h = let k = slice_get_within t.columns c column h in omega arith
 
+-- a column of a step that has a kind is one of its columns
+step_below : (step : Step) (kinds : Kinds) (columns : ℕ) → ((c : ℕ) → is_some (kinds c) ≡ true → c < columns) → (c : ℕ) → is_some (step_kinds step columns kinds c) ≡ true → c < step_width step columns
+step_below (Map outputs) kinds columns below c e = by (slice_get outputs c) refl e
+  where
+    by : (o : Option Expression) → slice_get outputs c ≡ o → is_some (option_and_then (kind_of kinds) o) ≡ true → c < length outputs
+    by None h g = absurd (false≢true g)
+    by (Some x) h g = slice_get_within outputs c x h
+step_below (Group g) kinds columns below c e = by (nat_lt c g.columns) refl e
+  where
+    by_call : (o : Option GroupCall) → slice_get g.calls (c - g.columns) ≡ o → is_some (option_and_then (kind_of_group_call kinds) o) ≡ true → g.columns ≤ c → c < g.columns + length g.calls
+    by_call None h k l = absurd (false≢true k)
+    by_call (Some call) h k l = let m = slice_get_within g.calls (c - g.columns) call h in omega arith
+
+    by : (b : Bool) → nat_lt c g.columns ≡ b → is_some (cond b (kinds c) (option_and_then (kind_of_group_call kinds) (slice_get g.calls (c - g.columns)))) ≡ true → c < g.columns + length g.calls
+    by true h k = let l = ltb-true c g.columns h in omega arith
+    by false h k = by_call (slice_get g.calls (c - g.columns)) refl k (ltb-false c g.columns h)
+step_below (Window w) kinds columns below c e = by (nat_lt c columns) refl e
+  where
+    by_call : (o : Option Call) → slice_get w.calls (c - columns) ≡ o → is_some (option_and_then (kind_of_call kinds) o) ≡ true → c < columns + length w.calls
+    by_call None h g = absurd (false≢true g)
+    by_call (Some call) h g = let k = slice_get_within w.calls (c - columns) call h in omega arith
+
+    by : (b : Bool) → nat_lt c columns ≡ b → is_some (cond b (kinds c) (option_and_then (kind_of_call kinds) (slice_get w.calls (c - columns)))) ≡ true → c < columns + length w.calls
+    by true h g = let k = below c g in omega arith
+    by false h g = by_call (slice_get w.calls (c - columns)) refl g
+step_below step kinds columns below c e = below c e
+
 -- a column that has a kind is a column of the node
 pub kinds_below : (tables : List TableRule) (plan : PlanTree) → fits tables plan ≡ true → (c : ℕ) → is_some (kinds_of tables plan c) ≡ true → c < width plan
 kinds_below tables (Scan table columns) f c e =
@@ -48,34 +75,7 @@ kinds_below tables (Join condition left right) f c e =
     by : (b : Bool) → nat_lt c (width left) ≡ b → is_some (cond b (kinds_of tables left c) (kinds_of tables right (c - width left))) ≡ true → (is_some (kinds_of tables left c) ≡ true → c < width left) → (is_some (kinds_of tables right (c - width left)) ≡ true → c - width left < width right) → c < width left + width right
     by true h g in_left in_right = let k = in_left g in omega arith
     by false h g in_left in_right = let k = in_right g in omega arith
-kinds_below tables (Filter condition input) f c e = kinds_below tables input (and_parts (fits tables input) (is_condition (kinds_of tables input) condition) f).0 c e
-kinds_below tables (Map outputs input) f c e = by (slice_get outputs c) refl e
-  where
-    by : (o : Option Expression) → slice_get outputs c ≡ o → is_some (option_and_then (kind_of (kinds_of tables input)) o) ≡ true → c < length outputs
-    by None h g = absurd (false≢true g)
-    by (Some x) h g = slice_get_within outputs c x h
-kinds_below tables (Group g input) f c e = by (nat_lt c g.columns) refl e
-  where
-    by_call : (o : Option GroupCall) → slice_get g.calls (c - g.columns) ≡ o → is_some (option_and_then (kind_of_group_call (kinds_of tables input)) o) ≡ true → g.columns ≤ c → c < g.columns + length g.calls
-    by_call None h k l = absurd (false≢true k)
-    by_call (Some call) h k l = let m = slice_get_within g.calls (c - g.columns) call h in omega arith
-
-    by : (b : Bool) → nat_lt c g.columns ≡ b → is_some (cond b (kinds_of tables input c) (option_and_then (kind_of_group_call (kinds_of tables input)) (slice_get g.calls (c - g.columns)))) ≡ true → c < g.columns + length g.calls
-    by true h k = let l = ltb-true c g.columns h in omega arith
-    by false h k = by_call (slice_get g.calls (c - g.columns)) refl k (ltb-false c g.columns h)
-kinds_below tables (Window w input) f c e =
-    let parts = and_parts (fits tables input) (is_window (kinds_of tables input) (width input) w) f in
-    by (nat_lt c (width input)) refl e (kinds_below tables input parts.0 c)
-  where
-    by_call : (o : Option Call) → slice_get w.calls (c - width input) ≡ o → is_some (option_and_then (kind_of_call (kinds_of tables input)) o) ≡ true → c < width input + length w.calls
-    by_call None h g = absurd (false≢true g)
-    by_call (Some call) h g = let k = slice_get_within w.calls (c - width input) call h in omega arith
-
-    by : (b : Bool) → nat_lt c (width input) ≡ b → is_some (cond b (kinds_of tables input c) (option_and_then (kind_of_call (kinds_of tables input)) (slice_get w.calls (c - width input)))) ≡ true → (is_some (kinds_of tables input c) ≡ true → c < width input) → c < width input + length w.calls
-    by true h g in_input = let k = in_input g in omega arith
-    by false h g in_input = by_call (slice_get w.calls (c - width input)) refl g
-kinds_below tables (Distinct input) f c e = kinds_below tables input f c e
-kinds_below tables (Limit limit input) f c e = kinds_below tables input (and_parts (fits tables input) (is_limit (kinds_of tables input) limit) f).0 c e
+kinds_below tables (Over step input) f c e = step_below step (kinds_of tables input) (width input) (kinds_below tables input (and_parts (fits tables input) (is_step (kinds_of tables input) (width input) step) f).0) c e
 
 -- ---- a Window's calls
 
@@ -152,21 +152,20 @@ group_parts kinds columns g e =
 
 -- ---- a plan that fits is narrow
 
+step_narrow : (step : Step) (kinds : Kinds) (columns : ℕ) → is_step kinds columns step ≡ true → columns ≤ 1024 → step_width step columns ≤ 1024
+step_narrow (Map outputs) kinds columns f h = leb-true (length outputs) 1024 (and_parts (is_narrow (length outputs)) (list_all (is_typed kinds) outputs) f).0
+step_narrow (Group g) kinds columns f h = leb-true (g.columns + length g.calls) 1024 (group_parts kinds columns g f).narrow
+step_narrow (Window w) kinds columns f h = leb-true (columns + length w.calls) 1024 (and_parts (is_narrow (columns + length w.calls)) (list_all (has_class kinds) w.classes && list_all (is_call kinds w.classes) w.calls) f).0
+step_narrow step kinds columns f h = h
+
 pub narrow : (tables : List TableRule) (plan : PlanTree) → fits tables plan ≡ true → width plan ≤ 1024
 narrow tables (Scan table columns) f = leb-true columns 1024 (and_parts (is_narrow columns) (has_table tables table columns) f).0
 narrow tables (Join condition left right) f =
     let own = (and_parts (fits tables left && fits tables right) (is_join (kinds_of tables (Join condition left right)) (width left + width right) condition) f).1 in
     leb-true (width left + width right) 1024 (and_parts (is_narrow (width left + width right)) (may_join (kinds_of tables (Join condition left right)) condition) own).0
-narrow tables (Filter condition input) f = narrow tables input (and_parts (fits tables input) (is_condition (kinds_of tables input) condition) f).0
-narrow tables (Map outputs input) f =
-    let own = (and_parts (fits tables input) (are_outputs (kinds_of tables input) outputs) f).1 in
-    leb-true (length outputs) 1024 (and_parts (is_narrow (length outputs)) (list_all (is_typed (kinds_of tables input)) outputs) own).0
-narrow tables (Group g input) f = leb-true (g.columns + length g.calls) 1024 (group_parts (kinds_of tables input) (width input) g (and_parts (fits tables input) (is_group (kinds_of tables input) (width input) g) f).1).narrow
-narrow tables (Window w input) f =
-    let own = (and_parts (fits tables input) (is_window (kinds_of tables input) (width input) w) f).1 in
-    leb-true (width input + length w.calls) 1024 (and_parts (is_narrow (width input + length w.calls)) (list_all (has_class (kinds_of tables input)) w.classes && list_all (is_call (kinds_of tables input) w.classes) w.calls) own).0
-narrow tables (Distinct input) f = narrow tables input f
-narrow tables (Limit limit input) f = narrow tables input (and_parts (fits tables input) (is_limit (kinds_of tables input) limit) f).0
+narrow tables (Over step input) f =
+    let parts = and_parts (fits tables input) (is_step (kinds_of tables input) (width input) step) f in
+    step_narrow step (kinds_of tables input) (width input) parts.1 (narrow tables input parts.0)
 
 -- ---- a plan that fits names its classes
 
@@ -184,20 +183,17 @@ have_masks kinds columns (Grouping arguments ∷ calls) e =
     let long = and_parts (nat_lt 0 (length arguments)) (nat_le (length arguments) 31) own.0 in
     (leb-true (length arguments) 31 long.1, have_masks kinds columns calls parts.1)
 
+step_names : (step : Step) (kinds : Kinds) (columns : ℕ) → ((c : ℕ) → is_some (kinds c) ≡ true → c < columns) → is_step kinds columns step ≡ true → StepNamesClasses step
+step_names (Window w) kinds columns below f = named kinds columns below w w.calls (calls_sound kinds columns below w f)
+step_names (Group g) kinds columns below f = have_masks kinds g.columns g.calls (group_parts kinds columns g f).calls
+step_names step kinds columns below f = tt
+
 pub names_classes : (tables : List TableRule) (plan : PlanTree) → fits tables plan ≡ true → EachNamesClasses plan
 names_classes tables (Scan table columns) f = tt
 names_classes tables (Join condition left right) f =
     let first = and_parts (fits tables left && fits tables right) (is_join (kinds_of tables (Join condition left right)) (width left + width right) condition) f in
     let sides = and_parts (fits tables left) (fits tables right) first.0 in
     (names_classes tables left sides.0, names_classes tables right sides.1)
-names_classes tables (Filter condition input) f = names_classes tables input (and_parts (fits tables input) (is_condition (kinds_of tables input) condition) f).0
-names_classes tables (Map outputs input) f = names_classes tables input (and_parts (fits tables input) (are_outputs (kinds_of tables input) outputs) f).0
-names_classes tables (Group g input) f =
-    let parts = and_parts (fits tables input) (is_group (kinds_of tables input) (width input) g) f in
-    (names_classes tables input parts.0, have_masks (kinds_of tables input) g.columns g.calls (group_parts (kinds_of tables input) (width input) g parts.1).calls)
-names_classes tables (Window w input) f =
-    let parts = and_parts (fits tables input) (is_window (kinds_of tables input) (width input) w) f in
-    let below = kinds_below tables input parts.0 in
-    (names_classes tables input parts.0, named (kinds_of tables input) (width input) below w w.calls (calls_sound (kinds_of tables input) (width input) below w parts.1))
-names_classes tables (Distinct input) f = names_classes tables input f
-names_classes tables (Limit limit input) f = names_classes tables input (and_parts (fits tables input) (is_limit (kinds_of tables input) limit) f).0
+names_classes tables (Over step input) f =
+    let parts = and_parts (fits tables input) (is_step (kinds_of tables input) (width input) step) f in
+    (names_classes tables input parts.0, step_names step (kinds_of tables input) (width input) (kinds_below tables input parts.0) parts.1)

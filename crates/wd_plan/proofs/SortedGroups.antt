@@ -56,13 +56,13 @@ module _ (class : ClassRule) where
   abbrev Tied : Row → Row → Row → Type 0
   Tied q r y = (below class r y && not (below class q y)) ≡ true → columns_of (order_columns class) y ≡ columns_of (order_columns class) q
 
-  behind : (q r : Row) (post : List Row) → AllByRecursion (NotAfter class r) post → AllByRecursion (Tied q r) post
-  behind q r [] a = tt
-  behind q r (y ∷ post) a = ((λ e. absurd (let f = and_parts (below class r y) (not (below class q y)) e in let g = not_less _ _ ((compare_keys_total class.order).antisymm y r) a.0 in cc)), behind q r post a.1)
+  after : (q r : Row) (post : List Row) → AllByRecursion (NotAfter class r) post → AllByRecursion (Tied q r) post
+  after q r [] a = tt
+  after q r (y ∷ post) a = ((λ e. absurd (let f = and_parts (below class r y) (not (below class q y)) e in let g = not_less _ _ ((compare_keys_total class.order).antisymm y r) a.0 in cc)), after q r post a.1)
 
   tied_members : (pre : List Row) (q r : Row) (post : List Row) → Rising (NotAfter class) (pre ++ q ∷ r ∷ post) → AllByRecursion (Tied q r) (pre ++ q ∷ r ∷ post)
   tied_members [] q r post h =
-      ((λ e. refl), ((λ e. absurd (let f = and_parts (below class r r) (not (below class q r)) e in let g = tied_itself (compare_keys_total class.order) r in let k : is_lt (compare_keys class.order r r) ≡ false = ap is_lt g in cc)), behind q r post h.1.0))
+      ((λ e. refl), ((λ e. absurd (let f = and_parts (below class r r) (not (below class q r)) e in let g = tied_itself (compare_keys_total class.order) r in let k : is_lt (compare_keys class.order r r) ≡ false = ap is_lt g in cc)), after q r post h.1.0))
   tied_members (x ∷ pre) q r post h =
       ((λ e. let f = and_parts (below class r x) (not (below class q x)) e in compare_keys-exact class.order x q (tie_or_less (compare_keys class.order x q) (all_in (NotAfter class x) pre q (r ∷ post) h.0) (not_both (below class q x) f.1))), tied_members pre q r post h.1)
 

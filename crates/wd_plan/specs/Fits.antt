@@ -33,7 +33,7 @@ use Rattle.wd_plan.specs.declared.window.FrameMode.{FrameMode}
 use Rattle.wd_plan.specs.declared.window.FrameMode.TheVariants as mode
 use Rattle.wd_plan.specs.Expressions.{Expression, Column, Literal, Negate, Arithmetic, Compare, Not, And, Or, IsNull, IsNotNull, Case}
 use Rattle.wd_plan.specs.Functions.{argument_of, name_of, signature}
-use Rattle.wd_plan.specs.Plans.{ClassRule, GroupCall, OfRows, Grouping, GroupRule, LimitRule, WindowRule, PlanTree, Scan, Join, Filter, Map, Group, Window, Distinct, Limit, has}
+use Rattle.wd_plan.specs.Plans.{ClassRule, GroupCall, OfRows, Grouping, GroupRule, LimitRule, WindowRule, Step, Filter, Map, Group, Window, Distinct, Limit, PlanTree, Scan, Join, Over, has}
 
 -- ---- kinds of values
 
@@ -250,32 +250,36 @@ is_group_call kinds columns (Grouping arguments) = (nat_lt 0 (length arguments) 
 abbrev pub AreBelow : ℕ → List ℕ → Type 0
 AreBelow columns X = list_all (λ c. nat_lt c columns) X ≡ true
 
--- the number of columns of a node's rows
+-- the number of columns of a step's rows, over an input with so many
+abbrev pub step_width : Step → ℕ → ℕ
+step_width (Map outputs) columns = length outputs
+step_width (Group g) columns = g.columns + length g.calls
+step_width (Window w) columns = columns + length w.calls
+step_width step columns = columns
+
+-- the number of columns of a plan's rows
 abbrev pub width : PlanTree → ℕ
 width (Scan table columns) = columns
 width (Join condition left right) = width left + width right
-width (Filter condition input) = width input
-width (Map outputs input) = length outputs
-width (Group g input) = g.columns + length g.calls
-width (Window w input) = width input + length w.calls
-width (Distinct input) = width input
-width (Limit limit input) = width input
+width (Over step input) = step_width step (width input)
 
 -- the kind of a table's column, both by number
 abbrev pub table_kind : List TableRule → ℕ → Kinds
 table_kind tables table c = option_and_then (λ (t : TableRule). option_map (λ (column : TableColumn). kind_of_type column.kind) (slice_get t.columns c)) (slice_get tables table)
 
--- the kinds of the columns of a node's rows: of a table's columns; left, then right; the input's; the outputs'; the grouping
--- columns' or the input's, then the calls'
+-- the kinds of the columns of a step's rows, over an input with so many columns of these kinds: the outputs'; the grouping columns'
+-- or the input's, then the calls'
+abbrev pub step_kinds : Step → ℕ → Kinds → Kinds
+step_kinds (Map outputs) columns kinds c = option_and_then (kind_of kinds) (slice_get outputs c)
+step_kinds (Group g) columns kinds c = if nat_lt c g.columns then kinds c else option_and_then (kind_of_group_call kinds) (slice_get g.calls (c - g.columns))
+step_kinds (Window w) columns kinds c = if nat_lt c columns then kinds c else option_and_then (kind_of_call kinds) (slice_get w.calls (c - columns))
+step_kinds step columns kinds c = kinds c
+
+-- the kinds of the columns of a plan's rows: of a table's columns; left, then right; the step's
 abbrev pub kinds_of : List TableRule → PlanTree → Kinds
 kinds_of tables (Scan table columns) c = table_kind tables table c
 kinds_of tables (Join condition left right) c = if nat_lt c (width left) then kinds_of tables left c else kinds_of tables right (c - width left)
-kinds_of tables (Filter condition input) c = kinds_of tables input c
-kinds_of tables (Map outputs input) c = option_and_then (kind_of (kinds_of tables input)) (slice_get outputs c)
-kinds_of tables (Group g input) c = if nat_lt c g.columns then kinds_of tables input c else option_and_then (kind_of_group_call (kinds_of tables input)) (slice_get g.calls (c - g.columns))
-kinds_of tables (Window w input) c = if nat_lt c (width input) then kinds_of tables input c else option_and_then (kind_of_call (kinds_of tables input)) (slice_get w.calls (c - width input))
-kinds_of tables (Distinct input) c = kinds_of tables input c
-kinds_of tables (Limit limit input) c = kinds_of tables input c
+kinds_of tables (Over step input) c = step_kinds step (width input) (kinds_of tables input) c
 
 -- the table of this number has the given number of columns
 abbrev pub has_table : List TableRule → ℕ → ℕ → Bool
@@ -309,13 +313,17 @@ is_group kinds columns g = is_narrow (g.columns + length g.calls) && (nat_le g.c
 abbrev pub is_limit : Kinds → LimitRule → Bool
 is_limit kinds limit = has_keys kinds limit.keys && (not limit.ties || nat_lt 0 (length limit.keys))
 
+-- a step is as the rules ask, over the number and the kinds of its input's columns
+abbrev pub is_step : Kinds → ℕ → Step → Bool
+is_step kinds columns (Filter condition) = is_condition kinds condition
+is_step kinds columns (Map outputs) = are_outputs kinds outputs
+is_step kinds columns (Group g) = is_group kinds columns g
+is_step kinds columns (Window w) = is_window kinds columns w
+is_step kinds columns Distinct = true
+is_step kinds columns (Limit limit) = is_limit kinds limit
+
 -- a plan fits the tables of a schema: each node is as the rules ask, over the columns that it reads
 abbrev pub fits : List TableRule → PlanTree → Bool
 fits tables (Scan table columns) = is_narrow columns && has_table tables table columns
 fits tables (Join condition left right) = (fits tables left && fits tables right) && is_join (kinds_of tables (Join condition left right)) (width left + width right) condition
-fits tables (Filter condition input) = fits tables input && is_condition (kinds_of tables input) condition
-fits tables (Map outputs input) = fits tables input && are_outputs (kinds_of tables input) outputs
-fits tables (Group g input) = fits tables input && is_group (kinds_of tables input) (width input) g
-fits tables (Window w input) = fits tables input && is_window (kinds_of tables input) (width input) w
-fits tables (Distinct input) = fits tables input
-fits tables (Limit limit input) = fits tables input && is_limit (kinds_of tables input) limit
+fits tables (Over step input) = fits tables input && is_step (kinds_of tables input) (width input) step

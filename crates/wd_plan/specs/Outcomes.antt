@@ -1,5 +1,5 @@
 -- What a plan returns over an instance under a choice of orderings, and when two outcomes agree.
-use Rattle.std.specs.Prelude.{◌≡◌, ℕ, zero, suc, ◌+◌, ◌^◌, pos, Bool, false, not, List, [], ◌∷◌, ◌++◌, map, filter, flat_map, length, take, drop, take_while, Option, Some, None, Result, Ok, Err, slice_index_or, if◌then◌else◌}
+use Rattle.std.specs.Prelude.{◌≡◌, ℕ, zero, suc, ◌+◌, ◌^◌, pos, Bool, false, not, List, [], ◌∷◌, ◌++◌, map, filter, flat_map, length, drop, take_while, Option, Some, None, Result, Ok, Err, slice_index_or, if◌then◌else◌}
 use Rattle.std.specs.Ordering.{is_eq}
 use Rattle.wd_value.specs.declared.value.Value.{Value}
 use Rattle.wd_value.specs.declared.value.Value.TheVariants.{Int, Null}
@@ -14,7 +14,7 @@ use Rattle.wd_plan.specs.Calls.{aggregate_value, value_at}
 use Rattle.wd_plan.specs.Expressions.{Expression, value_of, is_true}
 use Rattle.wd_plan.specs.Faults.{all_ok, and_then, least_fault, unless}
 use Rattle.wd_value.specs.Keys.{compare_keys}
-use Rattle.wd_plan.specs.Plans.{ClassRule, GroupCall, OfRows, Grouping, GroupRule, WindowRule, LimitRule, PlanTree, Scan, Join, Filter, Map, Group, Window, Distinct, Limit, has, ordering_count}
+use Rattle.wd_plan.specs.Plans.{ClassRule, GroupCall, OfRows, Grouping, GroupRule, WindowRule, LimitRule, Step, Filter, Map, Group, Window, Distinct, Limit, PlanTree, Scan, Join, Over, has, ordering_count, own_orderings}
 
 -- an outcome: rows as a list, or a fault
 abbrev pub RowsOrFault : Type 0
@@ -94,8 +94,11 @@ group_outcome rule rows = all_ok (flat_map (set_rows rule rows) rule.sets)
 -- ---- windows
 
 -- the class with this number; one without columns past the last
+abbrev pub class_among : List ClassRule → ℕ → ClassRule
+class_among classes n = slice_index_or classes n (record { partition = []; order = [] })
+
 abbrev pub class_at : WindowRule → ℕ → ClassRule
-class_at w n = slice_index_or w.classes n (record { partition = []; order = [] })
+class_at w n = class_among w.classes n
 
 -- the ordering with this number; the empty one past the last
 abbrev pub ordering_at : List (List ℕ) → ℕ → List ℕ
@@ -126,8 +129,8 @@ first_rows keys ties (suc zero) (r ∷ rows) = r ∷ (if ties then take_while (p
 first_rows keys ties (suc (suc n)) (r ∷ rows) = r ∷ first_rows keys ties (suc n) rows
 
 -- what a Limit keeps of rows in its ordering: those after the offset, and where there is a count the first of them
-abbrev pub cut : LimitRule → List Row → List Row
-cut limit rows = by_count limit.count
+abbrev pub limited_rows : LimitRule → List Row → List Row
+limited_rows limit rows = by_count limit.count
   where
     by_count : Option ℕ → List Row
     by_count None = drop limit.offset rows
@@ -135,17 +138,21 @@ cut limit rows = by_count limit.count
 
 -- ---- plans
 
--- The outcome of a plan under a choice. A node's orderings come after those of the nodes below it, and those of a Join's right side after
+-- what a step returns over the rows of its input, with an ordering of them for each of its classes
+abbrev pub step_outcome : Step → List (List ℕ) → List Row → RowsOrFault
+step_outcome (Filter condition) orderings rows = filter_outcome condition rows
+step_outcome (Map outputs) orderings rows = map_outcome outputs rows
+step_outcome (Group rule) orderings rows = group_outcome rule rows
+step_outcome (Window w) orderings rows = window_outcome w rows orderings
+step_outcome Distinct orderings rows = Ok (distinct rows)
+step_outcome (Limit limit) orderings rows = Ok (limited_rows limit (rows_at rows (ordering_at orderings 0)))
+
+-- The outcome of a plan under a choice. A step's orderings come after those of the nodes below it, and those of a Join's right side after
 -- those of its left side; orderings after these are not read.
 abbrev pub outcome : PlanTree → Instance → List (List ℕ) → RowsOrFault
 outcome (Scan table columns) instance choice = Ok (table_at instance table)
 outcome (Join condition left right) instance choice = and_then (outcome left instance choice) (λ ls. and_then (outcome right instance (drop (ordering_count left) choice)) (λ rs. join_outcome condition (pairs ls rs)))
-outcome (Filter condition input) instance choice = and_then (outcome input instance choice) (filter_outcome condition)
-outcome (Map outputs input) instance choice = and_then (outcome input instance choice) (map_outcome outputs)
-outcome (Group rule input) instance choice = and_then (outcome input instance choice) (group_outcome rule)
-outcome (Window w input) instance choice = and_then (outcome input instance choice) (λ rows. window_outcome w rows (take (length w.classes) (drop (ordering_count input) choice)))
-outcome (Distinct input) instance choice = and_then (outcome input instance choice) (λ rows. Ok (distinct rows))
-outcome (Limit limit input) instance choice = and_then (outcome input instance choice) (λ rows. Ok (cut limit (rows_at rows (ordering_at choice (ordering_count input)))))
+outcome (Over step input) instance choice = and_then (outcome input instance choice) (step_outcome step (own_orderings step input choice))
 
 -- outcomes agree where they are the same fault, or lists in which each row appears equally often
 abbrev pub Agree : RowsOrFault → RowsOrFault → Type 0

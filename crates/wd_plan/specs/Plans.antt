@@ -1,5 +1,5 @@
 -- Plans as pure data, and how contracts see those of the code.
-use Rattle.std.specs.Prelude.{ℕ, ◌+◌, ◌<◌, ◌≤◌, Bool, List, map, length, nat_eq, Option, option_map, ⊤}
+use Rattle.std.specs.Prelude.{ℕ, ◌+◌, ◌<◌, ◌≤◌, Bool, ◌||◌, List, [], ◌∷◌, map, length, take, drop, nat_eq, Option, option_map, ⊤}
 use Rattle.std.specs.List.{AllByRecursion, list_any}
 use Rattle.std.specs.declared.alloc.Global.{Global}
 use Rattle.std.specs.declared.vec.Vec.{Vec}
@@ -69,49 +69,63 @@ pub record LimitRule : Type 0 where
 abbrev pub limit_of : CodeLimit → LimitRule
 limit_of limit = record { keys = limit.keys.items; offset = limit.offset; count = limit.count; ties = limit.ties }
 
+-- what a node with one input makes of the rows of its input
+pub data Step : Type 0 where
+  Filter : Expression → Step
+  Map : List Expression → Step
+  Group : GroupRule → Step
+  Window : WindowRule → Step
+  Distinct : Step
+  Limit : LimitRule → Step
+
 pub data PlanTree : Type 0 where
   -- a table of the schema by its number, with its number of columns
   Scan : (table columns : ℕ) → PlanTree
   Join : Option Expression → PlanTree → PlanTree → PlanTree
-  Filter : Expression → PlanTree → PlanTree
-  Map : List Expression → PlanTree → PlanTree
-  Group : GroupRule → PlanTree → PlanTree
-  Window : WindowRule → PlanTree → PlanTree
-  Distinct : PlanTree → PlanTree
-  Limit : LimitRule → PlanTree → PlanTree
+  Over : Step → PlanTree → PlanTree
 
 -- the plan that a value of the code shows
 abbrev pub plan_of : Plan → PlanTree
 plan_of (code.Scan table columns) = Scan table columns
 plan_of (code.Join' p left q right condition) = Join (option_map expression_of condition) (plan_of left) (plan_of right)
-plan_of (code.Filter' p input condition) = Filter (expression_of condition) (plan_of input)
-plan_of (code.Map' p input outputs) = Map (map expression_of outputs.items) (plan_of input)
-plan_of (code.Group' p input group) = Group (grouping_of group) (plan_of input)
-plan_of (code.Window' p input window) = Window (window_of window) (plan_of input)
-plan_of (code.Distinct' p input) = Distinct (plan_of input)
-plan_of (code.Limit' p input limit) = Limit (limit_of limit) (plan_of input)
+plan_of (code.Filter' p input condition) = Over (Filter (expression_of condition)) (plan_of input)
+plan_of (code.Map' p input outputs) = Over (Map (map expression_of outputs.items)) (plan_of input)
+plan_of (code.Group' p input group) = Over (Group (grouping_of group)) (plan_of input)
+plan_of (code.Window' p input window) = Over (Window (window_of window)) (plan_of input)
+plan_of (code.Distinct' p input) = Over Distinct (plan_of input)
+plan_of (code.Limit' p input limit) = Over (Limit (limit_of limit)) (plan_of input)
 
--- how many orderings a choice for a plan has: one for each class of a Window, and one for each Limit
+-- the class of a limit: all rows are one partition
+abbrev pub limit_class : LimitRule → ClassRule
+limit_class limit = record { partition = []; order = limit.keys }
+
+-- the classes by which a step orders the rows of its input
+abbrev pub step_classes : Step → List ClassRule
+step_classes (Window rule) = rule.classes
+step_classes (Limit rule) = limit_class rule ∷ []
+step_classes step = []
+
+-- how many orderings a choice for a plan has: one for each class of each step
 abbrev pub ordering_count : PlanTree → ℕ
 ordering_count (Scan table columns) = 0
 ordering_count (Join condition left right) = ordering_count left + ordering_count right
-ordering_count (Filter condition input) = ordering_count input
-ordering_count (Map outputs input) = ordering_count input
-ordering_count (Group rule input) = ordering_count input
-ordering_count (Window rule input) = ordering_count input + length rule.classes
-ordering_count (Distinct input) = ordering_count input
-ordering_count (Limit rule input) = ordering_count input + 1
+ordering_count (Over step input) = ordering_count input + length (step_classes step)
+
+-- the orderings of the step over a plan: they stand after those of the nodes below it
+abbrev pub own_orderings : Step → PlanTree → List (List ℕ) → List (List ℕ)
+own_orderings step input choice = take (length (step_classes step)) (drop (ordering_count input) choice)
 
 -- how many nodes a plan has
 abbrev pub node_count : PlanTree → ℕ
 node_count (Scan table columns) = 1
 node_count (Join condition left right) = node_count left + node_count right + 1
-node_count (Filter condition input) = node_count input + 1
-node_count (Map outputs input) = node_count input + 1
-node_count (Group rule input) = node_count input + 1
-node_count (Window rule input) = node_count input + 1
-node_count (Distinct input) = node_count input + 1
-node_count (Limit rule input) = node_count input + 1
+node_count (Over step input) = node_count input + 1
+
+-- whether a plan scans the table with a number
+abbrev pub is_scanned : PlanTree → ℕ → Bool
+is_scanned (Scan of columns) table = nat_eq of table
+is_scanned (Join condition left right) table = is_scanned left table || is_scanned right table
+is_scanned (Over step input) table = is_scanned input table
 
 -- GROUPING has at most 31 grouping columns
 abbrev pub HasMask : GroupCall → Type 0
@@ -130,13 +144,14 @@ NameBelow classes calls = AllByRecursion (λ (call : Call). call.class < classes
 abbrev pub NamesClasses : WindowRule → Type 0
 NamesClasses w = NameBelow (length w.classes) w.calls
 
+-- each call of a step names one of its classes, and each GROUPING has its mask
+abbrev pub StepNamesClasses : Step → Type 0
+StepNamesClasses (Window rule) = NamesClasses rule
+StepNamesClasses (Group rule) = HaveMasks rule
+StepNamesClasses step = ⊤
+
 -- in each Window of a plan each call names one of its classes, and each Group has its masks
 abbrev pub EachNamesClasses : PlanTree → Type 0
 EachNamesClasses (Scan table columns) = ⊤
 EachNamesClasses (Join condition left right) = EachNamesClasses left × EachNamesClasses right
-EachNamesClasses (Filter condition input) = EachNamesClasses input
-EachNamesClasses (Map outputs input) = EachNamesClasses input
-EachNamesClasses (Group rule input) = EachNamesClasses input × HaveMasks rule
-EachNamesClasses (Window rule input) = EachNamesClasses input × NamesClasses rule
-EachNamesClasses (Distinct input) = EachNamesClasses input
-EachNamesClasses (Limit rule input) = EachNamesClasses input
+EachNamesClasses (Over step input) = EachNamesClasses input × StepNamesClasses step

@@ -15,7 +15,7 @@ use Rattle.wd_plan.specs.Facts.{Determines, DeterminesRow, DeterminesAll, HasWid
 use Rattle.wd_plan.specs.Frames.{is_stable}
 use Rattle.wd_plan.specs.Functions.{name_of, signature}
 use Rattle.wd_plan.specs.Outcomes.{outcome, class_at}
-use Rattle.wd_plan.specs.Plans.{ClassRule, NamesClasses, WindowRule, LimitRule, PlanTree, Scan, Join, Filter, Map, Group, Window, Distinct, Limit, ordering_count}
+use Rattle.wd_plan.specs.Plans.{ClassRule, NamesClasses, WindowRule, LimitRule, Step, Window, Limit, PlanTree, Scan, Join, Over, ordering_count}
 use Rattle.wd_plan.specs.Sorting.{class_columns, order_columns, limit_class}
 
 -- whether a function has one value for peers over a frame
@@ -48,16 +48,14 @@ IsSettledLimit limit width rows =
     ⊎ (((limit.ties ≡ true) × (limit.offset ≡ 0))
     ⊎ DeterminesAll rows width (order_columns (limit_class limit)))
 
--- each call of a Window and each Limit is settled in the rows that the node reads under a choice
+-- each call of a Window, and a Limit, is settled in the rows that it reads
+abbrev pub IsSettledStep : Step → List Row → Type 0
+IsSettledStep (Window w) rows = NamesClasses w × (exchange : ℕ) × (width : ℕ) × HasWidth width rows × AllByRecursion (IsSettledCall w exchange width rows) w.calls
+IsSettledStep (Limit limit) rows = (width : ℕ) × HasWidth width rows × IsSettledLimit limit width rows
+IsSettledStep step rows = ⊤
+
+-- and so is each step of a plan, in the rows of its input under a choice
 abbrev pub IsSettledPlan : PlanTree → Instance → List (List ℕ) → Type 0
 IsSettledPlan (Scan table columns) instance choice = ⊤
 IsSettledPlan (Join condition left right) instance choice = IsSettledPlan left instance choice × IsSettledPlan right instance (drop (ordering_count left) choice)
-IsSettledPlan (Filter condition input) instance choice = IsSettledPlan input instance choice
-IsSettledPlan (Map outputs input) instance choice = IsSettledPlan input instance choice
-IsSettledPlan (Group rule input) instance choice = IsSettledPlan input instance choice
-IsSettledPlan (Window w input) instance choice =
-    IsSettledPlan input instance choice × NamesClasses w
-    × AtRows (outcome input instance choice) (λ rows. (exchange : ℕ) × (width : ℕ) × HasWidth width rows × AllByRecursion (IsSettledCall w exchange width rows) w.calls) ⊤
-IsSettledPlan (Distinct input) instance choice = IsSettledPlan input instance choice
-IsSettledPlan (Limit limit input) instance choice =
-    IsSettledPlan input instance choice × AtRows (outcome input instance choice) (λ rows. (width : ℕ) × HasWidth width rows × IsSettledLimit limit width rows) ⊤
+IsSettledPlan (Over step input) instance choice = IsSettledPlan input instance choice × AtRows (outcome input instance choice) (IsSettledStep step) ⊤

@@ -5,7 +5,8 @@ use Rattle.std.specs.Ordering.{is_gt}
 use Rattle.wd_value.specs.Bags.{EachOnce}
 use Rattle.wd_value.specs.Rows.{Row, columns_of, same_row, rows_at}
 use Rattle.wd_value.specs.Keys.{compare_keys, key_columns}
-use Rattle.wd_plan.specs.Plans.{ClassRule, LimitRule}
+use Rattle.wd_plan.specs.Plans.{ClassRule}
+pub use Rattle.wd_plan.specs.Plans.{limit_class}
 
 abbrev pub order_columns : ClassRule → List ℕ
 order_columns class = key_columns class.order
@@ -13,10 +14,6 @@ order_columns class = key_columns class.order
 -- the columns of a class: those of its partition and of its sort keys
 abbrev pub class_columns : ClassRule → List ℕ
 class_columns class = class.partition ++ order_columns class
-
--- the class of a Limit's ordering: one partition
-abbrev pub limit_class : LimitRule → ClassRule
-limit_class rule = record { partition = []; order = rule.keys }
 
 -- not distinct on any partition column
 abbrev pub same_partition : ClassRule → Row → Row → Bool

@@ -1,5 +1,5 @@
 ghost use Rattle.std.specs.Prelude.{◌≡◌, ◌-◌, ◌^◌, min};
-ghost use Rattle.wd_plan.specs.Plans.{node_count, ordering_count, plan_of};
+ghost use Rattle.wd_plan.specs.Plans.{is_scanned, node_count, ordering_count, plan_of};
 
 use crate::expression::Expr;
 use crate::group::Group;
@@ -76,6 +76,22 @@ pub struct Choice {
 }
 
 impl Plan {
+    /// Whether the plan scans the table with a number.
+    pub fn scans(&self, table: usize) -> bool
+        ensures { result ≡ is_scanned (plan_of self.now) table }
+    {
+        match self {
+            Plan::Scan { table: scanned, .. } => usize::from(*scanned) == table,
+            Plan::Join { left, right, .. } => left.scans(table) || right.scans(table),
+            Plan::Filter { input, .. }
+            | Plan::Map { input, .. }
+            | Plan::Group { input, .. }
+            | Plan::Window { input, .. }
+            | Plan::Distinct { input }
+            | Plan::Limit { input, .. } => input.scans(table),
+        }
+    }
+
     /// How many orderings a choice for the plan has; `u32::MAX` where there are more.
     pub fn orderings(&self) -> u32
         ensures { result ≡ min (ordering_count (plan_of self.now)) (2 ^ 32 - 1) }

@@ -49,20 +49,20 @@ many_end item (suc n) front ts total ends so_far =
 
 -- ---- lists with a terminal between their items
 
-after_some : {A : Type 0} (x : Terminal) (item : Parser A) (ts behind : Kinds) → eat x ts ≡ Some behind → after x item ts ≡ Some (item behind)
+after_some : {A : Type 0} (x : Terminal) (item : Parser A) (ts following : Kinds) → eat x ts ≡ Some following → after x item ts ≡ Some (item following)
 unfolding after
-after_some x item ts behind e = rw e refl
+after_some x item ts following e = rw e refl
 
 after_none : {A : Type 0} (x : Terminal) (item : Parser A) (ts : Kinds) → eat x ts ≡ None → after x item ts ≡ None
 unfolding after
 after_none x item ts e = rw e refl
 
-pub list_more : {X A : Type 0} (view : X → A) (x : Terminal) (item : Parser A) (n i : ℕ) (xs : List X) (one : X) (ts behind rest : Kinds) (total : Reads (List A)) → i < n → eat x ts ≡ Some behind → item behind ≡ Ok (view one, rest) → with_front (map view xs) (many (after x item) (n - i) ts) ≡ total → with_front (map view (xs ++ one ∷ [])) (many (after x item) (n - (i + 1)) rest) ≡ total
-list_more {X} {A} view x item n i xs one ts behind rest total lt e h so_far =
-    rw (map_push view xs one) (many_more (after x item) n i (map view xs) (view one) ts rest total lt (after_some x item ts behind e ∙ ap (λ (z : Reads A). Some z) h) so_far)
+pub list_more : {X A : Type 0} (view : X → A) (x : Terminal) (item : Parser A) (n i : ℕ) (xs : List X) (one : X) (ts following rest : Kinds) (total : Reads (List A)) → i < n → eat x ts ≡ Some following → item following ≡ Ok (view one, rest) → with_front (map view xs) (many (after x item) (n - i) ts) ≡ total → with_front (map view (xs ++ one ∷ [])) (many (after x item) (n - (i + 1)) rest) ≡ total
+list_more {X} {A} view x item n i xs one ts following rest total lt e h so_far =
+    rw (map_push view xs one) (many_more (after x item) n i (map view xs) (view one) ts rest total lt (after_some x item ts following e ∙ ap (λ (z : Reads A). Some z) h) so_far)
 
-pub list_fail : {A : Type 0} (e : Refusal) (x : Terminal) (item : Parser A) (n i : ℕ) (front : List A) (ts behind : Kinds) (total : Reads (List A)) → i < n → eat x ts ≡ Some behind → Fails e (item behind) → with_front front (many (after x item) (n - i) ts) ≡ total → Fails e total
-list_fail e x item n i front ts behind total lt h f so_far = many_fail e (after x item) n i front ts (item behind) total lt (after_some x item ts behind h) f so_far
+pub list_fail : {A : Type 0} (e : Refusal) (x : Terminal) (item : Parser A) (n i : ℕ) (front : List A) (ts following : Kinds) (total : Reads (List A)) → i < n → eat x ts ≡ Some following → Fails e (item following) → with_front front (many (after x item) (n - i) ts) ≡ total → Fails e total
+list_fail e x item n i front ts following total lt h f so_far = many_fail e (after x item) n i front ts (item following) total lt (after_some x item ts following h) f so_far
 
 pub list_end : {A : Type 0} (x : Terminal) (item : Parser A) (n : ℕ) (front : List A) (ts : Kinds) (total : Reads (List A)) → eat x ts ≡ None → with_front front (many (after x item) n ts) ≡ total → total ≡ Ok (front, ts)
 list_end x item n front ts total e so_far = many_end (after x item) n front ts total (λ lt. after_none x item ts e) so_far

@@ -13,6 +13,6 @@ pub use list::{Reader, list_at};
 pub use name::Name;
 pub use refusal::Refusal;
 pub use tokens::{
-    eat, eat_name, eat_word, expect, expect_word, name_at, number_at, token_place, unexpected,
+    eat, eat_name, eat_word, expect, expect_word, name_at, number_at, token_place, unexpected_token,
 };
 pub use words::KeyWord;

@@ -38,7 +38,7 @@ pub fn eat(tokens: &[Token], terminal: Terminal) -> Option<&[Token]>
 }
 
 /// The refusal of the first token, or of the end of the tokens.
-pub fn unexpected(tokens: &[Token]) -> Refusal
+pub fn unexpected_token(tokens: &[Token]) -> Refusal
     ensures { result ≡ Refusal.Unexpected (length (kinds_of tokens.now)) }
 {
     Refusal::Unexpected { left: tokens.len() }
@@ -58,7 +58,7 @@ pub fn expect(tokens: &[Token], terminal: Terminal) -> Result<&[Token], Refusal>
 {
     match eat(tokens, terminal) {
         Some(rest) => Ok(rest),
-        None => Err(unexpected(tokens)),
+        None => Err(unexpected_token(tokens)),
     }
 }
 
@@ -92,7 +92,7 @@ pub fn expect_word(tokens: &[Token], word: KeyWord) -> Result<&[Token], Refusal>
 {
     match eat_word(tokens, word) {
         Some(rest) => Ok(rest),
-        None => Err(unexpected(tokens)),
+        None => Err(unexpected_token(tokens)),
     }
 }
 
@@ -139,7 +139,7 @@ pub fn name_at(alloc: Global, tokens: &[Token]) -> Result<(Name, &[Token]), Refu
 {
     match eat_name(alloc, tokens)? {
         Some(found) => Ok(found),
-        None => Err(unexpected(tokens)),
+        None => Err(unexpected_token(tokens)),
     }
 }
 
@@ -156,6 +156,6 @@ pub fn number_at(tokens: &[Token]) -> Result<(u64, &[Token]), Refusal>
             },
             rest @ ..,
         ] => Ok((*number, rest)),
-        _ => Err(unexpected(tokens)),
+        _ => Err(unexpected_token(tokens)),
     }
 }

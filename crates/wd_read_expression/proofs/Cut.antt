@@ -32,7 +32,7 @@ pub record IsCut {A : Type 0} (one : A → Kinds → Kinds) (Good : A → Type 0
   pub tree : A
   pub good : Good tree
   pub counted : suc (length more) ≡ left
-  pub found : (us : Kinds) → (front : Kinds) × (behind : Kinds) × (ts ≡ front ++ token ∷ more) × (one tree us ≡ front ++ token ∷ behind) × passes tree us (token ∷ behind)
+  pub found : (us : Kinds) → (front : Kinds) × (following : Kinds) × (ts ≡ front ++ token ∷ more) × (one tree us ≡ front ++ token ∷ following) × passes tree us (token ∷ following)
 
 -- a part of a greater tree
 pub cut_step : {A B : Type 0} (one : A → Kinds → Kinds) (Good : A → Type 0) (passes : A → Kinds → Kinds → Type 0) (ts : Kinds) (one' : B → Kinds → Kinds) (Good' : B → Type 0) (passes' : B → Kinds → Kinds → Type 0) (ts' : Kinds) (pre : Kinds → Kinds) (g : A → B) (next : A → Kinds → Kinds) → IsPre pre → ts' ≡ pre ts → ((a : A) → Good a → Good' (g a)) → ((a : A) (us : Kinds) → Good a → one' (g a) us ≡ pre (one a (next a us))) → ((a : A) (us rest : Kinds) → Good a → passes a (next a us) rest → passes' (g a) us rest) → (left : ℕ) → IsCut one Good passes ts left → IsCut one' Good' passes' ts' left
@@ -46,14 +46,14 @@ cut_step one Good passes ts one' Good' passes' ts' pre g next hp e hg ho hs left
 }
 
 -- the refused token itself
-pub cut_here : {A : Type 0} (one : A → Kinds → Kinds) (Good : A → Type 0) (passes : A → Kinds → Kinds → Type 0) (ts : Kinds) (pre : Kinds → Kinds) (token : TokenKind) (more : Kinds) (tree : A) (behind : Kinds → Kinds) (left : ℕ) → IsPre pre → Good tree → ts ≡ pre (token ∷ more) → suc (length more) ≡ left → ((us : Kinds) → one tree us ≡ pre (token ∷ behind us)) → ((us : Kinds) → passes tree us (token ∷ behind us)) → IsCut one Good passes ts left
-cut_here one Good passes ts pre token more tree behind left hp g e l ho hs = record {
+pub cut_here : {A : Type 0} (one : A → Kinds → Kinds) (Good : A → Type 0) (passes : A → Kinds → Kinds → Type 0) (ts : Kinds) (pre : Kinds → Kinds) (token : TokenKind) (more : Kinds) (tree : A) (following : Kinds → Kinds) (left : ℕ) → IsPre pre → Good tree → ts ≡ pre (token ∷ more) → suc (length more) ≡ left → ((us : Kinds) → one tree us ≡ pre (token ∷ following us)) → ((us : Kinds) → passes tree us (token ∷ following us)) → IsCut one Good passes ts left
+cut_here one Good passes ts pre token more tree following left hp g e l ho hs = record {
   token = token;
   more = more;
   tree = tree;
   good = g;
   counted = l;
-  found = λ us. (pre [], behind us, e ∙ hp [] (token ∷ more), ho us ∙ hp [] (token ∷ behind us), hs us);
+  found = λ us. (pre [], following us, e ∙ hp [] (token ∷ more), ho us ∙ hp [] (token ∷ following us), hs us);
 }
 
 pre_none : IsPre (λ z. z)

@@ -54,23 +54,23 @@ chained_last a before links last e = rw e (ap (chained a) (map_push view_link be
 pub tested_last : (a : Tree) (before nots : List Bool) (last : Bool) → nots ≡ before ++ last ∷ [] → tested a nots ≡ IsNull (tested a before) last
 tested_last a before nots last e = rw e (tested_end a before last)
 
-pub links_more : (p : Parser Tree) (h i : ℕ) (a : Tree) (xs : List Link) (x : Link) (ts behind rest : Kinds) (total : Reads Tree) → i < 200 → operator_at h ts ≡ Some (x.operator, behind) → p behind ≡ Ok (view x.operand, rest) → links p h (200 - i) (chained a (map view_link xs)) ts ≡ total → links p h (200 - (i + 1)) (chained a (map view_link (xs ++ x ∷ []))) rest ≡ total
+pub links_more : (p : Parser Tree) (h i : ℕ) (a : Tree) (xs : List Link) (x : Link) (ts following rest : Kinds) (total : Reads Tree) → i < 200 → operator_at h ts ≡ Some (x.operator, following) → p following ≡ Ok (view x.operand, rest) → links p h (200 - i) (chained a (map view_link xs)) ts ≡ total → links p h (200 - (i + 1)) (chained a (map view_link (xs ++ x ∷ []))) rest ≡ total
 unfolding links
-links_more p h i a xs x ts behind rest total lt eo ep so_far =
+links_more p h i a xs x ts following rest total lt eo ep so_far =
     let k : 200 - i ≡ suc (200 - (i + 1)) = omega arith in
     let tree = chained a (map view_link xs) in
     let one : links p h (200 - i) tree ts ≡ links p h (200 - (i + 1)) (Binary x.operator tree (view x.operand)) rest = rw (k, eo, ep) refl in
     let grown : chained a (map view_link (xs ++ x ∷ [])) ≡ Binary x.operator tree (view x.operand) = chained_last a xs (xs ++ x ∷ []) x refl in
     ap (λ z. links p h (200 - (i + 1)) z rest) grown ∙ sym one ∙ so_far
 
-pub links_fail : (e : Refusal) (p : Parser Tree) (h i : ℕ) (a : Tree) (ts : Kinds) (o : Operator) (behind : Kinds) (total : Reads Tree) → i < 200 → operator_at h ts ≡ Some (o, behind) → Fails e (p behind) → links p h (200 - i) a ts ≡ total → Fails e total
+pub links_fail : (e : Refusal) (p : Parser Tree) (h i : ℕ) (a : Tree) (ts : Kinds) (o : Operator) (following : Kinds) (total : Reads Tree) → i < 200 → operator_at h ts ≡ Some (o, following) → Fails e (p following) → links p h (200 - i) a ts ≡ total → Fails e total
 unfolding links
-links_fail r.OutOfMemory p h i a ts o behind total lt eo ep so_far = tt
-links_fail (r.Unexpected left) p h i a ts o behind total lt eo ep so_far =
+links_fail r.OutOfMemory p h i a ts o following total lt eo ep so_far = tt
+links_fail (r.Unexpected left) p h i a ts o following total lt eo ep so_far =
     let k : 200 - i ≡ suc (200 - (i + 1)) = omega arith in
     let one : links p h (200 - i) a ts ≡ Err (Unexpected left) = rw (k, eo, ep) refl in
     sym so_far ∙ one
-links_fail (r.PastLimit left) p h i a ts o behind total lt eo ep so_far =
+links_fail (r.PastLimit left) p h i a ts o following total lt eo ep so_far =
     let k : 200 - i ≡ suc (200 - (i + 1)) = omega arith in
     let one : links p h (200 - i) a ts ≡ Err (Limit left) = rw (k, eo, ep) refl in
     sym so_far ∙ one
@@ -84,28 +84,28 @@ links_full p h i a ts x n total en le eo so_far =
 
 -- ---- tests for NULL
 
-pub tests_more : (i : ℕ) (a : Tree) (nots : List Bool) (not : Bool) (ts behind rest : Kinds) (total : Reads Tree) → i < 200 → eat m.Is ts ≡ Some behind → null_at behind ≡ Ok (not, rest) → tests (200 - i) (tested a nots) ts ≡ total → tests (200 - (i + 1)) (tested a (nots ++ not ∷ [])) rest ≡ total
+pub tests_more : (i : ℕ) (a : Tree) (nots : List Bool) (not : Bool) (ts following rest : Kinds) (total : Reads Tree) → i < 200 → eat m.Is ts ≡ Some following → null_at following ≡ Ok (not, rest) → tests (200 - i) (tested a nots) ts ≡ total → tests (200 - (i + 1)) (tested a (nots ++ not ∷ [])) rest ≡ total
 unfolding tests
-tests_more i a nots not ts behind rest total lt eo ep so_far =
+tests_more i a nots not ts following rest total lt eo ep so_far =
     let k : 200 - i ≡ suc (200 - (i + 1)) = omega arith in
     let one : tests (200 - i) (tested a nots) ts ≡ tests (200 - (i + 1)) (IsNull (tested a nots) not) rest = rw (k, eo, ep) refl in
     ap (λ z. tests (200 - (i + 1)) z rest) (tested_end a nots not) ∙ sym one ∙ so_far
 
-pub tests_fail : (e : Refusal) (i : ℕ) (a : Tree) (ts behind : Kinds) (total : Reads Tree) → i < 200 → eat m.Is ts ≡ Some behind → Fails e (null_at behind) → tests (200 - i) a ts ≡ total → Fails e total
+pub tests_fail : (e : Refusal) (i : ℕ) (a : Tree) (ts following : Kinds) (total : Reads Tree) → i < 200 → eat m.Is ts ≡ Some following → Fails e (null_at following) → tests (200 - i) a ts ≡ total → Fails e total
 unfolding tests
-tests_fail r.OutOfMemory i a ts behind total lt eo ep so_far = tt
-tests_fail (r.Unexpected left) i a ts behind total lt eo ep so_far =
+tests_fail r.OutOfMemory i a ts following total lt eo ep so_far = tt
+tests_fail (r.Unexpected left) i a ts following total lt eo ep so_far =
     let k : 200 - i ≡ suc (200 - (i + 1)) = omega arith in
     let one : tests (200 - i) a ts ≡ Err (Unexpected left) = rw (k, eo, ep) refl in
     sym so_far ∙ one
-tests_fail (r.PastLimit left) i a ts behind total lt eo ep so_far =
+tests_fail (r.PastLimit left) i a ts following total lt eo ep so_far =
     let k : 200 - i ≡ suc (200 - (i + 1)) = omega arith in
     let one : tests (200 - i) a ts ≡ Err (Limit left) = rw (k, eo, ep) refl in
     sym so_far ∙ one
 
-pub tests_full : (i : ℕ) (a : Tree) (ts behind : Kinds) (n : ℕ) (total : Reads Tree) → length ts ≡ n → 200 ≤ i → eat m.Is ts ≡ Some behind → tests (200 - i) a ts ≡ total → total ≡ Err (Limit n)
+pub tests_full : (i : ℕ) (a : Tree) (ts following : Kinds) (n : ℕ) (total : Reads Tree) → length ts ≡ n → 200 ≤ i → eat m.Is ts ≡ Some following → tests (200 - i) a ts ≡ total → total ≡ Err (Limit n)
 unfolding tests
-tests_full i a ts behind n total en le eo so_far =
+tests_full i a ts following n total en le eo so_far =
     let k : 200 - i ≡ 0 = omega arith in
     let one : tests (200 - i) a ts ≡ Err (Limit n) = rw (k, eo, en) refl in
     sym so_far ∙ one

@@ -64,12 +64,12 @@ fn at(
 {
     match height {
         Height::Primary => primary(alloc, depth, tokens),
-        Height::Sign => signed(alloc, depth, tokens),
+        Height::Sign => signed_operand(alloc, depth, tokens),
         Height::Product => chain(alloc, Height::Product, depth, tokens),
         Height::Sum => chain(alloc, Height::Sum, depth, tokens),
         Height::Comparison => comparison(alloc, depth, tokens),
-        Height::Test => tested(alloc, depth, tokens),
-        Height::Negation => negated(alloc, depth, tokens),
+        Height::Test => test(alloc, depth, tokens),
+        Height::Negation => negation(alloc, depth, tokens),
         Height::Conjunction => chain(alloc, Height::Conjunction, depth, tokens),
         Height::Disjunction => chain(alloc, Height::Disjunction, depth, tokens),
     }
@@ -141,7 +141,7 @@ fn comparison(alloc: Global, depth: u8, tokens: &[Token]) -> Result<(Box<Expr>, 
 
 #[tactic(auto, unfolding(crate::specs::Reading::levels))]
 #[cycle(expr)]
-fn tested(alloc: Global, depth: u8, tokens: &[Token]) -> Result<(Box<Expr>, &[Token]), Refusal>
+fn test(alloc: Global, depth: u8, tokens: &[Token]) -> Result<(Box<Expr>, &[Token]), Refusal>
     ensures { Gives (λ x. (view x.0.value, kinds_of x.1.now)) result (read most_operators depth (rank heights.Test) (kinds_of tokens.now)) }
 {
     let (operand, rest) = at(alloc, Height::Comparison, depth, tokens)?;
@@ -150,7 +150,7 @@ fn tested(alloc: Global, depth: u8, tokens: &[Token]) -> Result<(Box<Expr>, &[To
 
 #[tactic(auto, unfolding(crate::specs::Reading::levels, crate::specs::Reading::deeper_of), using(crate::proofs::Loops::length_kinds))]
 #[cycle(expr)]
-fn negated(alloc: Global, depth: u8, tokens: &[Token]) -> Result<(Box<Expr>, &[Token]), Refusal>
+fn negation(alloc: Global, depth: u8, tokens: &[Token]) -> Result<(Box<Expr>, &[Token]), Refusal>
     ensures { Gives (λ x. (view x.0.value, kinds_of x.1.now)) result (read most_operators depth (rank heights.Negation) (kinds_of tokens.now)) }
 {
     match eat(tokens, Terminal::Not) {
@@ -165,7 +165,11 @@ fn negated(alloc: Global, depth: u8, tokens: &[Token]) -> Result<(Box<Expr>, &[T
 
 #[tactic(auto, unfolding(crate::specs::Reading::levels, crate::specs::Reading::deeper_of), using(crate::proofs::Loops::length_kinds))]
 #[cycle(expr)]
-fn signed(alloc: Global, depth: u8, tokens: &[Token]) -> Result<(Box<Expr>, &[Token]), Refusal>
+fn signed_operand(
+    alloc: Global,
+    depth: u8,
+    tokens: &[Token],
+) -> Result<(Box<Expr>, &[Token]), Refusal>
     ensures { Gives (λ x. (view x.0.value, kinds_of x.1.now)) result (read most_operators depth (rank heights.Sign) (kinds_of tokens.now)) }
 {
     match sign_at(tokens) {
@@ -197,7 +201,7 @@ fn primary(alloc: Global, depth: u8, tokens: &[Token]) -> Result<(Box<Expr>, &[T
         }
         TokenKind::Word(text) => {
             let text = text.copy()?;
-            named(
+            primary_by_name(
                 alloc,
                 depth,
                 Name {
@@ -209,16 +213,16 @@ fn primary(alloc: Global, depth: u8, tokens: &[Token]) -> Result<(Box<Expr>, &[T
         }
         TokenKind::Quoted(text) => {
             let text = text.copy()?;
-            named(alloc, depth, Name { text, quoted: true }, rest)
+            primary_by_name(alloc, depth, Name { text, quoted: true }, rest)
         }
-        TokenKind::Terminal(terminal) => led_by(alloc, depth, *terminal, rest),
+        TokenKind::Terminal(terminal) => primary_by_terminal(alloc, depth, *terminal, rest),
     }
 }
 
 /// A primary expression that begins with a terminal, after the terminal.
 #[tactic(auto, unfolding(crate::specs::Reading::deeper_of), using(crate::proofs::Loops::length_kinds))]
 #[cycle(expr)]
-fn led_by(
+fn primary_by_terminal(
     alloc: Global,
     depth: u8,
     terminal: Terminal,
@@ -258,7 +262,7 @@ fn bracket(alloc: Global, depth: u8, tokens: &[Token]) -> Result<(Box<Expr>, &[T
 /// A name, and what may follow it.
 #[tactic(auto, unfolding(crate::specs::Reading::named_at))]
 #[cycle(expr)]
-fn named(
+fn primary_by_name(
     alloc: Global,
     depth: u8,
     name: Name,

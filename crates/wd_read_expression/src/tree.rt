@@ -11,8 +11,8 @@ use std::alloc::Global;
 use wd_read_cursor::Refusal;
 use wd_syntax::{Arm, Expr, Frame, Link, Name, Over, SortKey, Window};
 
-// A Vec inside the tree is a list of its elements there: `linked`, `call_of`, `case_of` and `window_of` say once what it holds.
-fn linked(first: Box<Expr>, before: Vec<Link>, last: Box<Link>) -> Expr
+// A Vec inside the tree is a list of its elements there: `link`, `call_of`, `case_of` and `window_of` say once what it holds.
+fn link(first: Box<Expr>, before: Vec<Link>, last: Box<Link>) -> Expr
     ensures { view result ≡ Tree.Binary last.value.operator (chained (view first.value) (map view_link before.items)) (view last.value.operand) }
 {
     Expr::Chain(first, before, last)
@@ -26,7 +26,7 @@ pub fn chain_of(alloc: Global, first: Box<Expr>, mut links: Vec<Link>) -> Result
     match links.pop() {
         Some(last) => {
             let last = Box::new(alloc, last)?;
-            Ok(Box::new(alloc, linked(first, links, last))?)
+            Ok(Box::new(alloc, link(first, links, last))?)
         }
         None => Ok(first),
     }

@@ -141,8 +141,8 @@ pub record Eats (token : TokenKind) (found : List TokenKind → Option (List Tok
 
 module _ (token : TokenKind) (found : List TokenKind → Option (List TokenKind)) (eats : Eats token found)
     {C : Type 0} (spell_all : C → List TokenKind → List TokenKind) (Whole : C → Type 0) (May : C → List TokenKind → Type 0) (others : C → List TokenKind → List TokenKind) where
-  behind : (left : ℕ) (after kinds rest all : List TokenKind) → kinds ≡ token ∷ rest → all ≡ token ∷ after → Before left after rest → Before left all kinds
-  behind left after kinds rest all e f before = subst (λ ks. Before left ks kinds) (sym f) (subst (λ ks. Before left (token ∷ after) ks) (sym e) (λ le. (refl, before)))
+  following : (left : ℕ) (after kinds rest all : List TokenKind) → kinds ≡ token ∷ rest → all ≡ token ∷ after → Before left after rest → Before left all kinds
+  following left after kinds rest all e f before = subst (λ ks. Before left ks kinds) (sym f) (subst (λ ks. Before left (token ∷ after) ks) (sym e) (λ le. (refl, before)))
 
   token_exact : ((y : C) (after : List TokenKind) → Whole y → spell_all y after ≡ token ∷ others y after) → (kinds rest : List TokenKind) (r : Reads C) → kinds ≡ token ∷ rest → Exact others Whole May rest r → Exact spell_all Whole May kinds r
   token_exact is kinds rest (Err (Limit left)) e refused = absurd refused
@@ -152,7 +152,7 @@ module _ (token : TokenKind) (found : List TokenKind → Option (List TokenKind)
         let found = agree_first left token (others y after) kinds (subst (λ ks. Agree left ks kinds) (is y after w) agree) in
         let same : found.0 ≡ rest = tail_is token found.0 rest (sym found.1 ∙ e) in
         refused.none y after w may (subst (Agree left (others y after)) same (found.2 (rw same refused.within)));
-    near = (refused.near.0, refused.near.1, λ after. behind left (others refused.near.0 after) kinds rest (spell_all refused.near.0 after) e (is refused.near.0 after refused.near.1) (refused.near.2 after));
+    near = (refused.near.0, refused.near.1, λ after. following left (others refused.near.0 after) kinds rest (spell_all refused.near.0 after) e (is refused.near.0 after refused.near.1) (refused.near.2 after));
   }
   token_exact is kinds rest (Ok z) e read = record {
     spelled = e ∙ ap (λ ks. token ∷ ks) read.spelled ∙ sym (is z.0 z.1 read.whole);
@@ -162,7 +162,7 @@ module _ (token : TokenKind) (found : List TokenKind → Option (List TokenKind)
         let found = agree_first left token (others y after) kinds (subst (λ ks. Agree left ks kinds) (is y after w) agree) in
         let same : found.0 ≡ rest = tail_is token found.0 rest (sym found.1 ∙ e) in
         read.same left y after w may lt (subst (Agree left (others y after)) same (found.2 (rw same (omega (arith, lt, read.shorter)))));
-    carries = λ left after before. behind left (others z.0 after) kinds rest (spell_all z.0 after) e (is z.0 after read.whole) (read.carries left after before);
+    carries = λ left after before. following left (others z.0 after) kinds rest (spell_all z.0 after) e (is z.0 after read.whole) (read.carries left after before);
   }
 
   pub expect_exact : ((y : C) (after : List TokenKind) → Whole y → spell_all y after ≡ token ∷ others y after) → (y : C) × Whole y → (kinds : List TokenKind) (f : List TokenKind → Reads C) → ((rest : List TokenKind) → Exact others Whole May rest (f rest)) → Exact spell_all Whole May kinds (some_or_unexpected (length kinds) (found kinds) >>= f)

@@ -101,15 +101,15 @@ said_or_not Distinct = inl tt
 said_or_not NotDistinct = inl tt
 
 -- what follows the word NULLS
-abbrev behind_nulls : Nulls → List TokenKind → List TokenKind
-behind_nulls Unsaid after = after
-behind_nulls Distinct after = k.Terminal m.Distinct ∷ after
-behind_nulls NotDistinct after = k.Terminal m.Not ∷ k.Terminal m.Distinct ∷ after
+abbrev after_nulls : Nulls → List TokenKind → List TokenKind
+after_nulls Unsaid after = after
+after_nulls Distinct after = k.Terminal m.Distinct ∷ after
+after_nulls NotDistinct after = k.Terminal m.Not ∷ k.Terminal m.Distinct ∷ after
 
-behind_nulls_is : (y : Nulls) (after : List TokenKind) → IsSaid y → spell_nulls y after ≡ nulls_token ∷ behind_nulls y after
-behind_nulls_is Unsaid after said = absurd said
-behind_nulls_is Distinct after said = refl
-behind_nulls_is NotDistinct after said = refl
+after_nulls_is : (y : Nulls) (after : List TokenKind) → IsSaid y → spell_nulls y after ≡ nulls_token ∷ after_nulls y after
+after_nulls_is Unsaid after said = absurd said
+after_nulls_is Distinct after said = refl
+after_nulls_is NotDistinct after said = refl
 
 distinct_or_not : (y : Nulls) → IsSaid y → (y ≡ NotDistinct) ⊎ (y ≡ Distinct)
 distinct_or_not Unsaid said = absurd said
@@ -125,19 +125,19 @@ MayNulls y after = Without nulls_token after
 pub nulls_exact : (kinds : List TokenKind) → Exact spell_nulls Any MayNulls kinds (nulls_at kinds)
 unfolding nulls_at expect
 nulls_exact kinds =
-    choose_exact nulls_token (eat_word w.Nulls) (eats_word w.Nulls) spell_nulls Any MayNulls behind_nulls IsSaid (λ y. y ≡ Unsaid)
-    (λ y w. said_or_not y) (λ y after w said. behind_nulls_is y after said)
+    choose_exact nulls_token (eat_word w.Nulls) (eats_word w.Nulls) spell_nulls Any MayNulls after_nulls IsSaid (λ y. y ≡ Unsaid)
+    (λ y w. said_or_not y) (λ y after w said. after_nulls_is y after said)
     (λ y after w is may. λ rest e. may rest (sym (ap (λ z. spell_nulls z after) is) ∙ e))
     kinds _ _
     (λ nulls at.
-    choose_exact (k.Terminal m.Not) (eat m.Not) (eats_terminal m.Not) behind_nulls (λ y. Any y × IsSaid y) MayNulls (λ y after. k.Terminal m.Distinct ∷ after) (λ y. y ≡ NotDistinct) (λ y. y ≡ Distinct)
-    (λ y w. distinct_or_not y w.1) (λ y after w is. ap (λ z. behind_nulls z after) is)
-    (λ y after w is may. λ rest e. distinct_not rest after (sym (ap (λ z. behind_nulls z after) is) ∙ e))
+    choose_exact (k.Terminal m.Not) (eat m.Not) (eats_terminal m.Not) after_nulls (λ y. Any y × IsSaid y) MayNulls (λ y after. k.Terminal m.Distinct ∷ after) (λ y. y ≡ NotDistinct) (λ y. y ≡ Distinct)
+    (λ y w. distinct_or_not y w.1) (λ y after w is. ap (λ z. after_nulls z after) is)
+    (λ y after w is may. λ rest e. distinct_not rest after (sym (ap (λ z. after_nulls z after) is) ∙ e))
     nulls _ _
     (λ not at'. expect_exact (k.Terminal m.Distinct) (eat m.Distinct) (eats_terminal m.Distinct) (λ y after. k.Terminal m.Distinct ∷ after) (λ y. (Any y × IsSaid y) × (y ≡ NotDistinct)) MayNulls (λ y after. after)
     (λ y after w. refl) (NotDistinct, ((tt, tt), refl)) not _ (λ rest. done_exact (λ y. (Any y × IsSaid y) × (y ≡ NotDistinct)) MayNulls NotDistinct rest ((tt, tt), refl) (λ y w. w.1)))
-    (expect_exact (k.Terminal m.Distinct) (eat m.Distinct) (eats_terminal m.Distinct) behind_nulls (λ y. (Any y × IsSaid y) × (y ≡ Distinct)) MayNulls (λ y after. after)
-    (λ y after w. ap (λ z. behind_nulls z after) w.1) (Distinct, ((tt, tt), refl)) nulls _ (λ rest. done_exact (λ y. (Any y × IsSaid y) × (y ≡ Distinct)) MayNulls Distinct rest ((tt, tt), refl) (λ y w. w.1))))
+    (expect_exact (k.Terminal m.Distinct) (eat m.Distinct) (eats_terminal m.Distinct) after_nulls (λ y. (Any y × IsSaid y) × (y ≡ Distinct)) MayNulls (λ y after. after)
+    (λ y after w. ap (λ z. after_nulls z after) w.1) (Distinct, ((tt, tt), refl)) nulls _ (λ rest. done_exact (λ y. (Any y × IsSaid y) × (y ≡ Distinct)) MayNulls Distinct rest ((tt, tt), refl) (λ y w. w.1))))
     (empty_exact spell_nulls (λ y. Any y × (y ≡ Unsaid)) MayNulls Unsaid kinds (λ after. refl) (tt, refl) (λ y w. w.1))
 
 -- ---- the words of a key

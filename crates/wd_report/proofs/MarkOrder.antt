@@ -10,6 +10,6 @@ rule_if : (b : Bool) (mark : Mark) (others : Option Mark) → option_map (λ (m 
 rule_if true mark others = refl
 rule_if false mark others = refl
 
--- one more mark counts before those behind it
+-- one more mark counts before those after it
 pub one_more : (marks : List (Bor Mark)) (mark : Bor Mark) (node : ℕ) (call : Option ℕ) → rule_marked node call (reverse (map (λ m. m.now) (marks ++ mark ∷ []))) ≡ cond (is_mark_of node call mark.now) (Some mark.now.rule) (rule_marked node call (reverse (map (λ m. m.now) marks)))
 one_more marks mark node call = rw (map-append {B = Mark} (λ m. m.now) marks (mark ∷ []), reverse-append {A = Mark} (map (λ m. m.now) marks) (mark.now ∷ [])) (rule_if (is_mark_of node call mark.now) mark.now (find (is_mark_of node call) (reverse (map (λ m. m.now) marks))))

@@ -7,7 +7,7 @@ use Rattle.wd_schema.specs.Schemas.{schema_of}
 use Rattle.wd_schema.specs.Tables.{TableRule}
 use Rattle.wd_plan.specs.Fits.{width}
 use Rattle.wd_plan.specs.Functions as functions
-use Rattle.wd_plan.specs.Plans.{LimitRule, PlanTree, Scan, Join, Filter, Map, Group, Window, Distinct, Limit, node_count, plan_of}
+use Rattle.wd_plan.specs.Plans.{LimitRule, PlanTree, Scan, Join, Over, Filter, Map, Group, Window, Distinct, Limit, node_count, plan_of}
 use Rattle.wd_plan.specs.declared.window.Call.{Call}
 use Rattle.wd_certificate.specs.Certificates.{nodes_of}
 use Rattle.wd_rules.specs.Validity.{entry_at, top_number}
@@ -73,24 +73,19 @@ table_name (Some table) = table.name
 abbrev pub top_lines : List TableRule → Analysis → ℕ → PlanTree → List ℕ
 top_lines tables analysis node (Scan table columns) = line (node_words node (codes "Scan " ++ table_name (slice_get tables table)) columns)
 top_lines tables analysis node (Join condition left right) = line (node_words node (codes "Join") (width (Join condition left right)))
-top_lines tables analysis node (Filter condition input) = line (node_words node (codes "Filter") (width (Filter condition input)))
-top_lines tables analysis node (Map outputs input) = line (node_words node (codes "Map") (width (Map outputs input)))
-top_lines tables analysis node (Group rule input) = line (node_words node (codes "Group") (width (Group rule input)))
-top_lines tables analysis node (Window w input) = line (node_words node (codes "Window") (width (Window w input))) ++ call_lines analysis node 0 w.calls
-top_lines tables analysis node (Distinct input) = line (node_words node (codes "Distinct") (width (Distinct input)))
-top_lines tables analysis node (Limit limit input) = line (node_words node (codes "Limit") (width (Limit limit input)) ++ codes " " ++ rule_word (limit_rule analysis node limit))
+top_lines tables analysis node (Over (Filter condition) input) = line (node_words node (codes "Filter") (width (Over (Filter condition) input)))
+top_lines tables analysis node (Over (Map outputs) input) = line (node_words node (codes "Map") (width (Over (Map outputs) input)))
+top_lines tables analysis node (Over (Group rule) input) = line (node_words node (codes "Group") (width (Over (Group rule) input)))
+top_lines tables analysis node (Over (Window w) input) = line (node_words node (codes "Window") (width (Over (Window w) input))) ++ call_lines analysis node 0 w.calls
+top_lines tables analysis node (Over Distinct input) = line (node_words node (codes "Distinct") (width (Over Distinct input)))
+top_lines tables analysis node (Over (Limit limit) input) = line (node_words node (codes "Limit") (width (Over (Limit limit) input)) ++ codes " " ++ rule_word (limit_rule analysis node limit))
 
 -- the lines of a plan's nodes in postorder, numbered from here on
 abbrev pub plan_lines : List TableRule → Analysis → ℕ → PlanTree → List ℕ
 plan_lines tables analysis first (Scan table columns) = top_lines tables analysis first (Scan table columns)
 plan_lines tables analysis first (Join condition left right) =
     plan_lines tables analysis first left ++ plan_lines tables analysis (first + node_count left) right ++ top_lines tables analysis (top_number (Join condition left right) first) (Join condition left right)
-plan_lines tables analysis first (Filter condition input) = plan_lines tables analysis first input ++ top_lines tables analysis (top_number (Filter condition input) first) (Filter condition input)
-plan_lines tables analysis first (Map outputs input) = plan_lines tables analysis first input ++ top_lines tables analysis (top_number (Map outputs input) first) (Map outputs input)
-plan_lines tables analysis first (Group rule input) = plan_lines tables analysis first input ++ top_lines tables analysis (top_number (Group rule input) first) (Group rule input)
-plan_lines tables analysis first (Window w input) = plan_lines tables analysis first input ++ top_lines tables analysis (top_number (Window w input) first) (Window w input)
-plan_lines tables analysis first (Distinct input) = plan_lines tables analysis first input ++ top_lines tables analysis (top_number (Distinct input) first) (Distinct input)
-plan_lines tables analysis first (Limit limit input) = plan_lines tables analysis first input ++ top_lines tables analysis (top_number (Limit limit input) first) (Limit limit input)
+plan_lines tables analysis first (Over step input) = plan_lines tables analysis first input ++ top_lines tables analysis (top_number (Over step input) first) (Over step input)
 
 -- a plan with its rules, and the verdict's word
 abbrev pub explanation : List TableRule → PlanTree → Analysis → Verdict → List ℕ

@@ -8,7 +8,7 @@ use Rattle.wd_schema.specs.Tables.{TableRule}
 use Rattle.wd_syntax.specs.declared.query.Limits.{Limits}
 use Rattle.wd_syntax.specs.Tree.{Keys, no_keys, more_keys, Parts, SelectTree, select, QueryTree, query}
 use Rattle.wd_plan.specs.Expressions.{Expression}
-use Rattle.wd_plan.specs.Plans.{LimitRule, PlanTree, Limit, Map}
+use Rattle.wd_plan.specs.Plans.{LimitRule, PlanTree, Over, Limit, Map}
 use Rattle.wd_resolve_operand.specs.declared.cause.Cause.TheVariants.{ForeignSortKey, TooMany}
 use Rattle.wd_resolve_operand.specs.Causes.{◌>>=◌}
 use Rattle.wd_resolve_operand.specs.BoundExpressions.{BoundExpression}
@@ -61,16 +61,16 @@ keys_more s (more_keys a direction nulls keys) so_far r e =
 -- ---- the Limit and the Map above it
 
 abbrev IsLimit : PlanTree → Type 0
-IsLimit plan = (limit : LimitRule) × (input : PlanTree) × (plan ≡ Limit limit input)
+IsLimit plan = (limit : LimitRule) × (input : PlanTree) × (plan ≡ Over (Limit limit) input)
 
 limited_ends : (items : List SortColumn) (row_limit : Option RowLimit) (plan : PlanTree) → HasSome items → IsLimit (limited items row_limit plan)
 limited_ends [] row_limit plan h = absurd (false≢true h)
 limited_ends (item ∷ items) None plan h = (_, plan, refl)
 limited_ends (item ∷ items) (Some row_limit) plan h = (_, plan, refl)
 
-hidden_ends : (b : Bool) (outputs : List Expression) (plan : PlanTree) → IsLimit plan → EndsInLimit (cond b plan (Map outputs plan))
+hidden_ends : (b : Bool) (outputs : List Expression) (plan : PlanTree) → IsLimit plan → EndsInLimit (cond b plan (Over (Map outputs) plan))
 hidden_ends true outputs plan (limit, input, is) = (limit, input, inl is)
-hidden_ends false outputs plan (limit, input, is) = (limit, input, inr (outputs, λ i. Map outputs (is i)))
+hidden_ends false outputs plan (limit, input, is) = (limit, input, inr (outputs, λ i. Over (Map outputs) (is i)))
 
 shown_ends : (s : Shown) (order : Keys) (limits : Option Limits) (plan : PlanTree) (l : Lowered) → is_sorted order ≡ true → shown_sorted s order limits plan ≡ Ok l → EndsInLimit l.plan
 shown_ends s order limits plan l o e =

@@ -6,7 +6,7 @@ use Rattle.wd_schema.specs.Tables.{TableRule}
 use Rattle.wd_plan.specs.declared.expression.ValueKind.{ValueKind}
 use Rattle.wd_plan.specs.declared.expression.ValueKind.TheVariants.{Truth}
 use Rattle.wd_value.specs.declared.order.SortColumn.{SortColumn}
-use Rattle.wd_plan.specs.Plans.{PlanTree, Filter, Map}
+use Rattle.wd_plan.specs.Plans.{PlanTree, Over, Filter, Map}
 use Rattle.wd_syntax.specs.declared.query.Count.{Count}
 use Rattle.wd_syntax.specs.declared.query.Count.TheVariants as written
 use Rattle.wd_syntax.specs.declared.query.Limits.{Limits}
@@ -87,12 +87,12 @@ limited_is tables sorted (item ∷ items) (Some row_limit) plan ks h within is s
 without_hidden_is : (tables : List TableRule) (outputs hidden : ℕ) (plan : PlanTree) (ks ls : List ValueKind) → HasKinds tables plan (ks ++ ls) → outputs ≡ length ks → hidden ≡ length ls → HasKinds tables (without_hidden outputs hidden plan) ks
 without_hidden_is tables outputs hidden plan ks ls h same many = by (nat_eq hidden 0) refl
   where
-    by : (b : Bool) → nat_eq hidden 0 ≡ b → HasKinds tables (cond b plan (Map (columns_from 0 outputs) plan)) ks
+    by : (b : Bool) → nat_eq hidden 0 ≡ b → HasKinds tables (cond b plan (Over (Map (columns_from 0 outputs)) plan)) ks
     by true e =
         let none = eqb-true hidden 0 e in
         let nil : ls ≡ [] = nil_from_length ls (omega arith) in
         subst (HasKinds tables plan) (ap (λ xs. ks ++ xs) nil ∙ append-nil ks) h
-    by false e = subst (λ n. HasKinds tables (Map (columns_from 0 n) plan) ks) (sym same) (first_columns_is tables plan ks ls h)
+    by false e = subst (λ n. HasKinds tables (Over (Map (columns_from 0 n)) plan) ks) (sym same) (first_columns_is tables plan ks ls h)
 
 -- ---- the whole
 
@@ -151,7 +151,7 @@ selected_is tables scope below plan windows parts l h grouped is known e =
 filtered_is : (tables : List TableRule) (scope : ScopeRule) (filter : Option Tree) (plan next : PlanTree) → HasKinds tables plan (scope_kinds scope) → filtered scope filter plan ≡ Ok next → HasKinds tables next (scope_kinds scope)
 filtered_is tables scope None plan next h e = subst (λ p. HasKinds tables p (scope_kinds scope)) (ok_is _ _ e) h
 filtered_is tables scope (Some a) plan next h e =
-    let x = bound (condition place.Where scope a) (λ y. Ok (Filter y plan)) next e in
+    let x = bound (condition place.Where scope a) (λ y. Ok (Over (Filter y) plan)) next e in
     subst (λ p. HasKinds tables p (scope_kinds scope)) (ok_is _ _ x.2) (filter_is tables x.0 plan (scope_kinds scope) h (over_plan tables plan scope x.0 Truth h (condition_is place.Where scope a x.0 x.1)))
 
 pub after_from_is : (tables : List TableRule) (from : JoinedTables) (parts : Parts) (l : Lowered) → HasKinds tables from.plan (scope_kinds from.scope)

@@ -9,7 +9,7 @@ use Rattle.wd_schema.specs.Tables.{TableRule}
 use Rattle.wd_schema.specs.Texts.{Declares}
 use Rattle.wd_plan.specs.Expressions.{Expression}
 use Rattle.wd_plan.specs.Fits.{fits}
-use Rattle.wd_plan.specs.Plans.{LimitRule, PlanTree, Limit, Map}
+use Rattle.wd_plan.specs.Plans.{LimitRule, PlanTree, Over, Limit, Map}
 use Rattle.wd_resolve.specs.Answers.{Answer, answer}
 
 -- The plan and the names are those of a schema's text and a query's text: of the well-levelled tree that spells the query's tokens, over
@@ -30,7 +30,7 @@ PlansFit = (tables : List TableRule) (tree : QueryTree) (a : Answer) → answer 
 
 -- a plan's top node is a Limit, or a Map whose input is a Limit
 abbrev pub EndsInLimit : PlanTree → Type 0
-EndsInLimit plan = (limit : LimitRule) × (input : PlanTree) × ((plan ≡ Limit limit input) ⊎ ((outputs : List Expression) × (plan ≡ Map outputs (Limit limit input))))
+EndsInLimit plan = (limit : LimitRule) × (input : PlanTree) × ((plan ≡ Over (Limit limit) input) ⊎ ((outputs : List Expression) × (plan ≡ Over (Map outputs) (Over (Limit limit) input))))
 
 -- The plan of each query whose outermost select has ORDER BY ends so: the Map drops hidden sort keys.
 abbrev pub OrderedEndInLimit : Type 0

@@ -5,7 +5,7 @@ use Rattle.std.specs.declared.vec.Vec.{Vec}
 use Rattle.wd_plan.specs.Expressions.{Expression}
 use Rattle.wd_resolve_operand.specs.declared.cause.Cause.TheVariants.{CallNotAllowed}
 use Rattle.wd_resolve_operand.specs.declared.expression.BoundExpression.{BoundExpression as BoundExpressionCode}
-use Rattle.wd_resolve_operand.specs.declared.meaning.TypedOperand.{TypedOperand}
+use Rattle.wd_resolve_operand.specs.declared.operand.TypedOperand.{TypedOperand}
 use Rattle.wd_resolve_operand.specs.declared.operator.CaseArm.{CaseArm}
 use Rattle.wd_resolve_operand.specs.Causes.{Meant, ◌>>=◌}
 use Rattle.wd_resolve_operand.specs.BoundExpressions as expressions

@@ -16,8 +16,8 @@ use Rattle.wd_plan.specs.declared.expression.Branch.{Branch}
 use Rattle.wd_plan.specs.declared.expression.Branch.TheVariants.{First, Later}
 use Rattle.wd_plan.specs.Fits.{same_kind}
 use Rattle.wd_resolve_operand.specs.declared.cause.Cause.TheVariants.{Types}
-use Rattle.wd_resolve_operand.specs.declared.meaning.TypedOperand.{TypedOperand}
-use Rattle.wd_resolve_operand.specs.declared.meaning.TypedOperand.TheVariants as code
+use Rattle.wd_resolve_operand.specs.declared.operand.TypedOperand.{TypedOperand}
+use Rattle.wd_resolve_operand.specs.declared.operand.TypedOperand.TheVariants as code
 use Rattle.wd_resolve_operand.specs.declared.operator.CaseArm.{CaseArm}
 use Rattle.wd_resolve_operand.specs.Causes.{Meant, ◌>>=◌}
 use Rattle.wd_resolve_operand.specs.BoundExpressions as f

@@ -6,7 +6,7 @@ ghost use Rattle.wd_resolve_operand.specs.Operands as spec;
 
 use crate::cause::{Cause, ResolveError};
 use crate::expression::{BoundExpression, Reference};
-use crate::meaning::TypedOperand;
+use crate::operand::TypedOperand;
 use std::alloc::Global;
 use wd_plan::ValueKind;
 use wd_syntax::{Literal, Sign};

@@ -8,7 +8,7 @@ ghost use Rattle.wd_resolve_operand.specs.Operands as spec;
 
 use crate::cause::ResolveError;
 use crate::expression::{BoundExpression, Reference};
-use crate::meaning::TypedOperand;
+use crate::operand::TypedOperand;
 use std::alloc::Global;
 use wd_plan::{ArithmeticOp, Branch, ComparisonOp, ValueKind};
 use wd_syntax::{Operator, Sign};

@@ -11,7 +11,7 @@ use Rattle.wd_plan.specs.Equality.{same_expression}
 use Rattle.wd_plan.specs.Expressions.{Expression, Column}
 use Rattle.wd_plan.specs.Fits.{Kinds, are_sets, fits, is_group_call, is_typed, kind_of, kinds_of}
 use Rattle.wd_plan.specs.Fits as fits_spec
-use Rattle.wd_plan.specs.Plans.{PlanTree, Map, has}
+use Rattle.wd_plan.specs.Plans.{PlanTree, Over, Map, has}
 use Rattle.wd_resolve_call.specs.Rows.{BoundAggregate, count_rows, count_of, sum_of, least_of, greatest_of, GroupCall, of_rows, grouping, RowReference, column, of_group, aggregated, kind_of_group_call, same_group_call}
 use Rattle.wd_resolve_scope.specs.Scopes.{ScopeRule}
 use Rattle.wd_resolve_scope.specs.Typed.{IsAggregate, IsGroupCall, IsOfKind, IsRowReference, Readable, kinds_in, readable, row_kind_at}
@@ -118,10 +118,10 @@ module _ (tables : List TableRule) (plan : PlanTree) (scope : ScopeRule) (plan_i
   inputs = group_inputs g.columns calls
 
   abbrev Inner : Kinds
-  Inner = kinds_of tables (Map inputs plan)
+  Inner = kinds_of tables (Over (Map inputs) plan)
 
-  abbrev Over : Kinds
-  Over = kinds_of tables (group_on g calls plan)
+  abbrev Above : Kinds
+  Above = kinds_of tables (group_on g calls plan)
 
   extended : Extends Read Below
   extended c k e = plan_is.each c ∙ sym (scope_is scope c) ∙ e
@@ -157,7 +157,7 @@ module _ (tables : List TableRule) (plan : PlanTree) (scope : ScopeRule) (plan_i
   typed_below [] h = refl
   typed_below (e ∷ es) h = and_both _ _ (typed_kept Read Below extended e h.0) (typed_below es h.1)
 
-  map_fits : fits tables (Map inputs plan) ≡ true
+  map_fits : fits tables (Over (Map inputs) plan) ≡ true
   map_fits = and_both _ _ plan_is.fits_is (and_both _ _ (le-leb (length inputs) 1024 (few_arguments g calls narrow)) (typed_below inputs inputs_are))
 
   -- ---- what the Map shows
@@ -223,21 +223,21 @@ module _ (tables : List TableRule) (plan : PlanTree) (scope : ScopeRule) (plan_i
   call_gives (of_rows a) h there = gives_aggregate (IsOfKind Read) IsThere (number_in same_expression inputs) Inner stands a h there
   call_gives (grouping cs) h there = refl
 
-  call_over : (n : ℕ) (c : GroupCall) → slice_get calls n ≡ Some c → Over (length g.columns + n) ≡ Some (kind_of_group_call c)
+  call_over : (n : ℕ) (c : GroupCall) → slice_get calls n ≡ Some c → Above (length g.columns + n) ≡ Some (kind_of_group_call c)
   call_over n c e =
       let is = all_get (IsGroupCall r) calls n c calls_are e in
       let there = all_get HasArgument calls n c arguments_there e in
-      let behind = le-ltb (length g.columns + n) (length g.columns) (omega arith) in
+      let after = le-ltb (length g.columns + n) (length g.columns) (omega arith) in
       let number : (length g.columns + n) - length g.columns ≡ n = omega arith in
       let shown : slice_get (map (group_call_over g.columns inputs) calls) n ≡ Some (group_call_over g.columns inputs c) = slice_get-map (group_call_over g.columns inputs) calls n ∙ ap (option_map (group_call_over g.columns inputs)) e in
-      rw behind (rw number (rw shown (call_gives c is there)))
+      rw after (rw number (rw shown (call_gives c is there)))
 
   -- the calls of a reference are among those of the Group
   abbrev pub IsShown : RowReference → Type 0
   IsShown (column n) = Unit {0}
   IsShown (of_group c) = list_any (same_group_call c) calls ≡ true
 
-  pub reference_over : (l : RowReference) → IsRowReference r l → IsShown l → Over (group_place g.columns calls l) ≡ row_kind_at Read l
+  pub reference_over : (l : RowReference) → IsRowReference r l → IsShown l → Above (group_place g.columns calls l) ≡ row_kind_at Read l
   reference_over (column n) h there = rw (lt-ltb (number_in nat_eq g.columns n) (length g.columns) (column_within n h.1)) (column_kind n h.1)
   reference_over (of_group c) h there =
       let found = first_there (same_group_call c) calls there in

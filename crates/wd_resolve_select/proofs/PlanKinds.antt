@@ -9,7 +9,7 @@ use Rattle.wd_plan.specs.declared.expression.ValueKind.TheVariants.{Truth}
 use Rattle.wd_value.specs.declared.order.SortColumn.{SortColumn}
 use Rattle.wd_plan.specs.Expressions.{Expression}
 use Rattle.wd_plan.specs.Fits.{Kinds, fits, has_keys, is_typed, kinds_of, may_join, width}
-use Rattle.wd_plan.specs.Plans.{LimitRule, PlanTree, Join, Filter, Map, Distinct, Limit}
+use Rattle.wd_plan.specs.Plans.{LimitRule, PlanTree, Join, Over, Filter, Map, Distinct, Limit}
 use Rattle.wd_schema.specs.Tables.{TableRule}
 use Rattle.wd_resolve_scope.specs.declared.scope.ScopeColumn.{ScopeColumn}
 use Rattle.wd_resolve_scope.specs.Scopes.{ScopeRule}
@@ -103,19 +103,19 @@ join_is tables condition left right ls rs l r few may =
       each = join_kinds tables condition left right ls rs l r;
     }
 
-pub filter_is : (tables : List TableRule) (e : Expression) (plan : PlanTree) (ks : List ValueKind) → HasKinds tables plan ks → IsOfKind (kinds_of tables plan) e Truth → HasKinds tables (Filter e plan) ks
+pub filter_is : (tables : List TableRule) (e : Expression) (plan : PlanTree) (ks : List ValueKind) → HasKinds tables plan ks → IsOfKind (kinds_of tables plan) e Truth → HasKinds tables (Over (Filter e) plan) ks
 filter_is tables e plan ks h is = record { fits_is = and_both _ _ h.fits_is (and_both _ _ is.is (rw is.has refl)); wide = h.wide; narrow = h.narrow; each = h.each }
 
 -- ---- maps
 
-map_kinds : (tables : List TableRule) (plan : PlanTree) (es : List Expression) (ks : List ValueKind) → AreOfKinds (kinds_of tables plan) es ks → (c : ℕ) → kinds_of tables (Map es plan) c ≡ slice_get ks c
+map_kinds : (tables : List TableRule) (plan : PlanTree) (es : List Expression) (ks : List ValueKind) → AreOfKinds (kinds_of tables plan) es ks → (c : ℕ) → kinds_of tables (Over (Map es) plan) c ≡ slice_get ks c
 map_kinds tables plan [] [] h c = refl
 map_kinds tables plan (e ∷ es) (k ∷ ks) h zero = h.0.has
 map_kinds tables plan (e ∷ es) (k ∷ ks) h (suc c) = map_kinds tables plan es ks h.1 c
 map_kinds tables plan [] (k ∷ ks) h c = absurd h
 map_kinds tables plan (e ∷ es) [] h c = absurd h
 
-pub map_is : (tables : List TableRule) (plan : PlanTree) (es : List Expression) (ks : List ValueKind) → fits tables plan ≡ true → length ks ≤ 1024 → AreOfKinds (kinds_of tables plan) es ks → HasKinds tables (Map es plan) ks
+pub map_is : (tables : List TableRule) (plan : PlanTree) (es : List Expression) (ks : List ValueKind) → fits tables plan ≡ true → length ks ≤ 1024 → AreOfKinds (kinds_of tables plan) es ks → HasKinds tables (Over (Map es) plan) ks
 map_is tables plan es ks h few are =
     let many = as_many (kinds_of tables plan) es ks are in
     record {
@@ -139,15 +139,15 @@ get_first (y ∷ xs) ys zero x h = h
 get_first (y ∷ xs) ys (suc c) x h = get_first xs ys c x h
 
 -- a Map of the first columns
-pub first_columns_is : (tables : List TableRule) (plan : PlanTree) (ks ls : List ValueKind) → HasKinds tables plan (ks ++ ls) → HasKinds tables (Map (columns_from 0 (length ks)) plan) ks
+pub first_columns_is : (tables : List TableRule) (plan : PlanTree) (ks ls : List ValueKind) → HasKinds tables plan (ks ++ ls) → HasKinds tables (Over (Map (columns_from 0 (length ks))) plan) ks
 first_columns_is tables plan ks ls h =
     map_is tables plan (columns_from 0 (length ks)) ks h.fits_is (let long = length-append ks ls in let few = h.narrow in omega arith)
     (columns_are (kinds_of tables plan) 0 ks (λ c k g. let same : c ≡ 0 + c = omega arith in subst (λ n. kinds_of tables plan n ≡ Some k) same (h.each c ∙ get_first ks ls c k g)))
 
 -- ---- what keeps the columns
 
-pub distinct_is : (tables : List TableRule) (plan : PlanTree) (ks : List ValueKind) → HasKinds tables plan ks → HasKinds tables (Distinct plan) ks
-distinct_is tables plan ks h = record { fits_is = h.fits_is; wide = h.wide; narrow = h.narrow; each = h.each }
+pub distinct_is : (tables : List TableRule) (plan : PlanTree) (ks : List ValueKind) → HasKinds tables plan ks → HasKinds tables (Over Distinct plan) ks
+distinct_is tables plan ks h = record { fits_is = and_both _ _ h.fits_is refl; wide = h.wide; narrow = h.narrow; each = h.each }
 
 get_within : {A : Type 0} (xs : List A) (n : ℕ) → n < length xs → is_some (slice_get xs n) ≡ true
 get_within [] n h = absurd (omega arith)
@@ -162,5 +162,5 @@ keys_are : (kinds : Kinds) (ks : List ValueKind) (items : List SortColumn) → (
 keys_are kinds ks [] each h = refl
 keys_are kinds ks (item ∷ items) each h = and_both _ _ (rw (each item.column) (get_within ks item.column h.0)) (keys_are kinds ks items each h.1)
 
-pub limit_is : (tables : List TableRule) (limit : LimitRule) (plan : PlanTree) (ks : List ValueKind) → HasKinds tables plan ks → AreWithin (length ks) limit.keys → (not limit.ties || nat_lt 0 (length limit.keys)) ≡ true → HasKinds tables (Limit limit plan) ks
+pub limit_is : (tables : List TableRule) (limit : LimitRule) (plan : PlanTree) (ks : List ValueKind) → HasKinds tables plan ks → AreWithin (length ks) limit.keys → (not limit.ties || nat_lt 0 (length limit.keys)) ≡ true → HasKinds tables (Over (Limit limit) plan) ks
 limit_is tables limit plan ks h keys ties = record { fits_is = and_both _ _ h.fits_is (and_both _ _ (keys_are (kinds_of tables plan) ks limit.keys h.each keys) ties); wide = h.wide; narrow = h.narrow; each = h.each }

@@ -16,7 +16,7 @@ use Rattle.wd_plan.specs.declared.window.FrameMode.{FrameMode}
 use Rattle.wd_plan.specs.declared.window.FrameMode.TheVariants as mode
 use Rattle.wd_plan.specs.Fits.{Kinds, are_alike, are_bounds, fits, has_class, has_columns, has_keys, has_keys_for, has_offset, is_call, is_kind, is_typed, kind_of, kinds_of, takes}
 use Rattle.wd_plan.specs.Fits as fits_spec
-use Rattle.wd_plan.specs.Plans.{ClassRule, PlanTree, Map, Window}
+use Rattle.wd_plan.specs.Plans.{ClassRule, PlanTree, Over, Map, Window}
 use Rattle.wd_plan.specs.declared.function.Direction.TheVariants as way
 use Rattle.wd_plan.specs.declared.function.FrameRow.TheVariants.{First, Last, Nth}
 use Rattle.wd_plan.specs.declared.function.Ranking.TheVariants as rank
@@ -99,7 +99,7 @@ module _ (tables : List TableRule) (plan : PlanTree) (r : Readable) (place : Row
   calls = (projected_of expressions).calls
 
   abbrev shown : PlanTree
-  shown = Map (map (rebased place) inputs) plan
+  shown = Over (Map (map (rebased place) inputs)) plan
 
   abbrev Below : Kinds
   Below = kinds_of tables plan
@@ -111,10 +111,10 @@ module _ (tables : List TableRule) (plan : PlanTree) (r : Readable) (place : Row
   classes = classes_over inputs calls
 
   abbrev window : PlanTree
-  window = Window (window_over inputs calls) shown
+  window = Over (Window (window_over inputs calls)) shown
 
-  abbrev Over : Kinds
-  Over = kinds_of tables window
+  abbrev Above : Kinds
+  Above = kinds_of tables window
 
   -- what each reference reads is among the inputs, and each call among the calls
   fed_references : AllByRecursion (λ reference. AreAmong inputs (read_by reference)) met
@@ -237,24 +237,24 @@ module _ (tables : List TableRule) (plan : PlanTree) (r : Readable) (place : Row
 
   -- ---- above the Window
 
-  input_above : (f : RowExpression) (k : ValueKind) → IsRowExpression r f k → IsAmong inputs f → Over (input_number inputs f) ≡ Some k
+  input_above : (f : RowExpression) (k : ValueKind) → IsRowExpression r f k → IsAmong inputs f → Above (input_number inputs f) ≡ Some k
   input_above f k is among =
       let p = input_place f k is among in
       let wide = length-map inputs (rebased place) in
       rw (lt-ltb (input_number inputs f) (length (map (rebased place) inputs)) (omega (arith, p.0))) p.1
 
-  call_above : (n : ℕ) (c : BoundCall) → slice_get calls n ≡ Some c → Over (length inputs + n) ≡ Some (kind_of_function c.function)
+  call_above : (n : ℕ) (c : BoundCall) → slice_get calls n ≡ Some c → Above (length inputs + n) ≡ Some (kind_of_function c.function)
   call_above n c e =
       let is = all_get (IsCall r) calls n c calls_are e in
       let among = fed inputs c (all_get (λ d. AreAmong inputs (read_by (call d))) calls n c fed_calls e) in
       let wide = length-map inputs (rebased place) in
-      let behind = le-ltb (length inputs + n) (length (map (rebased place) inputs)) (omega arith) in
+      let after = le-ltb (length inputs + n) (length (map (rebased place) inputs)) (omega arith) in
       let number : (length inputs + n) - length (map (rebased place) inputs) ≡ n = omega arith in
       let there : slice_get (map (call_over inputs classes) calls) n ≡ Some (call_over inputs classes c) = slice_get-map (call_over inputs classes) calls n ∙ ap (option_map (call_over inputs classes)) e in
-      rw behind (rw number (rw there (gives c.function is.function among.argument)))
+      rw after (rw number (rw there (gives c.function is.function among.argument)))
 
   -- a call stands at the column of one that is the same, which has its kind
-  met_above : (c : BoundCall) → IsCall r c → list_any (same_call c) calls ≡ true → Over (length inputs + position_or_len (same_call c) calls) ≡ Some (kind_of_function c.function)
+  met_above : (c : BoundCall) → IsCall r c → list_any (same_call c) calls ≡ true → Above (length inputs + position_or_len (same_call c) calls) ≡ Some (kind_of_function c.function)
   met_above c is there =
       let found = first_there (same_call c) calls there in
       let other = all_get (IsCall r) calls (position_or_len (same_call c) calls) found.0 calls_are found.1 in
@@ -264,11 +264,11 @@ module _ (tables : List TableRule) (plan : PlanTree) (r : Readable) (place : Row
   IsThere (of_row l) = Unit {0}
   IsThere (call c) = list_any (same_call c) calls ≡ true
 
-  reference_above : (reference : SelectReference) → (IsReference r reference × AreAmong inputs (read_by reference)) × IsThere reference → IsRebased (kind_at r) (place_above inputs calls) Over reference
+  reference_above : (reference : SelectReference) → (IsReference r reference × AreAmong inputs (read_by reference)) × IsThere reference → IsRebased (kind_at r) (place_above inputs calls) Above reference
   reference_above (of_row l) h = let t = row_reference_typed r l h.0.0 in input_above (Reference l) t.kind t.expression h.0.1.0 ∙ sym t.expression.has
   reference_above (call c) h = met_above c h.0.0 h.1
 
-  all_above : AllByRecursion (IsRebased (kind_at r) (place_above inputs calls) Over) met
+  all_above : AllByRecursion (IsRebased (kind_at r) (place_above inputs calls) Above) met
   all_above =
       let there = of_references IsThere met (λ l. tt) (all_there same_call same_call-itself [] (calls_among met)) in
       all_on met
@@ -302,12 +302,12 @@ mapped_over_is tables plan r place expressions ks h are rebased_are few narrow =
     many = bound_expressions_many r expressions ks are
 
     by : (calls : List BoundCall) → (projected_of expressions).calls ≡ calls → is_window_wide (record { calls = calls; inputs = inputs; groups = (projected_of expressions).groups }) ≡ false
-        → HasKinds tables (Map (map (rebased (place_in place inputs calls)) expressions) (windowed place inputs calls plan)) ks
+        → HasKinds tables (Over (Map (map (rebased (place_in place inputs calls)) expressions)) (windowed place inputs calls plan)) ks
     by [] e wide = map_is tables plan (map (rebased (place_in place [] [])) expressions) ks h (omega (arith, few, many)) (all_rebased r (place_in place [] []) (kinds_of tables plan) expressions ks are (references_alone r place (kinds_of tables plan) (all_references expressions) e rebased_are))
     by (c ∷ calls) e wide =
         let few_columns = ltb-false 1024 (length inputs + length (c ∷ calls)) wide in
         let ground : IsGround tables plan r place expressions = record { fits_is = h; references_are = bound_expressions_references r expressions ks are; rebased_are = rebased_are; few = subst (λ cs. length inputs + length cs ≤ 1024) (sym e) few_columns } in
-        let window = Window (window_over inputs (projected_of expressions).calls) (Map (map (rebased place) inputs) plan) in
+        let window = Over (Window (window_over inputs (projected_of expressions).calls)) (Over (Map (map (rebased place) inputs)) plan) in
         let whole = map_is tables window (map (rebased (place_above inputs (projected_of expressions).calls)) expressions) ks (window_fits tables plan r place expressions ground) (omega (arith, few, many))
         (all_rebased r (place_above inputs (projected_of expressions).calls) (kinds_of tables window) expressions ks are (all_above tables plan r place expressions ground)) in
-        subst (λ cs. HasKinds tables (Map (map (rebased (place_above inputs cs)) expressions) (Window (window_over inputs cs) (Map (map (rebased place) inputs) plan))) ks) e whole
+        subst (λ cs. HasKinds tables (Over (Map (map (rebased (place_above inputs cs)) expressions)) (Over (Window (window_over inputs cs)) (Over (Map (map (rebased place) inputs)) plan))) ks) e whole

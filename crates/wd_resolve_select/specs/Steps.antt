@@ -14,7 +14,7 @@ use Rattle.wd_plan.specs.declared.function.Function.{Function}
 use Rattle.wd_plan.specs.declared.function.Function.TheVariants.{Ranking as Ranked, Shift as Shifted, OfFrame}
 use Rattle.wd_plan.specs.Expressions.{Expression, Column}
 use Rattle.wd_plan.specs.Equality.{same_expression}
-use Rattle.wd_plan.specs.Plans.{ClassRule, GroupCall as GroupCallRule, OfRows, Grouping, GroupRule, WindowRule, PlanTree, Filter, Map, Group, Window, Distinct, Limit}
+use Rattle.wd_plan.specs.Plans.{ClassRule, GroupCall as GroupCallRule, OfRows, Grouping, GroupRule, WindowRule, PlanTree, Over, Filter, Map, Group, Window, Distinct, Limit}
 use Rattle.wd_resolve_operand.specs.Causes.{Meant, ◌>>=◌}
 use Rattle.wd_resolve_operand.specs.BoundExpressions.{BoundExpression, rebased}
 use Rattle.wd_resolve_call.specs.Rows.{BoundAggregate, count_rows, count_of, sum_of, least_of, greatest_of, GroupCall, of_rows, grouping, RowReference, RowExpression}
@@ -82,7 +82,7 @@ window_over inputs calls = record { classes = classes_over inputs calls; calls =
 -- a Filter for WHERE
 abbrev pub filtered : ScopeRule → Option Tree → PlanTree → Meant PlanTree
 filtered scope None plan = Ok plan
-filtered scope (Some a) plan = condition place.Where scope a >>= λ e. Ok (Filter e plan)
+filtered scope (Some a) plan = condition place.Where scope a >>= λ e. Ok (Over (Filter e) plan)
 
 -- a call over groups, over the columns that are grouped by, followed by the arguments
 abbrev pub group_call_over : List ℕ → List Expression → GroupCall → GroupCallRule
@@ -95,12 +95,12 @@ group_over g calls = record { columns = length g.columns; sets = map (set_rebase
 
 -- a Group over its Map
 abbrev pub group_on : GroupedBy → List GroupCall → PlanTree → PlanTree
-group_on g calls plan = Group (group_over g calls) (Map (group_inputs g.columns calls) plan)
+group_on g calls plan = Over (Group (group_over g calls)) (Over (Map (group_inputs g.columns calls)) plan)
 
 -- a Filter over the Group for HAVING
 abbrev pub having_on : (RowReference → ℕ) → Option RowExpression → PlanTree → PlanTree
 having_on place None plan = plan
-having_on place (Some condition) plan = Filter (rebased place condition) plan
+having_on place (Some condition) plan = Over (Filter (rebased place condition)) plan
 
 -- the rows that windows are over: those of FROM and WHERE, or their groups
 abbrev pub grouped_on : Below → List GroupCall → PlanTree → PlanTree
@@ -112,7 +112,7 @@ grouped_on below calls plan = by below.grouped
 
 -- a Window over a Map of the distinct expressions that are read
 abbrev pub window_on : (RowReference → ℕ) → List RowExpression → List BoundCall → PlanTree → PlanTree
-window_on place inputs calls plan = Window (window_over inputs calls) (Map (map (rebased place) inputs) plan)
+window_on place inputs calls plan = Over (Window (window_over inputs calls)) (Over (Map (map (rebased place) inputs)) plan)
 
 -- a Window, if there are window calls
 abbrev pub windowed : (RowReference → ℕ) → List RowExpression → List BoundCall → PlanTree → PlanTree
@@ -121,7 +121,7 @@ windowed place inputs (call ∷ calls) plan = window_on place inputs (call ∷ c
 
 -- a Map of the expressions, over the Window if there is one
 abbrev pub mapped_over : (RowReference → ℕ) → ProjectedInputs → List (BoundExpression SelectReference) → PlanTree → PlanTree
-mapped_over place projected expressions plan = Map (map (over place projected) expressions) (windowed place projected.inputs projected.calls plan)
+mapped_over place projected expressions plan = Over (Map (map (over place projected) expressions)) (windowed place projected.inputs projected.calls plan)
 
 -- a Map of outputs and hidden sort keys, over what is below it
 abbrev pub mapped : Below → (outputs hidden : List (BoundExpression SelectReference)) → PlanTree → PlanTree
@@ -132,13 +132,13 @@ mapped below outputs hidden plan =
 -- a Distinct for DISTINCT
 abbrev pub deduplicated : Bool → PlanTree → PlanTree
 deduplicated false plan = plan
-deduplicated true plan = Distinct plan
+deduplicated true plan = Over Distinct plan
 
 -- a Limit for ORDER BY, OFFSET or a count
 abbrev pub limited : List SortColumn → Option RowLimit → PlanTree → PlanTree
 limited [] None plan = plan
-limited (item ∷ items) None plan = Limit (record { keys = item ∷ items; offset = 0; count = None; ties = false }) plan
-limited items (Some row_limit) plan = Limit (record { keys = items; offset = row_limit.offset; count = row_limit.count; ties = row_limit.ties }) plan
+limited (item ∷ items) None plan = Over (Limit (record { keys = item ∷ items; offset = 0; count = None; ties = false })) plan
+limited items (Some row_limit) plan = Over (Limit (record { keys = items; offset = row_limit.offset; count = row_limit.count; ties = row_limit.ties })) plan
 
 -- the given number of columns from a number on
 abbrev pub columns_from : ℕ → ℕ → List Expression
@@ -146,7 +146,7 @@ columns_from first count = map Column (range_with_len first count)
 
 -- a Map that drops hidden sort keys after the outputs, if there are any
 abbrev pub without_hidden : ℕ → ℕ → PlanTree → PlanTree
-without_hidden outputs hidden plan = if nat_eq hidden 0 then plan else Map (columns_from 0 outputs) plan
+without_hidden outputs hidden plan = if nat_eq hidden 0 then plan else Over (Map (columns_from 0 outputs)) plan
 
 abbrev pub column_shown : BoundOutput → OutputColumn
 column_shown output = record { name = output.name; kind = output.kind }

@@ -1,7 +1,7 @@
 //! What a select sorts by and its limits, and the steps of a plan that it makes of these and of its list.
 //!
 //! `sorting` reads ORDER BY into the sort keys of `shown`, and `limits` reads OFFSET, LIMIT and FETCH. `steps` then makes the nodes above
-//! FROM, from WHERE to the Map that drops hidden sort keys; `rebase` replaces the references of expressions by columns. A key that is no
+//! FROM, from WHERE to the Map that drops hidden sort keys; `rebased` replaces the references of expressions by columns. A key that is no
 //! output becomes a hidden column, so that a plan sorts by columns alone.
 #![tactic(auto)]
 

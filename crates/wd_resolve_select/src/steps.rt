@@ -302,7 +302,7 @@ fn window_on(
 ) -> Result<Plan, OutOfMemory>
     requires few_inputs { vec_len inputs ≤ 1024 }
     requires few_calls { vec_len calls ≤ 1024 }
-    ensures { IfOk result (λ p. plan_of p ≡ tree.Window (spec.window_over (map row_expression_of inputs.items) (map call_of calls.items)) (tree.Map (map expression_of shown.items) (plan_of plan))) }
+    ensures { IfOk result (λ p. plan_of p ≡ tree.Over (tree.Window (spec.window_over (map row_expression_of inputs.items) (map call_of calls.items))) (tree.Over (tree.Map (map expression_of shown.items)) (plan_of plan))) }
 {
     let classes = classes_over(alloc, &inputs, &calls)?;
     let calls = calls_over(alloc, &inputs, &classes, calls)?;

@@ -18,7 +18,7 @@ struct Layout {
 /// The text of tokens from a source: what comes before its first token, followed by the tokens. A token whose place in the source is
 /// further down or further to the right than the end of the text is written at that place, any other one after a blank. At the end lines
 /// are added until there are as many as in the source.
-pub(crate) fn laid_out(
+pub(crate) fn lay_out(
     alloc: Global,
     source: &[u8],
     start: usize,

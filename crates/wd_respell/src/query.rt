@@ -20,9 +20,9 @@ ghost use Rattle.wd_moments.specs.Numbered as numbers;
 ghost use Rattle.wd_respell.specs.Respelled as spec;
 ghost use Rattle.wd_respell.specs.Respelled.{AreEquated, AreFew, AreGiven, AreUncast, IsEquated, IsLeft, IsRespelled, IsShortWay, IsTakenOut};
 
-use crate::layout::laid_out;
+use crate::layout::lay_out;
 use std::alloc::Global;
-use wd_casts::{has_casts, masked, with_literals, without_casts};
+use wd_casts::{has_casts, mask_query, with_literals, without_casts};
 use wd_clauses::RespellError;
 use wd_dialect_read::Statement;
 use wd_distinct_counts::without_distinct_counts;
@@ -64,7 +64,7 @@ pub fn respell(
     // A query is left only where it cannot be respelled.
     ensures left { IfOk result (λ o. IfNone o (IsLeft (schema_of schema.now) statements.now query.now)) }
 {
-    match masked(alloc, query)? {
+    match mask_query(alloc, query)? {
         Some(text) => respell_masked(alloc, schema, statements, query, &text),
         None => Ok(None),
     }
@@ -106,7 +106,7 @@ fn respell_tokens(
     ensures left { IfOk result (λ o. IfNone o (IsLeft (schema_of schema.now) statements.now query.now)) }
 {
     match equated_literals(alloc, schema, statements, query, tokens)? {
-        Some(equated) => written(alloc, schema, statements, query, text, tokens, equated),
+        Some(equated) => respelled_query(alloc, schema, statements, query, text, tokens, equated),
         None => Ok(None),
     }
 }
@@ -154,7 +154,7 @@ fn without_any_casts(
 {
     match uncast(alloc, statements, tokens)? {
         Some(uncast) => {
-            let found = equated(alloc, schema, statements, &uncast)?;
+            let found = apply_equations(alloc, schema, statements, &uncast)?;
             Ok(found)
         }
         None => Ok(None),
@@ -162,7 +162,7 @@ fn without_any_casts(
 }
 
 /// The tokens by the equations, unless they would be too many.
-fn equated(
+fn apply_equations(
     alloc: Global,
     schema: &Schema,
     statements: &[Statement],
@@ -171,10 +171,10 @@ fn equated(
     ensures equated { IfOk result (λ o. IfSome o (λ e. IsEquated (schema_of schema.now) statements.now tokens.now (said e))) }
     ensures none { IfOk result (λ o. IfNone o ((e : Said) → IsShortWay (schema_of schema.now) statements.now tokens.now → IsEquated (schema_of schema.now) statements.now tokens.now e → ⊥)) }
 {
-    match taken_out(alloc, schema, tokens) {
+    match without_with_clauses(alloc, schema, tokens) {
         Ok(taken) => {
             let Expanded { tokens, read_twice } = taken;
-            numbered(alloc, statements, &tokens, read_twice)
+            expand_and_number(alloc, statements, &tokens, read_twice)
         }
         Err(RespellError::OutOfMemory) => Err(OutOfMemory),
         Err(RespellError::TooLong) => Ok(None),
@@ -182,7 +182,11 @@ fn equated(
 }
 
 /// The tokens without WITH clauses, those within brackets first, and then with the equations of `plain`.
-fn taken_out(alloc: Global, schema: &Schema, tokens: &[Token]) -> Result<Expanded, RespellError>
+fn without_with_clauses(
+    alloc: Global,
+    schema: &Schema,
+    tokens: &[Token],
+) -> Result<Expanded, RespellError>
     ensures taken { IfOk result (λ e. IsTakenOut (schema_of schema.now) tokens.now (said e)) }
     ensures long { result ≡ Err RespellError.TooLong → (taken : Said) → IsTakenOut (schema_of schema.now) tokens.now taken → ((inner : Said) → without_inner tokens.now ≡ Ok inner → AreFew (members.expanded inner.tokens).tokens) → ⊥ }
 {
@@ -219,7 +223,7 @@ fn plain(alloc: Global, schema: &Schema, tokens: &[Token]) -> Result<Vec<Token>,
 }
 
 /// The tokens with the equations of expressions, and with numbers for moments; the names are kept as they are.
-fn numbered(
+fn expand_and_number(
     alloc: Global,
     statements: &[Statement],
     tokens: &[Token],
@@ -241,7 +245,7 @@ fn numbered(
 }
 
 /// The text of the other tokens, if they differ and can be written.
-fn written(
+fn respelled_query(
     alloc: Global,
     schema: &Schema,
     statements: &[Statement],
@@ -298,7 +302,7 @@ fn text_of(
         Some(first) => first.span.start as usize,
         None => 0,
     };
-    let text = laid_out(alloc, query, start, others)?;
+    let text = lay_out(alloc, query, start, others)?;
     if is_read_as(alloc, text.as_str(), others)? {
         Ok(Some(text))
     } else {

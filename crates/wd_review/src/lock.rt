@@ -1,6 +1,6 @@
 //! Locks: the certificates of a file's queries, in a file beside it.
 
-use crate::mended::unwritten;
+use crate::mended::words_of_error;
 use crate::outputs::{Used, lock_path};
 use crate::queries::Queries;
 use crate::run::{Run, Step, WRONG, steps};
@@ -190,7 +190,7 @@ fn write_lock<S: Sources>(
             report.add_line(alloc, "locked", Level::Warning, query, words.as_str())
         }
         Err(error) => {
-            let words = unwritten(error)?;
+            let words = words_of_error(error)?;
             run.is_wrong = true;
             report.add_line(alloc, "lock", Level::Error, path, words)
         }

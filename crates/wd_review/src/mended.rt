@@ -64,12 +64,12 @@ fn replace_text<S: Sources>(
     }
     match sources.replace(alloc, file.path, text) {
         Ok(()) => Ok(None),
-        Err(error) => Ok(Some(unwritten(error)?)),
+        Err(error) => Ok(Some(words_of_error(error)?)),
     }
 }
 
 /// Why a file is not written.
-pub(crate) fn unwritten(error: SourceError) -> Result<&'static str, OutOfMemory> {
+pub(crate) fn words_of_error(error: SourceError) -> Result<&'static str, OutOfMemory> {
     match error {
         SourceError::Missing | SourceError::Failed => Ok("it can't be written"),
         SourceError::Taken => Ok("a file .NAME.wdreport-new stands beside it: take it away"),

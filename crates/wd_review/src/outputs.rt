@@ -5,7 +5,7 @@ use crate::stop::Stop;
 use std::alloc::Global;
 use std::collections::HashMap;
 use std::io::Write;
-use wd_baseline::{Baseline, written};
+use wd_baseline::{Baseline, baseline_text};
 use wd_file::{Knowledge, Tally};
 use wd_sources::{STANDARD_INPUT, SourceError, Sources, schemas_for};
 use wd_value::OutOfMemory;
@@ -63,7 +63,7 @@ pub(crate) fn write_baseline<'w, S: Sources>(
     let (Some(path), Knowledge::Written(lines)) = (request.baseline, knowledge) else {
         return Ok(());
     };
-    let bytes = written(alloc, lines)?;
+    let bytes = baseline_text(alloc, lines)?;
     match sources.write(alloc, path, &bytes) {
         Ok(()) => Ok(()),
         Err(_) => Err(Stop::BaselineUnwritten),
@@ -201,7 +201,7 @@ fn resolve_path<S: Sources>(
     path: &str,
     sources: &mut S,
 ) -> Result<Option<String>, OutOfMemory> {
-    match sources.resolved(alloc, path) {
+    match sources.resolve(alloc, path) {
         Ok(path) => Ok(Some(path)),
         Err(SourceError::OutOfMemory) => Err(OutOfMemory),
         Err(SourceError::Missing | SourceError::Failed | SourceError::Taken) => Ok(None),

@@ -8,7 +8,7 @@ use Rattle.wd_plan.specs.Choices.{AreLawful}
 use Rattle.wd_plan.specs.Facts.{DeterminesAll, HasWidth}
 use Rattle.wd_plan.specs.Fits.{are_outputs, fits, is_limit, kinds_of, width}
 use Rattle.wd_plan.specs.Outcomes.{outcome}
-use Rattle.wd_plan.specs.Plans.{PlanTree, Scan, Join, Filter, Map, Window, Distinct, Group, Limit}
+use Rattle.wd_plan.specs.Plans.{Map, Limit, PlanTree, Over}
 use Rattle.wd_plan.specs.Sorting.{limit_class, order_columns}
 use Rattle.wd_certificate.specs.Certificates.{NodeRecord}
 use Rattle.wd_step_facts.specs.Facts.{unpaired}
@@ -23,17 +23,11 @@ use Rattle.wd_rules.proofs.Traces.{each_true}
 
 module _ (tables : List TableRule) (instance : Instance) (nodes : List NodeRecord) (meets : Meets tables instance) where
   listed : (plan : PlanTree) (choice : List (List ℕ)) (first : ℕ) → fits tables plan ≡ true → nodes_refusal tables plan first nodes ≡ None → AreLawful plan instance choice → goes_by_keys nodes (final_limit plan first) ≡ true → IsListedPlan plan instance choice
-  listed (Scan table columns) choice first f v l t = absurd (false≢true t)
-  listed (Join condition left right) choice first f v l t = absurd (false≢true t)
-  listed (Filter condition input) choice first f v l t = absurd (false≢true t)
-  listed (Map outputs input) choice first f v l t =
+  listed (Over (Map outputs) input) choice first f v l t =
       let fitting = (and_parts (fits tables input) (are_outputs (kinds_of tables input) outputs) f).0 in
-      listed input choice first fitting (first_passed (nodes_refusal tables input first nodes) (top_refusal tables (Map outputs input) first nodes) v) l t
-  listed (Window w input) choice first f v l t = absurd (false≢true t)
-  listed (Distinct input) choice first f v l t = absurd (false≢true t)
-  listed (Group g input) choice first f v l t = absurd (false≢true t)
-  listed (Limit limit input) choice first f v l t =
-      let plan = Limit limit input in
+      listed input choice first fitting (first_passed (nodes_refusal tables input first nodes) (top_refusal tables (Over (Map outputs) input) first nodes) v) l.0 t
+  listed (Over (Limit limit) input) choice first f v l t =
+      let plan = Over (Limit limit) input in
       let below = nodes_refusal tables input first nodes in
       let own = top_refusal tables plan first nodes in
       let fitting = (and_parts (fits tables input) (is_limit (kinds_of tables input) limit) f).0 in
@@ -46,6 +40,7 @@ module _ (tables : List TableRule) (instance : Instance) (nodes : List NodeRecor
         (at_rows (outcome input instance choice) rows (Known tables input) (Unit {0}) e (known tables instance nodes meets input choice fitting l.0)).wide,
         keys_give rows facts tt g.shown (each_true (unpaired rows) facts tt k.hold node (top_at plan first nodes).traces g.shown g.traced) node (width input) limit (top_at plan first nodes).limit t g.rules,
       ))
+  listed plan choice first f v l t = absurd (false≢true t)
 
 pub listed_has_one : ListedHasOne
 listed_has_one tables plan certificate f v t instance other c1 c2 meets same v1 v2 =

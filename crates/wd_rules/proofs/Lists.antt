@@ -1,20 +1,21 @@
 -- A plan whose last Limit is ordered by keys that give every column has one list.
-use Rattle.std.proofs.Common.{◌≡◌, ℕ, Bool, true, List, [], ◌∷◌, filter, refl, sym, ◌∙◌, ap, subst, Ok, Err}
+use Rattle.std.proofs.Common.{◌≡◌, ℕ, Bool, true, List, [], ◌∷◌, filter, refl, sym, ◌∙◌, ap, subst, arith, Ok, Err}
+use Rattle.std.specs.List.{AllByRecursion}
 use Rattle.wd_laws.proofs.Exchange.{gives_all_looks}
 use Rattle.wd_laws.proofs.Outcomes.{Alike}
 use Rattle.wd_laws.proofs.Parts.{Perm-ordered, same_rows_at_places}
 use Rattle.wd_laws.proofs.PlanLaw.{one_outcome}
 use Rattle.wd_laws.specs.Laws.{SameTables}
 use Rattle.wd_plan.proofs.Parts.{ordered, part}
-use Rattle.wd_plan.specs.Choices.{AreLawful, AtRows}
+use Rattle.wd_plan.specs.Choices.{AreLawful, AreOrderings, AtRows}
 use Rattle.wd_plan.specs.Facts.{DeterminesAll, HasWidth}
 use Rattle.wd_plan.specs.Faults.{and_then}
-use Rattle.wd_plan.specs.Outcomes.{RowsOrFault, cut, map_outcome, ordering_at, outcome}
-use Rattle.wd_plan.specs.Plans.{Distinct, Group, Filter, Join, Limit, LimitRule, Map, PlanTree, Scan, Window, ordering_count}
+use Rattle.wd_plan.specs.Outcomes.{RowsOrFault, limited_rows, map_outcome, ordering_at, outcome, step_outcome}
+use Rattle.wd_plan.specs.Plans.{LimitRule, Map, Limit, PlanTree, Over, own_orderings}
 use Rattle.wd_plan.specs.Settled.{IsSettledPlan}
 use Rattle.wd_plan.specs.Sorting.{IsOrdering, limit_class, order_columns}
 use Rattle.wd_value.proofs.Perms.{Perm, both}
-use Rattle.wd_value.specs.Rows.{Instance, Row, rows_at}
+use Rattle.wd_value.specs.Rows.{Instance, Row}
 use Rattle.wd_rules.specs.Lists.{AgreeAsLists, IsListedPlan, PlanHasOneList}
 
 -- ---- one order only
@@ -56,23 +57,18 @@ at_rows o rows P Q e h = let family : RowsOrFault → Type 0 = λ v. AtRows v P 
 
 pub one_list : (plan : PlanTree) (instance other : Instance) (c1 c2 : List (List ℕ)) → SameTables instance other → AreLawful plan instance c1 → AreLawful plan other c2 → IsSettledPlan plan instance c1 → IsListedPlan plan instance c1
     → outcome plan instance c1 ≡ outcome plan other c2
-one_list (Scan table columns) instance other c1 c2 same v1 v2 h l = absurd l
-one_list (Join condition left right) instance other c1 c2 same v1 v2 h l = absurd l
-one_list (Filter condition input) instance other c1 c2 same v1 v2 h l = absurd l
-one_list (Map outputs input) instance other c1 c2 same v1 v2 h l = ap (λ o. and_then o (map_outcome outputs)) (one_list input instance other c1 c2 same v1 v2 h l)
-one_list (Window w input) instance other c1 c2 same v1 v2 h l = absurd l
-one_list (Distinct input) instance other c1 c2 same v1 v2 h l = absurd l
-one_list (Group g input) instance other c1 c2 same v1 v2 h l = absurd l
-one_list (Limit limit input) instance other c1 c2 same v1 v2 h l =
-    let o1 = ordering_at c1 (ordering_count input) in
-    let o2 = ordering_at c2 (ordering_count input) in
-    same_step _ _ (λ rows. Ok (cut limit (rows_at rows o1))) (λ rows. Ok (cut limit (rows_at rows o2))) (one_outcome input instance other c1 c2 same v1.0 v2.0 h.0) (λ xs ys e f p.
+one_list (Over (Map outputs) input) instance other c1 c2 same v1 v2 h l = ap (λ o. and_then o (map_outcome outputs)) (one_list input instance other c1 c2 same v1.0 v2.0 h.0 l)
+one_list (Over (Limit limit) input) instance other c1 c2 same v1 v2 h l =
+    let o1 = own_orderings (Limit limit) input c1 in
+    let o2 = own_orderings (Limit limit) input c2 in
+    same_step _ _ (step_outcome (Limit limit) o1) (step_outcome (Limit limit) o2) (one_outcome input instance other c1 c2 same v1.0 v2.0 h.0) (λ xs ys e f p.
     let j = at_rows (outcome input instance c1) xs (λ rows. (width : ℕ) × HasWidth width rows × DeterminesAll rows width (order_columns (limit_class limit))) (Unit {0}) e l in
-    ap (λ rows. Ok (cut limit rows))
-    (same_order limit j.0 xs ys o1 o2 p
-    (at_rows (outcome input instance c1) xs (λ rows. IsOrdering (limit_class limit) rows o1) (o1 ≡ []) e v1.1)
-    (at_rows (outcome input other c2) ys (λ rows. IsOrdering (limit_class limit) rows o2) (o2 ≡ []) f v2.1)
+    ap (λ rows. Ok (limited_rows limit rows))
+    (same_order limit j.0 xs ys (ordering_at o1 0) (ordering_at o2 0) p
+    ((at_rows (outcome input instance c1) xs (λ rows. AreOrderings (limit_class limit ∷ []) rows o1) (AllByRecursion (λ o. o ≡ []) o1) e v1.1).each 0 (omega arith))
+    ((at_rows (outcome input other c2) ys (λ rows. AreOrderings (limit_class limit ∷ []) rows o2) (AllByRecursion (λ o. o ≡ []) o2) f v2.1).each 0 (omega arith))
     j.1 j.2))
+one_list plan instance other c1 c2 same v1 v2 h l = absurd l
 
 pub plan_has_one_list : PlanHasOneList
 plan_has_one_list plan instance other c1 c2 same v1 v2 h l = AgreeAsLists-from _ _ (one_list plan instance other c1 c2 same v1.lawful v2.lawful h l)

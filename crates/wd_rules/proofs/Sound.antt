@@ -1,5 +1,5 @@
 -- What a valid certificate keeps holds, and its rules settle the plan: by induction on the plan.
-use Rattle.std.proofs.Common.{◌≡◌, ℕ, ◌+◌, true, ◌&&◌, List, [], ◌∷◌, ◌++◌, length, take, drop, refl, ◌∙◌, ap, subst, None, Result, Ok, Err}
+use Rattle.std.proofs.Common.{◌≡◌, ℕ, ◌+◌, true, ◌&&◌, List, [], ◌∷◌, ◌++◌, drop, refl, ◌∙◌, ap, subst, None, Result, Ok, Err}
 use Rattle.std.specs.List.{AllByRecursion}
 use Rattle.std.proofs.lemmas.Bool.{and_parts}
 use Rattle.wd_value.specs.Rows.{Row as RowValues, Instance}
@@ -9,10 +9,10 @@ use Rattle.wd_plan.specs.declared.window.Call.{Call}
 use Rattle.wd_plan.specs.Choices.{AreLawful, AreOrderings, AtRows}
 use Rattle.wd_plan.specs.Facts.{HasWidth}
 use Rattle.wd_plan.specs.Faults.{and_then}
-use Rattle.wd_plan.specs.Fits.{are_outputs, fits, is_condition, is_group, is_join, is_limit, is_window, kinds_of, width}
-use Rattle.wd_plan.specs.Outcomes.{RowsOrFault, join_outcome, map_outcome, outcome, pairs}
-use Rattle.wd_plan.specs.Plans.{WindowRule, PlanTree, Scan, Join, Filter, Map, Group, Window, Distinct, Limit, node_count, ordering_count}
-use Rattle.wd_plan.specs.Settled.{IsSettledCall, IsSettledLimit, IsSettledPlan}
+use Rattle.wd_plan.specs.Fits.{fits, is_join, is_step, is_window, kinds_of, width}
+use Rattle.wd_plan.specs.Outcomes.{RowsOrFault, join_outcome, outcome, pairs, step_outcome}
+use Rattle.wd_plan.specs.Plans.{WindowRule, Step, Map, Window, Limit, PlanTree, Scan, Join, Over, step_classes, node_count, ordering_count, own_orderings}
+use Rattle.wd_plan.specs.Settled.{IsSettledPlan, IsSettledStep}
 use Rattle.wd_plan.proofs.Ranges.{IsSound, calls_sound, kinds_below, names_classes}
 use Rattle.wd_laws.proofs.TheLaws.{plan_has_one}
 use Rattle.wd_certificate.specs.Certificates.{CertificateRecord, NodeRecord}
@@ -21,7 +21,7 @@ use Rattle.wd_certificate.specs.declared.error.CertError.TheVariants.{Version}
 use Rattle.wd_step_facts.specs.declared.facts.Member.TheVariants as member
 use Rattle.wd_step_facts.specs.Facts.{Fact, FactList, Holds, Paired, PairsRows, beside, unpaired}
 use Rattle.wd_step_facts.specs.Steps.{calls_facts}
-use Rattle.wd_facts.specs.Laws.{AreKept, ChildrenKeep, InPairs, InRows, Known}
+use Rattle.wd_facts.specs.Laws.{AreKept, ChildrenKeep, InPairs, InRows, Known, rows_described}
 use Rattle.wd_facts.proofs.Embeds.{hold_moved, same_facts}
 use Rattle.wd_facts.proofs.GivenHolds.{given_facts_hold, known_holds}
 use Rattle.wd_facts.proofs.Lists.{all_append}
@@ -87,7 +87,7 @@ all_well tables input f w rows os wide [] a = tt
 all_well tables input f w rows os wide (call ∷ calls) a = (record { names = a.0.names; in_partition = a.0.in_partition; in_order = a.0.in_order }, all_well tables input f w rows os wide calls a.1)
 
 -- the given facts of a Window hold in its rows with NULL for a fault
-window_given : (w : WindowRule) (rows : List RowValues) (os : List (List ℕ)) (width : ℕ) (wide : HasWidth width rows) (kept : List Fact) → AreKept width kept rows → AreOrderings w rows os → AllByRecursion (IsWell w rows os width wide) w.calls → AllByRecursion (Holds (unpaired (shown_rows w rows os))) (kept ++ calls_facts w width w.calls)
+window_given : (w : WindowRule) (rows : List RowValues) (os : List (List ℕ)) (width : ℕ) (wide : HasWidth width rows) (kept : List Fact) → AreKept width kept rows → AreOrderings w.classes rows os → AllByRecursion (IsWell w rows os width wide) w.calls → AllByRecursion (Holds (unpaired (shown_rows w rows os))) (kept ++ calls_facts w width w.calls)
 window_given w rows os width wide kept k valid well =
     all_append (Holds (unpaired (shown_rows w rows os))) kept (calls_facts w width w.calls)
     (subst (AllByRecursion (Holds (unpaired (shown_rows w rows os)))) (same_facts kept) (hold_moved rows (unpaired (shown_rows w rows os)) (λ c. c) member.Row width (shown_carries w rows os width wide) kept k.named k.hold))
@@ -127,87 +127,59 @@ module _ (tables : List TableRule) (instance : Instance) (nodes : List NodeRecor
   given_here : (plan : PlanTree) (choice : List (List ℕ)) (first : ℕ) → fits tables plan ≡ true → AreLawful plan instance choice → ChildrenKeep plan instance choice (kept_below plan first nodes) (kept_right plan first nodes) → GivenHoldAt tables plan instance choice first nodes
   given_here plan choice first f l a = given_facts_hold tables plan instance choice (kept_below plan first nodes) (kept_right plan first nodes) f meets l a
 
+  -- what holds of the rows of which a step's given facts speak, and is kept, holds of its rows
+  kept_step : (step : Step) (input : PlanTree) (os : List (List ℕ)) (first : ℕ) (xs ys : List RowValues) → Known tables input xs → step_outcome step os xs ≡ Ok ys → Good (Over step input) first
+      → InRows tables (Over step input) (kept_below (Over step input) first nodes) [] (rows_described step ys xs) → Keeps (Over step input) first ys
+  kept_step (Map outputs) input os first xs ys is_known is g hold =
+      let plan = Over (Map outputs) input in
+      let both = kept_in plan first (beside ys xs) g tt hold in
+      record { named = both.named; hold = kept_map tables outputs input xs ys is_known is (kept_facts (top_at plan first nodes)) both.named both.hold }
+  kept_step step input os first xs ys is_known is g hold = kept_in (Over step input) first ys g tt hold
+
+  -- the rules of a step's entry settle it
+  step_settled : (step : Step) (input : PlanTree) (os : List (List ℕ)) (first : ℕ) (rows : List RowValues) → fits tables (Over step input) ≡ true → AreOrderings (step_classes step) rows os → Known tables input rows → Keeps input first rows → Good (Over step input) first → IsSettledStep step rows
+  step_settled (Window w) input os first rows f valid is_known k g =
+      let plan = Over (Window w) input in
+      let facts = given_at tables plan first nodes in
+      let node = top_number plan first in
+      let entry = top_at plan first nodes in
+      let fitting = and_parts (fits tables input) (is_window (kinds_of tables input) (width input) w) f in
+      let below = kinds_below tables input fitting.0 in
+      let calls = calls_sound (kinds_of tables input) (width input) below w fitting.1 in
+      let wide = is_known.wide in
+      let hold = window_given w rows os (width input) wide (kept_below plan first nodes) k valid (all_well tables input fitting.0 w rows os wide w.calls calls) in
+      let shown = each_true (unpaired (shown_rows w rows os)) facts tt hold node entry.traces g.shown g.traced in
+      ((names_classes tables plan f).1, _, width input, wide, window_settled w rows os (width input) wide facts tt g.shown shown node entry.calls (in_range (kinds_of tables input) (width input) below w w.calls calls) g.rules)
+  step_settled (Limit limit) input os first rows f valid is_known k g =
+      let plan = Over (Limit limit) input in
+      let facts = given_at tables plan first nodes in
+      let node = top_number plan first in
+      let entry = top_at plan first nodes in
+      (width input, is_known.wide, limit_settled rows facts tt g.shown (each_true (unpaired rows) facts tt k.hold node entry.traces g.shown g.traced) node (width input) limit entry.limit g.rules)
+  step_settled step input os first rows f valid is_known k g = tt
+
   pub sound : (plan : PlanTree) (choice : List (List ℕ)) (first : ℕ) → fits tables plan ≡ true → nodes_refusal tables plan first nodes ≡ None → AreLawful plan instance choice → IsSoundPlan plan choice first
   sound (Scan table columns) choice first f v l =
       let plan = Scan table columns in
       let given = given_here plan choice first f l tt in
       let kept = kept_in plan first _ (good plan first v) tt given in
       record { settled = tt; facts = (given, kept); kept = kept }
-  sound (Filter condition input) choice first f v l =
-      let plan = Filter condition input in
+  sound (Over step input) choice first f v l =
+      let plan = Over step input in
       let below = nodes_refusal tables input first nodes in
       let own = top_refusal tables plan first nodes in
-      let under = sound input choice first (and_parts (fits tables input) (is_condition (kinds_of tables input) condition) f).0 (first_passed below own v) l in
-      let given = given_here plan choice first f l under.kept in
-      let kept = at_map (outcome plan instance choice) (InRows tables plan (kept_below plan first nodes) []) (Keeps plan first) given (λ rows e h. kept_in plan first rows (good plan first (later_passed below own v)) tt h) in
-      record { settled = under.settled; facts = ((given, kept), under.facts); kept = kept }
-  sound (Map outputs input) choice first f v l =
-      let plan = Map outputs input in
-      let below = nodes_refusal tables input first nodes in
-      let own = top_refusal tables plan first nodes in
-      let fitting = (and_parts (fits tables input) (are_outputs (kinds_of tables input) outputs) f).0 in
-      let under = sound input choice first fitting (first_passed below own v) l in
-      let given = given_here plan choice first f l under.kept in
-      let Beside : List RowValues → Type 0 = λ ins. AtRows (outcome plan instance choice) (λ outs. InRows tables plan (kept_below plan first nodes) [] (beside outs ins)) (Unit {0}) in
-      let kept : KeptHold plan instance choice first nodes = at_step (outcome input instance choice) (map_outcome outputs) Beside (Keeps plan first) given (λ xs ys e h is.
-      (let hold = at_rows (outcome plan instance choice) ys (λ outs. InRows tables plan (kept_below plan first nodes) [] (beside outs xs)) (Unit {0}) (ap (λ o. and_then o (map_outcome outputs)) e ∙ is) h in
-      let both = kept_in plan first (beside ys xs) (good plan first (later_passed below own v)) tt hold in
-      record { named = both.named; hold = kept_map tables outputs input xs ys (at_rows (outcome input instance choice) xs (Known tables input) (Unit {0}) e (known input choice fitting l)) is (kept_facts (top_at plan first nodes)) both.named both.hold })) in
-      record { settled = under.settled; facts = ((given, kept), under.facts); kept = kept }
-  sound (Group g input) choice first f v l =
-      let plan = Group g input in
-      let below = nodes_refusal tables input first nodes in
-      let own = top_refusal tables plan first nodes in
-      let under = sound input choice first (and_parts (fits tables input) (is_group (kinds_of tables input) (width input) g) f).0 (first_passed below own v) l in
-      let given = given_here plan choice first f l under.kept in
-      let kept = at_map (outcome plan instance choice) (InRows tables plan (kept_below plan first nodes) []) (Keeps plan first) given (λ rows e h. kept_in plan first rows (good plan first (later_passed below own v)) tt h) in
-      record { settled = under.settled; facts = ((given, kept), under.facts); kept = kept }
-  sound (Distinct input) choice first f v l =
-      let plan = Distinct input in
-      let below = nodes_refusal tables input first nodes in
-      let own = top_refusal tables plan first nodes in
-      let under = sound input choice first f (first_passed below own v) l in
-      let given = given_here plan choice first f l under.kept in
-      let kept = at_map (outcome plan instance choice) (InRows tables plan (kept_below plan first nodes) []) (Keeps plan first) given (λ rows e h. kept_in plan first rows (good plan first (later_passed below own v)) tt h) in
-      record { settled = under.settled; facts = ((given, kept), under.facts); kept = kept }
-  sound (Limit limit input) choice first f v l =
-      let plan = Limit limit input in
-      let below = nodes_refusal tables input first nodes in
-      let own = top_refusal tables plan first nodes in
-      let fitting = (and_parts (fits tables input) (is_limit (kinds_of tables input) limit) f).0 in
+      let os = own_orderings step input choice in
+      let fitting = (and_parts (fits tables input) (is_step (kinds_of tables input) (width input) step) f).0 in
       let under = sound input choice first fitting (first_passed below own v) l.0 in
       let given = given_here plan choice first f l under.kept in
       let g = good plan first (later_passed below own v) in
-      let facts = given_at tables plan first nodes in
-      let node = top_number plan first in
-      let kept = at_map (outcome plan instance choice) (InRows tables plan (kept_below plan first nodes) []) (Keeps plan first) given (λ rows e h. kept_in plan first rows g tt h) in
-      let settled = at_map (outcome input instance choice) (Keeps input first) (λ rows. (width' : ℕ) × HasWidth width' rows × IsSettledLimit limit width' rows) under.kept (λ rows e k. (
-        width input,
-        (at_rows (outcome input instance choice) rows (Known tables input) (Unit {0}) e (known input choice fitting l.0)).wide,
-        limit_settled rows facts tt g.shown (each_true (unpaired rows) facts tt k.hold node (top_at plan first nodes).traces g.shown g.traced) node (width input) limit (top_at plan first nodes).limit g.rules,
-      )) in
+      let known_at : (rows : List RowValues) → outcome input instance choice ≡ Ok rows → Known tables input rows = λ rows e. at_rows (outcome input instance choice) rows (Known tables input) (Unit {0}) e (known input choice fitting l.0) in
+      let In : List RowValues → List RowValues → Type 0 = λ ins outs. InRows tables plan (kept_below plan first nodes) [] (rows_described step outs ins) in
+      let kept : KeptHold plan instance choice first nodes = at_step (outcome input instance choice) (step_outcome step os) (λ ins. AtRows (outcome plan instance choice) (In ins) (Unit {0})) (Keeps plan first) given (λ xs ys e h is.
+      kept_step step input os first xs ys (known_at xs e) is g (at_rows (outcome plan instance choice) ys (In xs) (Unit {0}) (ap (λ o. and_then o (step_outcome step os)) e ∙ is) h)) in
+      let settled = at_map (outcome input instance choice) (Keeps input first) (IsSettledStep step) under.kept (λ rows e k.
+      step_settled step input os first rows f (at_rows (outcome input instance choice) rows (λ rows. AreOrderings (step_classes step) rows os) (AllByRecursion (λ o. o ≡ []) os) e l.1) (known_at rows e) k g) in
       record { settled = (under.settled, settled); facts = ((given, kept), under.facts); kept = kept }
-  sound (Window w input) choice first f v l =
-      let plan = Window w input in
-      let below = nodes_refusal tables input first nodes in
-      let own = top_refusal tables plan first nodes in
-      let fitting = and_parts (fits tables input) (is_window (kinds_of tables input) (width input) w) f in
-      let under = sound input choice first fitting.0 (first_passed below own v) l.0 in
-      let given = given_here plan choice first f l under.kept in
-      let g = good plan first (later_passed below own v) in
-      let facts = given_at tables plan first nodes in
-      let node = top_number plan first in
-      let entry = top_at plan first nodes in
-      let os = take (length w.classes) (drop (ordering_count input) choice) in
-      let calls = calls_sound (kinds_of tables input) (width input) (kinds_below tables input fitting.0) w fitting.1 in
-      let kept = at_map (outcome plan instance choice) (InRows tables plan (kept_below plan first nodes) []) (Keeps plan first) given (λ rows e h. kept_in plan first rows g tt h) in
-      let settled = at_map (outcome input instance choice) (Keeps input first) (λ rows. (exchange : ℕ) × (width' : ℕ) × HasWidth width' rows × AllByRecursion (IsSettledCall w exchange width' rows) w.calls) under.kept (λ rows e k.
-      (let wide = (at_rows (outcome input instance choice) rows (Known tables input) (Unit {0}) e (known input choice fitting.0 l.0)).wide in
-      let valid = at_rows (outcome input instance choice) rows (λ rows. AreOrderings w rows os) (AllByRecursion (λ o. o ≡ []) os) e l.1 in
-      let hold = window_given w rows os (width input) wide (kept_below plan first nodes) k valid (all_well tables input fitting.0 w rows os wide w.calls calls) in
-      let shown = each_true (unpaired (shown_rows w rows os)) facts tt hold node entry.traces g.shown g.traced in
-      (_, width input, wide, window_settled w rows os (width input) wide facts tt g.shown shown node entry.calls (in_range (kinds_of tables input) (width input) (kinds_below tables input fitting.0) w w.calls calls) g.rules))) in
-      record { settled = (under.settled, (names_classes tables plan f).1, settled); facts = ((given, kept), under.facts); kept = kept }
   sound (Join condition left right) choice first f v l =
       let plan = Join condition left right in
       let c2 = drop (ordering_count left) choice in

@@ -8,7 +8,7 @@ use Rattle.wd_plan.specs.declared.window.Call.{Call}
 use Rattle.wd_plan.specs.Fits.{width}
 use Rattle.wd_plan.specs.Frames.{is_stable}
 use Rattle.wd_plan.specs.Outcomes.{class_at}
-use Rattle.wd_plan.specs.Plans.{WindowRule, LimitRule, PlanTree, Scan, Join, Filter, Map, Group, Window, Distinct, Limit, node_count}
+use Rattle.wd_plan.specs.Plans.{WindowRule, LimitRule, Window, Limit, PlanTree, Scan, Join, Over, node_count}
 use Rattle.wd_plan.specs.Settled.{is_by_peers}
 use Rattle.wd_plan.specs.Sorting.{class_columns, order_columns, limit_class}
 use Rattle.wd_certificate.specs.Certificates.{CertificateRecord, KeptRecord, NodeRecord, TraceRecord}
@@ -270,29 +270,19 @@ good_one (call ∷ calls) (rule.Exchange n ∷ rules) h =
 
 module _ (node : ℕ) (facts : FactList) where
   rules_good : (plan : PlanTree) (entry : NodeRecord) → rules_refusal (evidence node facts entry.traces) plan entry ≡ None → HasRules facts plan entry
-  rules_good (Scan table columns) entry e = tt
-  rules_good (Join condition left right) entry e = tt
-  rules_good (Filter condition input) entry e = tt
-  rules_good (Map outputs input) entry e = tt
-  rules_good (Group g input) entry e = tt
-  rules_good (Window w input) entry e =
+  rules_good (Over (Window w) input) entry e =
       let own = calls_refusal (evidence node facts entry.traces) (width input) w w.calls entry.calls in
       let one = refuse_unless (has_one_exchange w.calls entry.calls) (refused.SecondExchange node) in
       (calls_good node facts entry.traces (width input) w w.calls entry.calls (first_passed own one e), one_good w.calls entry.calls (passed (has_one_exchange w.calls entry.calls) (refused.SecondExchange node) (later_passed own one e)))
-  rules_good (Distinct input) entry e = tt
-  rules_good (Limit limit input) entry e = limit_good node facts entry.traces (width input) limit entry.limit e
+  rules_good (Over (Limit limit) input) entry e = limit_good node facts entry.traces (width input) limit entry.limit e
+  rules_good plan entry e = tt
 
   good_rules : (plan : PlanTree) (entry : NodeRecord) → length entry.calls ≡ call_count plan → HasRules facts plan entry → rules_refusal (evidence node facts entry.traces) plan entry ≡ None
-  good_rules (Scan table columns) entry l h = refl
-  good_rules (Join condition left right) entry l h = refl
-  good_rules (Filter condition input) entry l h = refl
-  good_rules (Map outputs input) entry l h = refl
-  good_rules (Group g input) entry l h = refl
-  good_rules (Window w input) entry l h =
+  good_rules (Over (Window w) input) entry l h =
       both_passed (calls_refusal (evidence node facts entry.traces) (width input) w w.calls entry.calls) (refuse_unless (has_one_exchange w.calls entry.calls) (refused.SecondExchange node))
       (good_calls node facts entry.traces (width input) w w.calls entry.calls l h.0) (passes (has_one_exchange w.calls entry.calls) (refused.SecondExchange node) (good_one w.calls entry.calls h.1))
-  good_rules (Distinct input) entry l h = refl
-  good_rules (Limit limit input) entry l h = good_limit node facts entry.traces (width input) limit entry.limit h
+  good_rules (Over (Limit limit) input) entry l h = good_limit node facts entry.traces (width input) limit entry.limit h
+  good_rules plan entry l h = refl
 
   entry_good : (plan : PlanTree) (entry : NodeRecord) → entry_refusal node facts plan entry ≡ None → has_its_limit plan entry ≡ true → has_its_calls plan entry ≡ true → IsValidEntry facts plan entry
   entry_good plan entry e limit calls = by (each_traced node facts entry.traces) refl e
@@ -354,12 +344,7 @@ module _ (tables : List TableRule) (nodes : List NodeRecord) where
         nodes_good right second (first_passed of_right own rest) limits_below.1 counts_below.1,
         top_good plan first (later_passed of_right own rest) limits.1 counts.1,
       )
-  nodes_good (Filter condition input) first e limit calls = over (Filter condition input) input first e limit calls (nodes_good input first)
-  nodes_good (Map outputs input) first e limit calls = over (Map outputs input) input first e limit calls (nodes_good input first)
-  nodes_good (Group g input) first e limit calls = over (Group g input) input first e limit calls (nodes_good input first)
-  nodes_good (Window w input) first e limit calls = over (Window w input) input first e limit calls (nodes_good input first)
-  nodes_good (Distinct input) first e limit calls = over (Distinct input) input first e limit calls (nodes_good input first)
-  nodes_good (Limit limit input) first e limits calls = over (Limit limit input) input first e limits calls (nodes_good input first)
+  nodes_good (Over step input) first e limit calls = over (Over step input) input first e limit calls (nodes_good input first)
 
   -- what is said of each node from what its entry is
   pub record IsPassed (plan : PlanTree) (first : ℕ) : Type 0 where
@@ -388,28 +373,8 @@ module _ (tables : List TableRule) (nodes : List NodeRecord) where
         counts = both_true (all_entries has_its_calls left first nodes && all_entries has_its_calls right second nodes) (has_its_calls plan (top_at plan first nodes))
             (both_true (all_entries has_its_calls left first nodes) (all_entries has_its_calls right second nodes) a.counts b.counts) (counted plan first v.2);
       }
-  good_nodes (Filter condition input) first v =
-      let plan = Filter condition input in
-      let a = good_nodes input first v.0 in
-      record { refused_none = both_passed _ _ a.refused_none (good_top plan first v.1); limits = both_true _ _ a.limits v.1.limit; counts = both_true _ _ a.counts (counted plan first v.1) }
-  good_nodes (Map outputs input) first v =
-      let plan = Map outputs input in
-      let a = good_nodes input first v.0 in
-      record { refused_none = both_passed _ _ a.refused_none (good_top plan first v.1); limits = both_true _ _ a.limits v.1.limit; counts = both_true _ _ a.counts (counted plan first v.1) }
-  good_nodes (Group g input) first v =
-      let plan = Group g input in
-      let a = good_nodes input first v.0 in
-      record { refused_none = both_passed _ _ a.refused_none (good_top plan first v.1); limits = both_true _ _ a.limits v.1.limit; counts = both_true _ _ a.counts (counted plan first v.1) }
-  good_nodes (Window w input) first v =
-      let plan = Window w input in
-      let a = good_nodes input first v.0 in
-      record { refused_none = both_passed _ _ a.refused_none (good_top plan first v.1); limits = both_true _ _ a.limits v.1.limit; counts = both_true _ _ a.counts (counted plan first v.1) }
-  good_nodes (Distinct input) first v =
-      let plan = Distinct input in
-      let a = good_nodes input first v.0 in
-      record { refused_none = both_passed _ _ a.refused_none (good_top plan first v.1); limits = both_true _ _ a.limits v.1.limit; counts = both_true _ _ a.counts (counted plan first v.1) }
-  good_nodes (Limit limit input) first v =
-      let plan = Limit limit input in
+  good_nodes (Over step input) first v =
+      let plan = Over step input in
       let a = good_nodes input first v.0 in
       record { refused_none = both_passed _ _ a.refused_none (good_top plan first v.1); limits = both_true _ _ a.limits v.1.limit; counts = both_true _ _ a.counts (counted plan first v.1) }
 

@@ -9,7 +9,7 @@ use Rattle.wd_plan.specs.declared.window.Bound.TheVariants.{UnboundedPreceding, 
 use Rattle.wd_plan.specs.declared.window.FrameMode.TheVariants.{Rows}
 use Rattle.wd_plan.specs.Expressions.{Column, Compare, IsNotNull}
 use Rattle.wd_plan.specs.Fits.{fits}
-use Rattle.wd_plan.specs.Plans.{PlanTree, Filter, Join}
+use Rattle.wd_plan.specs.Plans.{Filter, PlanTree, Join, Over}
 use Rattle.wd_laws.specs.examples.Literals.{ascending, between, call, call_in, descending, first_value, limited, over, row_number, scan_t, select, sum, window}
 use Rattle.wd_certificate.specs.Certificates.{CertificateRecord, NodeRecord, TraceRecord}
 use Rattle.wd_certificate.specs.declared.certificate.Rule.{Rule}
@@ -98,7 +98,7 @@ exchanged_twice = nothing ∷ nothing ∷ rules (Exchange 0 ∷ Exchange 0 ∷ [
 
 -- SELECT id, ROW_NUMBER() OVER (ORDER BY u) FROM t WHERE u IS NOT NULL
 abbrev pub not_null_u : PlanTree
-not_null_u = select (0 ∷ 2 ∷ []) (window (over [] (ascending 1 ∷ []) ∷ []) (call 0 row_number ∷ []) (select (0 ∷ 3 ∷ []) (Filter (IsNotNull (Column 3)) scan_t)))
+not_null_u = select (0 ∷ 2 ∷ []) (window (over [] (ascending 1 ∷ []) ∷ []) (call 0 row_number ∷ []) (select (0 ∷ 3 ∷ []) (Over (Filter (IsNotNull (Column 3))) scan_t)))
 
 -- the Filter's only fact is that u determines the row
 abbrev pub by_u : List NodeRecord
@@ -213,7 +213,7 @@ pub record CertificatesComeOut : Type 0 where
   -- a limit with ties and no offset, without either, with both, and by keys
   pub ties : IsValidCertificate schema (first_of_v 0 true) (version_1 bare)
   pub no_ties : first_refusal schema (first_of_v 0 false) (version_1 bare) ≡ Some (refused.UnjustifiedLimit 2)
-  pub ties_behind_an_offset : first_refusal schema (first_of_v 1 true) (version_1 bare) ≡ Some (refused.UnjustifiedLimit 2)
+  pub ties_after_an_offset : first_refusal schema (first_of_v 1 true) (version_1 bare) ≡ Some (refused.UnjustifiedLimit 2)
   pub keys : IsValidCertificate schema first_id (version_1 keyed)
   pub other_keys : first_refusal schema (first_of_v 0 false) (version_1 keyed) ≡ Some (refused.UnjustifiedLimit 2)
   -- the facts of a Map of one column: the input's key determines the row, the input determines the output, and the output the input

@@ -6,7 +6,7 @@ use Rattle.wd_plan.specs.declared.window.Call.{Call}
 use Rattle.wd_plan.specs.Fits.{width}
 use Rattle.wd_plan.specs.Frames.{is_stable}
 use Rattle.wd_plan.specs.Outcomes.{class_at}
-use Rattle.wd_plan.specs.Plans.{WindowRule, LimitRule, PlanTree, Scan, Join, Filter, Map, Group, Window, Distinct, Limit}
+use Rattle.wd_plan.specs.Plans.{WindowRule, LimitRule, Window, Limit, PlanTree, Over}
 use Rattle.wd_plan.specs.Settled.{is_by_peers}
 use Rattle.wd_plan.specs.Sorting.{class_columns, order_columns, limit_class}
 use Rattle.wd_certificate.specs.Certificates.{KeptRecord, NodeRecord, TraceRecord}
@@ -87,11 +87,6 @@ IsJustifiedLimit facts columns traces limit (Some n) = Gives facts traces (is_in
 
 -- the calls of a Window and the limit of a Limit; no other node has either
 abbrev pub HasRules : FactList → PlanTree → NodeRecord → Type 0
-HasRules facts (Scan table columns) entry = ⊤
-HasRules facts (Join condition left right) entry = ⊤
-HasRules facts (Filter condition input) entry = ⊤
-HasRules facts (Map outputs input) entry = ⊤
-HasRules facts (Group g input) entry = ⊤
-HasRules facts (Window w input) entry = AreJustified facts (width input) entry.traces w w.calls entry.calls × HasOneExchange w.calls entry.calls
-HasRules facts (Distinct input) entry = ⊤
-HasRules facts (Limit limit input) entry = IsJustifiedLimit facts (width input) entry.traces limit entry.limit
+HasRules facts (Over (Window w) input) entry = AreJustified facts (width input) entry.traces w w.calls entry.calls × HasOneExchange w.calls entry.calls
+HasRules facts (Over (Limit limit) input) entry = IsJustifiedLimit facts (width input) entry.traces limit entry.limit
+HasRules facts plan entry = ⊤

@@ -6,7 +6,7 @@ use Rattle.wd_schema.specs.Tables.{TableRule}
 use Rattle.wd_plan.specs.Choices.{AtRows, IsValidChoice}
 use Rattle.wd_plan.specs.Fits.{fits, width}
 use Rattle.wd_plan.specs.Outcomes.{Agree, outcome}
-use Rattle.wd_plan.specs.Plans.{PlanTree, Scan, Join, Filter, Map, Group, Window, Distinct, Limit, node_count, ordering_count}
+use Rattle.wd_plan.specs.Plans.{PlanTree, Scan, Join, Over, node_count, ordering_count}
 use Rattle.wd_plan.specs.Settled.{IsSettledPlan}
 use Rattle.wd_laws.specs.Laws.{SameTables}
 use Rattle.wd_certificate.specs.Certificates.{CertificateRecord, NodeRecord}
@@ -32,12 +32,7 @@ FactsHold tables (Join condition left right) instance choice first nodes =
     BothHold tables (Join condition left right) instance choice first nodes
     × FactsHold tables left instance choice first nodes
     × FactsHold tables right instance (drop (ordering_count left) choice) (first + node_count left) nodes
-FactsHold tables (Filter condition input) instance choice first nodes = BothHold tables (Filter condition input) instance choice first nodes × FactsHold tables input instance choice first nodes
-FactsHold tables (Map outputs input) instance choice first nodes = BothHold tables (Map outputs input) instance choice first nodes × FactsHold tables input instance choice first nodes
-FactsHold tables (Group g input) instance choice first nodes = BothHold tables (Group g input) instance choice first nodes × FactsHold tables input instance choice first nodes
-FactsHold tables (Window w input) instance choice first nodes = BothHold tables (Window w input) instance choice first nodes × FactsHold tables input instance choice first nodes
-FactsHold tables (Distinct input) instance choice first nodes = BothHold tables (Distinct input) instance choice first nodes × FactsHold tables input instance choice first nodes
-FactsHold tables (Limit limit input) instance choice first nodes = BothHold tables (Limit limit input) instance choice first nodes × FactsHold tables input instance choice first nodes
+FactsHold tables (Over step input) instance choice first nodes = BothHold tables (Over step input) instance choice first nodes × FactsHold tables input instance choice first nodes
 
 -- over an instance, under a choice: each given and each kept fact holds, and each call and each limit is settled
 pub record Shows (tables : List TableRule) (plan : PlanTree) (nodes : List NodeRecord) (instance : Instance) (choice : List (List ℕ)) : Type 0 where

@@ -7,7 +7,7 @@ use Rattle.wd_plan.specs.Choices.{AtRows, IsValidChoice}
 use Rattle.wd_plan.specs.Facts.{DeterminesAll, HasWidth}
 use Rattle.wd_plan.specs.Fits.{fits}
 use Rattle.wd_plan.specs.Outcomes.{RowsOrFault, outcome}
-use Rattle.wd_plan.specs.Plans.{PlanTree, Map, Limit}
+use Rattle.wd_plan.specs.Plans.{PlanTree, Over, Map, Limit}
 use Rattle.wd_plan.specs.Settled.{IsSettledPlan}
 use Rattle.wd_plan.specs.Sorting.{limit_class, order_columns}
 use Rattle.wd_laws.specs.Laws.{SameTables}
@@ -25,8 +25,8 @@ AgreeAsLists (Err f) (Err g) = f ≡ g
 -- the top that is no Map, since a Map keeps the order. None where that node is no Limit. The plan's nodes are numbered from the given
 -- number on.
 abbrev pub final_limit : PlanTree → ℕ → Option ℕ
-final_limit (Map outputs input) first = final_limit input first
-final_limit (Limit limit input) first = Some (top_number (Limit limit input) first)
+final_limit (Over (Map outputs) input) first = final_limit input first
+final_limit (Over (Limit limit) input) first = Some (top_number (Over (Limit limit) input) first)
 final_limit plan first = None
 
 -- there is such a Limit, and its entry names a trace, so it goes by `keys`
@@ -36,8 +36,8 @@ goes_by_keys nodes (Some n) = is_some (entry_at nodes n).limit
 
 -- the sort keys of that Limit determine every column of the rows that it reads
 abbrev pub IsListedPlan : PlanTree → Instance → List (List ℕ) → Type 0
-IsListedPlan (Map outputs input) instance choice = IsListedPlan input instance choice
-IsListedPlan (Limit limit input) instance choice = AtRows (outcome input instance choice) (λ rows. (width : ℕ) × HasWidth width rows × DeterminesAll rows width (order_columns (limit_class limit))) ⊤
+IsListedPlan (Over (Map outputs) input) instance choice = IsListedPlan input instance choice
+IsListedPlan (Over (Limit limit) input) instance choice = AtRows (outcome input instance choice) (λ rows. (width : ℕ) × HasWidth width rows × DeterminesAll rows width (order_columns (limit_class limit))) ⊤
 IsListedPlan plan instance choice = ⊥
 
 -- The list law: a plan that is settled under one valid choice, and whose last Limit has sort keys that determine every column, has

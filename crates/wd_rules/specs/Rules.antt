@@ -9,7 +9,7 @@ use Rattle.wd_plan.specs.declared.window.Call.{Call}
 use Rattle.wd_plan.specs.Fits.{width}
 use Rattle.wd_plan.specs.Frames.{is_stable}
 use Rattle.wd_plan.specs.Outcomes.{class_at}
-use Rattle.wd_plan.specs.Plans.{WindowRule, LimitRule, PlanTree, Scan, Join, Filter, Map, Group, Window, Distinct, Limit}
+use Rattle.wd_plan.specs.Plans.{WindowRule, LimitRule, Window, Limit, PlanTree, Over}
 use Rattle.wd_plan.specs.Settled.{is_by_peers}
 use Rattle.wd_plan.specs.Sorting.{class_columns, order_columns, limit_class}
 use Rattle.wd_certificate.specs.Certificates.{KeptRecord, NodeRecord, TraceRecord}
@@ -176,14 +176,9 @@ limit_refusal evidence columns limit (Some n) =
 -- ---- the entry of a plan's top node
 
 abbrev pub rules_refusal : EvidenceRecord → PlanTree → NodeRecord → Option CertError
-rules_refusal evidence (Scan table columns) entry = None
-rules_refusal evidence (Join condition left right) entry = None
-rules_refusal evidence (Filter condition input) entry = None
-rules_refusal evidence (Map outputs input) entry = None
-rules_refusal evidence (Group g input) entry = None
-rules_refusal evidence (Window w input) entry = window_refusal evidence (width input) w entry.calls
-rules_refusal evidence (Distinct input) entry = None
-rules_refusal evidence (Limit limit input) entry = limit_refusal evidence (width input) limit entry.limit
+rules_refusal evidence (Over (Window w) input) entry = window_refusal evidence (width input) w entry.calls
+rules_refusal evidence (Over (Limit limit) input) entry = limit_refusal evidence (width input) limit entry.limit
+rules_refusal evidence plan entry = None
 
 -- the claims of an entry, by its traces
 abbrev pub claims_refusal : ℕ → FactList → PlanTree → NodeRecord → Result (List Traced) CertError → Option CertError

@@ -3,7 +3,7 @@ use Rattle.std.specs.Prelude.{◌≡◌, ℕ, ◌+◌, Bool, true, false, not, �
 use Rattle.std.specs.List.{AllByRecursion}
 use Rattle.wd_schema.specs.Tables.{TableRule}
 use Rattle.wd_plan.specs.Fits.{width}
-use Rattle.wd_plan.specs.Plans.{PlanTree, Scan, Join, Filter, Map, Group, Window, Distinct, Limit, node_count}
+use Rattle.wd_plan.specs.Plans.{Group, Window, Limit, PlanTree, Scan, Join, Over, node_count}
 use Rattle.wd_certificate.specs.Certificates.{CertificateRecord, NodeRecord}
 use Rattle.wd_certificate.specs.declared.certificate.Version.{Version}
 use Rattle.wd_certificate.specs.declared.certificate.Version.TheVariants.{One, Two}
@@ -26,12 +26,7 @@ entry_at nodes n = slice_index_or nodes n no_entry
 abbrev pub top_number : PlanTree → ℕ → ℕ
 top_number (Scan table columns) first = first
 top_number (Join condition left right) first = (first + node_count left) + node_count right
-top_number (Filter condition input) first = first + node_count input
-top_number (Map outputs input) first = first + node_count input
-top_number (Group g input) first = first + node_count input
-top_number (Window w input) first = first + node_count input
-top_number (Distinct input) first = first + node_count input
-top_number (Limit limit input) first = first + node_count input
+top_number (Over step input) first = first + node_count input
 
 -- the entry of a plan's top node
 abbrev pub top_at : PlanTree → ℕ → List NodeRecord → NodeRecord
@@ -42,34 +37,17 @@ abbrev pub all_entries : (PlanTree → NodeRecord → Bool) → PlanTree → ℕ
 all_entries test (Scan table columns) first nodes = let plan = Scan table columns in test plan (top_at plan first nodes)
 all_entries test (Join condition left right) first nodes = let plan = Join condition left right in
     (all_entries test left first nodes && all_entries test right (first + node_count left) nodes) && test plan (top_at plan first nodes)
-all_entries test (Filter condition input) first nodes = let plan = Filter condition input in all_entries test input first nodes && test plan (top_at plan first nodes)
-all_entries test (Map outputs input) first nodes = let plan = Map outputs input in all_entries test input first nodes && test plan (top_at plan first nodes)
-all_entries test (Group g input) first nodes = let plan = Group g input in all_entries test input first nodes && test plan (top_at plan first nodes)
-all_entries test (Window w input) first nodes = let plan = Window w input in all_entries test input first nodes && test plan (top_at plan first nodes)
-all_entries test (Distinct input) first nodes = let plan = Distinct input in all_entries test input first nodes && test plan (top_at plan first nodes)
-all_entries test (Limit limit input) first nodes = let plan = Limit limit input in all_entries test input first nodes && test plan (top_at plan first nodes)
+all_entries test (Over step input) first nodes = let plan = Over step input in all_entries test input first nodes && test plan (top_at plan first nodes)
 
 -- only a Limit has a limit
 abbrev pub has_its_limit : PlanTree → NodeRecord → Bool
-has_its_limit (Scan table columns) entry = not (is_some entry.limit)
-has_its_limit (Join condition left right) entry = not (is_some entry.limit)
-has_its_limit (Filter condition input) entry = not (is_some entry.limit)
-has_its_limit (Map outputs input) entry = not (is_some entry.limit)
-has_its_limit (Group g input) entry = not (is_some entry.limit)
-has_its_limit (Window w input) entry = not (is_some entry.limit)
-has_its_limit (Distinct input) entry = not (is_some entry.limit)
-has_its_limit (Limit limit input) entry = true
+has_its_limit (Over (Limit limit) input) entry = true
+has_its_limit plan entry = not (is_some entry.limit)
 
 -- how many calls a plan's top node has
 abbrev pub call_count : PlanTree → ℕ
-call_count (Scan table columns) = 0
-call_count (Join condition left right) = 0
-call_count (Filter condition input) = 0
-call_count (Map outputs input) = 0
-call_count (Group g input) = 0
-call_count (Window w input) = length w.calls
-call_count (Distinct input) = 0
-call_count (Limit limit input) = 0
+call_count (Over (Window w) input) = length w.calls
+call_count plan = 0
 
 abbrev pub has_its_calls : PlanTree → NodeRecord → Bool
 has_its_calls plan entry = nat_eq (length entry.calls) (call_count plan)
@@ -80,12 +58,8 @@ has_its_calls plan entry = nat_eq (length entry.calls) (call_count plan)
 abbrev pub has_group : PlanTree → Bool
 has_group (Scan table columns) = false
 has_group (Join condition left right) = has_group left || has_group right
-has_group (Filter condition input) = has_group input
-has_group (Map outputs input) = has_group input
-has_group (Group g input) = true
-has_group (Window w input) = has_group input
-has_group (Distinct input) = has_group input
-has_group (Limit limit input) = has_group input
+has_group (Over (Group g) input) = true
+has_group (Over step input) = has_group input
 
 -- the least version whose certificates may describe a plan
 abbrev pub version_needed : PlanTree → Version
@@ -102,23 +76,12 @@ is_read_for plan Two = true
 abbrev pub kept_below : PlanTree → ℕ → List NodeRecord → List Fact
 kept_below (Scan table columns) first nodes = []
 kept_below (Join condition left right) first nodes = kept_facts (top_at left first nodes)
-kept_below (Filter condition input) first nodes = kept_facts (top_at input first nodes)
-kept_below (Map outputs input) first nodes = kept_facts (top_at input first nodes)
-kept_below (Group g input) first nodes = kept_facts (top_at input first nodes)
-kept_below (Window w input) first nodes = kept_facts (top_at input first nodes)
-kept_below (Distinct input) first nodes = kept_facts (top_at input first nodes)
-kept_below (Limit limit input) first nodes = kept_facts (top_at input first nodes)
+kept_below (Over step input) first nodes = kept_facts (top_at input first nodes)
 
 -- what the right child of a Join keeps
 abbrev pub kept_right : PlanTree → ℕ → List NodeRecord → List Fact
-kept_right (Scan table columns) first nodes = []
 kept_right (Join condition left right) first nodes = kept_facts (top_at right (first + node_count left) nodes)
-kept_right (Filter condition input) first nodes = []
-kept_right (Map outputs input) first nodes = []
-kept_right (Group g input) first nodes = []
-kept_right (Window w input) first nodes = []
-kept_right (Distinct input) first nodes = []
-kept_right (Limit limit input) first nodes = []
+kept_right plan first nodes = []
 
 -- the given facts of a plan's top node, with what its children's entries keep
 abbrev pub given_at : List TableRule → PlanTree → ℕ → List NodeRecord → FactList
@@ -135,12 +98,7 @@ abbrev pub nodes_refusal : List TableRule → PlanTree → ℕ → List NodeReco
 nodes_refusal tables (Scan table columns) first nodes = top_refusal tables (Scan table columns) first nodes
 nodes_refusal tables (Join condition left right) first nodes =
     or_else (nodes_refusal tables left first nodes) (or_else (nodes_refusal tables right (first + node_count left) nodes) (top_refusal tables (Join condition left right) first nodes))
-nodes_refusal tables (Filter condition input) first nodes = or_else (nodes_refusal tables input first nodes) (top_refusal tables (Filter condition input) first nodes)
-nodes_refusal tables (Map outputs input) first nodes = or_else (nodes_refusal tables input first nodes) (top_refusal tables (Map outputs input) first nodes)
-nodes_refusal tables (Group g input) first nodes = or_else (nodes_refusal tables input first nodes) (top_refusal tables (Group g input) first nodes)
-nodes_refusal tables (Window w input) first nodes = or_else (nodes_refusal tables input first nodes) (top_refusal tables (Window w input) first nodes)
-nodes_refusal tables (Distinct input) first nodes = or_else (nodes_refusal tables input first nodes) (top_refusal tables (Distinct input) first nodes)
-nodes_refusal tables (Limit limit input) first nodes = or_else (nodes_refusal tables input first nodes) (top_refusal tables (Limit limit input) first nodes)
+nodes_refusal tables (Over step input) first nodes = or_else (nodes_refusal tables input first nodes) (top_refusal tables (Over step input) first nodes)
 
 -- the form of a plan's entries: one for each node; limits only at Limits; as many rules as a node has calls
 abbrev pub form_refusal : PlanTree → List NodeRecord → Option CertError
@@ -176,12 +134,7 @@ IsValidTop tables nodes plan first = IsValidEntry (given_at tables plan first no
 abbrev pub EachNode : (PlanTree → ℕ → Type 0) → PlanTree → ℕ → Type 0
 EachNode P (Scan table columns) first = P (Scan table columns) first
 EachNode P (Join condition left right) first = EachNode P left first × EachNode P right (first + node_count left) × P (Join condition left right) first
-EachNode P (Filter condition input) first = EachNode P input first × P (Filter condition input) first
-EachNode P (Map outputs input) first = EachNode P input first × P (Map outputs input) first
-EachNode P (Group g input) first = EachNode P input first × P (Group g input) first
-EachNode P (Window w input) first = EachNode P input first × P (Window w input) first
-EachNode P (Distinct input) first = EachNode P input first × P (Distinct input) first
-EachNode P (Limit limit input) first = EachNode P input first × P (Limit limit input) first
+EachNode P (Over step input) first = EachNode P input first × P (Over step input) first
 
 -- A valid certificate: its version is allowed for the plan, it has one entry for each node, and each entry is valid. The law
 -- `ValidIsNotRefused` says that this is exactly a certificate that is not refused.

@@ -150,25 +150,25 @@ data_parts given i g within is =
     ∙ map-append (λ (h : Bor (List ℕ) × Bor (List ℕ)). (h.0.now, h.1.now)) (take i given) (g ∷ drop (i + 1) given)
 
 -- what refuses a text refuses the data that it stands in
-module _ (tables : List TableRule) (earlier behind : List (List ℕ × List ℕ)) (name text : List ℕ) where
+module _ (tables : List TableRule) (earlier after : List (List ℕ × List ℕ)) (name text : List ℕ) where
   whole : List (List ℕ × List ℕ)
-  whole = earlier ++ (name, text) ∷ behind
+  whole = earlier ++ (name, text) ∷ after
 
   no_table : ((n : ℕ) → IsNamed tables name n → ⊥) → IsNoTable tables whole name
   unfolding whole
-  no_table unnamed = record { there = any_here (λ g. g.0 ≡ name) earlier (name, text) behind refl; unnamed = unnamed }
+  no_table unnamed = record { there = any_here (λ g. g.0 ≡ name) earlier (name, text) after refl; unnamed = unnamed }
 
   given_twice : IsGiven earlier name → IsGivenTwice whole name
   unfolding whole
-  given_twice there = record { before = earlier; again = text; behind = behind; parts = refl; earlier = there }
+  given_twice there = record { before = earlier; again = text; after = after; parts = refl; earlier = there }
 
-  pub RefusesData-from_text : (e : RunError) → RefusesText tables earlier name text e → RefusesData tables (earlier ++ (name, text) ∷ behind) e
+  pub RefusesData-from_text : (e : RunError) → RefusesText tables earlier name text e → RefusesData tables (earlier ++ (name, text) ∷ after) e
   unfolding whole
   RefusesData-from_text (run.Given refused) (same, inl unnamed) = inl (subst (IsNoTable tables whole) (sym same) (no_table unnamed))
   RefusesData-from_text (run.Given refused) (same, inr there) = inr (subst (IsGivenTwice whole) (sym same) (given_twice there))
   RefusesData-from_text (run.Data refused error) (same, found) =
       subst (λ n. HasDataCause tables whole n error) (sym same)
-      (record { number = found.0; named = found.1; text = text; there = any_here (λ g. g ≡ (name, text)) earlier (name, text) behind refl; cause = found.2 })
+      (record { number = found.0; named = found.1; text = text; there = any_here (λ g. g ≡ (name, text)) earlier (name, text) after refl; cause = found.2 })
   RefusesData-from_text run.OutOfMemory h = tt
   RefusesData-from_text _ h = absurd h
 

@@ -56,8 +56,8 @@ pub record IsNoTable (tables : List TableRule) (given : List (List ℕ × List �
 pub record IsGivenTwice (given : List (List ℕ × List ℕ)) (name : List ℕ) : Type 0 where
   pub before : List (List ℕ × List ℕ)
   pub again : List ℕ
-  pub behind : List (List ℕ × List ℕ)
-  pub parts : given ≡ before ++ (name, again) ∷ behind
+  pub after : List (List ℕ × List ℕ)
+  pub parts : given ≡ before ++ (name, again) ∷ after
   pub earlier : IsGiven before name
 
 -- the plan scans the table of that name, which has no data

@@ -1,12 +1,11 @@
 -- The answers of a query over the data of tables, from the texts alone.
-use Rattle.std.specs.Prelude.{◌≡◌, ◌≢◌, ℕ, List, [], ◌∷◌, ◌++◌, map, length, nat_eq, slice_get, Some, All, AllPairs, Any, IsTrue}
+use Rattle.std.specs.Prelude.{◌≡◌, ◌≢◌, ℕ, List, [], map, length, slice_get, Some, All, AllPairs, Any, IsTrue}
 use Rattle.std.specs.Borrow.{Bor}
-use Rattle.std.specs.List.{list_any}
 use Rattle.wd_value.specs.Rows.{Row, Instance, table_at}
 use Rattle.wd_schema.specs.Meets.{MeetsTable}
 use Rattle.wd_schema.specs.Tables.{TableRule}
 use Rattle.wd_plan.specs.Outcomes.{RowsOrFault}
-use Rattle.wd_plan.specs.Plans.{PlanTree, Scan, Join, Filter, Map, Group, Window, Distinct, Limit}
+use Rattle.wd_plan.specs.Plans.{PlanTree, is_scanned}
 use Rattle.wd_eval.specs.Runs.{IsAnswerWithin}
 use Rattle.wd_tables.specs.Data.{HoldsRows}
 use Rattle.wd_resolve.specs.Answers.{Answer}
@@ -43,20 +42,9 @@ pub record HoldsData (tables : List TableRule) (given : List (List ℕ × List �
 
 -- ---- the tables that a plan reads
 
--- the tables that a plan scans, by their numbers
-abbrev pub tables_read : PlanTree → List ℕ
-tables_read (Scan table columns) = table ∷ []
-tables_read (Join condition left right) = tables_read left ++ tables_read right
-tables_read (Filter condition input) = tables_read input
-tables_read (Map outputs input) = tables_read input
-tables_read (Group rule input) = tables_read input
-tables_read (Window w input) = tables_read input
-tables_read (Distinct input) = tables_read input
-tables_read (Limit limit input) = tables_read input
-
 -- the plan scans the table of that number
 abbrev pub ReadsTable : PlanTree → ℕ → Type 0
-ReadsTable plan number = IsTrue (list_any (nat_eq number) (tables_read plan))
+ReadsTable plan number = IsTrue (is_scanned plan number)
 
 -- data is given under the name
 abbrev pub IsGiven : List (List ℕ × List ℕ) → List ℕ → Type 0

@@ -1,6 +1,6 @@
 //! The rows of a schema's tables, from the data given.
 
-ghost use Rattle.std.specs.Prelude.{◌≡◌, ◌<◌, [], ◌∷◌, ◌++◌, ℕ, length, nat_eq, All, IfOk, IfErr, IfSome, IfNone, OnOk};
+ghost use Rattle.std.specs.Prelude.{◌≡◌, ◌<◌, [], ◌∷◌, ◌++◌, ℕ, length, All, IfOk, IfErr, IfSome, IfNone, OnOk};
 ghost use Rattle.std.specs.List.{list_any};
 ghost use Rattle.std.specs.Str.{bytes_eq};
 ghost use Rattle.wd_plan.specs.Plans.{plan_of};
@@ -10,7 +10,7 @@ ghost use Rattle.wd_schema.specs.Tables.{table_of};
 ghost use Rattle.wd_tables.specs.Data.{HoldsRows};
 ghost use Rattle.wd_run.specs.Causes.{LacksData};
 ghost use Rattle.wd_run.specs.Loads.{FindsTable, RefusesData, RefusesName, RefusesPlan, RefusesRows, RefusesText};
-ghost use Rattle.wd_run.specs.Runs.{HasData, HasDataAt, HoldsData, IsNamed, NamesDiffer, data_of, tables_read};
+ghost use Rattle.wd_run.specs.Runs.{HasData, HasDataAt, HoldsData, IsNamed, NamesDiffer, data_of};
 
 use crate::error::RunError;
 use std::alloc::Global;
@@ -136,7 +136,7 @@ fn lacking<'a>(
     ensures none { IfNone result (HasDataAt (schema_of schema.now) (data_of given.now) (plan_of plan.now) number) }
 {
     let (_, table) = schema.tables.get_index(number)?;
-    if !scans_table(plan, number) {
+    if !plan.scans(number) {
         return None;
     }
     let name = table.name.as_str();
@@ -162,22 +162,6 @@ pub fn check_given(
         }
     }
     Ok(())
-}
-
-/// Whether a plan scans the table of that number.
-fn scans_table(plan: &Plan, number: usize) -> bool
-    ensures { result ≡ list_any (nat_eq number) (tables_read (plan_of plan.now)) }
-{
-    match plan {
-        Plan::Scan { table, .. } => number == *table as usize,
-        Plan::Join { left, right, .. } => scans_table(left, number) || scans_table(right, number),
-        Plan::Filter { input, .. } => scans_table(input, number),
-        Plan::Map { input, .. } => scans_table(input, number),
-        Plan::Group { input, .. } => scans_table(input, number),
-        Plan::Window { input, .. } => scans_table(input, number),
-        Plan::Distinct { input } => scans_table(input, number),
-        Plan::Limit { input, .. } => scans_table(input, number),
-    }
 }
 
 fn is_given(name: &str, given: &[(&str, &[u8])]) -> bool

@@ -416,7 +416,7 @@ fn earlier(one: Option<PlacedError>, other: Option<PlacedError>) -> Option<Place
     }
 }
 
-fn refused_at(place: Option<ElementPlace>, error: SchemaError) -> Option<PlacedError>
+fn refusal_at(place: Option<ElementPlace>, error: SchemaError) -> Option<PlacedError>
     ensures none { result ≡ None → place ≡ None }
     ensures some { IfSome result (λ r. (place ≢ None) × (r.error ≡ error)) }
 {
@@ -432,13 +432,13 @@ fn first_refusal(table: &WrittenTable, columns: &[Text], keys: &[KeyAt]) -> Opti
     ensures refused { IfSome result (λ r. Keeps r.error (table_tree table.now) → ⊥) }
 {
     let elements = &table.elements;
-    let twice = refused_at(column_twice(columns, elements), SchemaError::ColumnTwice);
-    let unknown = refused_at(unknown_column(columns, keys), SchemaError::UnknownColumn);
-    let second = refused_at(second_primary(keys), SchemaError::SecondPrimaryKey);
-    let again = refused_at(key_column_twice(keys), SchemaError::KeyColumnTwice);
-    let many = refused_at(too_many(columns, keys, elements), SchemaError::TooMany);
-    let untyped = refused_at(unknown_type(elements), SchemaError::UnknownType);
-    let null = refused_at(forbidden_null(keys, elements), SchemaError::NullForbidden);
+    let twice = refusal_at(column_twice(columns, elements), SchemaError::ColumnTwice);
+    let unknown = refusal_at(unknown_column(columns, keys), SchemaError::UnknownColumn);
+    let second = refusal_at(second_primary(keys), SchemaError::SecondPrimaryKey);
+    let again = refusal_at(key_column_twice(keys), SchemaError::KeyColumnTwice);
+    let many = refusal_at(too_many(columns, keys, elements), SchemaError::TooMany);
+    let untyped = refusal_at(unknown_type(elements), SchemaError::UnknownType);
+    let null = refusal_at(forbidden_null(keys, elements), SchemaError::NullForbidden);
     let first = earlier(twice, unknown);
     let first = earlier(first, second);
     let first = earlier(first, again);

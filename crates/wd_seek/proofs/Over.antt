@@ -12,12 +12,11 @@ use Rattle.wd_value.specs.Rows.{Instance, Row, table_at}
 use Rattle.wd_schema.specs.Meets.{Meets, fits_columns}
 use Rattle.wd_schema.specs.Schemas.{table_named}
 use Rattle.wd_schema.specs.Tables.{TableRule}
-use Rattle.wd_plan.specs.Plans.{PlanTree}
+use Rattle.wd_plan.specs.Plans.{PlanTree, is_scanned}
 use Rattle.wd_facts.specs.Given.{table_rule}
 use Rattle.wd_witness_text.specs.Witnesses.{Fits64, IsTableOf, TableRows, rows_in, rows_named}
 use Rattle.wd_candidates.specs.Candidates.{candidate, candidate_row, candidate_rows}
 use Rattle.wd_candidates.specs.Fixed.{fixed_value}
-use Rattle.wd_candidates.specs.Origins.{is_scanned}
 use Rattle.wd_candidates.specs.Outlines.{IsOutline, scanned_in}
 use Rattle.wd_candidates.specs.Tied.{NodeColumns, is_tied}
 use Rattle.wd_candidates.specs.declared.outline.Outline.{Outline}

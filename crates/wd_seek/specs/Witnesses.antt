@@ -3,10 +3,9 @@ use Rattle.std.specs.Prelude.{◌≡◌, ◌≢◌, ◌↔◌, ℕ, ◌<◌, ◌
 use Rattle.std.specs.Str.{bytes_eq}
 use Rattle.wd_value.specs.Rows.{Instance, table_at}
 use Rattle.wd_schema.specs.Tables.{TableRule}
-use Rattle.wd_plan.specs.Plans.{PlanTree}
+use Rattle.wd_plan.specs.Plans.{PlanTree, is_scanned}
 use Rattle.wd_facts.specs.Given.{table_rule}
 use Rattle.wd_witness_text.specs.Witnesses.{IsOf, TableRows, WitnessRecord, instance_under}
-use Rattle.wd_candidates.specs.Origins.{is_scanned}
 use Rattle.wd_candidates.specs.Outlines.{scanned_in}
 use Rattle.wd_candidates.specs.declared.outline.Outline.{Outline}
 

@@ -1,5 +1,5 @@
 -- Plans without rows.
-use Rattle.std.proofs.Common.{◌≡◌, ℕ, zero, suc, Bool, true, false, ◌||◌, ◌⊎◌, inl, inr, List, [], ◌∷◌, length, drop, take, refl, sym, ◌∙◌, ap, subst, Option, Some, None, Ok, Err}
+use Rattle.std.proofs.Common.{◌≡◌, ℕ, zero, suc, Bool, true, false, ◌||◌, ◌⊎◌, inl, inr, List, [], ◌∷◌, drop, refl, sym, ◌∙◌, ap, subst, arith, Option, Some, None, Ok, Err}
 use Rattle.std.specs.List.{AllByRecursion}
 use Rattle.std.proofs.lemmas.Bool.{and_parts, false≢true}
 use Rattle.wd_schema.specs.Meets.{Meets}
@@ -7,12 +7,12 @@ use Rattle.wd_schema.specs.Tables.{TableRule}
 use Rattle.wd_value.proofs.Perms.{Perm-all}
 use Rattle.wd_value.specs.Rows.{Instance, Row, rows_at}
 use Rattle.wd_laws.proofs.Parts.{Perm-ordered}
-use Rattle.wd_plan.specs.Choices.{AreLawful, AtRows}
+use Rattle.wd_plan.specs.Choices.{AreLawful, AreOrderingsOver}
 use Rattle.wd_plan.specs.Expressions.{Expression}
 use Rattle.wd_plan.specs.Faults.{and_then}
-use Rattle.wd_plan.specs.Fits.{fits}
-use Rattle.wd_plan.specs.Outcomes.{RowsOrFault, cut, distinct, filter_outcome, first_rows, join_outcome, map_outcome, ordering_at, outcome, pairs, window_outcome}
-use Rattle.wd_plan.specs.Plans.{ClassRule, LimitRule, PlanTree, Scan, Join, Filter, Map, Group, Window, Distinct, Limit, ordering_count}
+use Rattle.wd_plan.specs.Fits.{fits, is_step, kinds_of, width}
+use Rattle.wd_plan.specs.Outcomes.{RowsOrFault, limited_rows, filter_outcome, first_rows, join_outcome, ordering_at, outcome, pairs, step_outcome}
+use Rattle.wd_plan.specs.Plans.{ClassRule, LimitRule, PlanTree, Scan, Join, Over, Filter, Group, Limit, ordering_count, own_orderings}
 use Rattle.wd_plan.specs.Sorting.{IsOrdering, limit_class}
 use Rattle.wd_simpler.proofs.Known.{all_among}
 use Rattle.wd_laws.proofs.Widths.{AllRows}
@@ -60,10 +60,10 @@ join_none condition (Ok ls) (Ok rs) (inr a) = subst (λ (x : List Row). HasNone 
 
 -- ---- Limits
 
-pub cut_none : (limit : LimitRule) (rows : List Row) → takes_none limit.count ≡ true → cut limit rows ≡ []
+pub cut_none : (limit : LimitRule) (rows : List Row) → takes_none limit.count ≡ true → limited_rows limit rows ≡ []
 cut_none limit rows = by limit.count
   where
-    by : (count : Option ℕ) → takes_none count ≡ true → cut (record limit { count = count }) rows ≡ []
+    by : (count : Option ℕ) → takes_none count ≡ true → limited_rows (record limit { count = count }) rows ≡ []
     by None h = absurd (false≢true h)
     by (Some zero) h = refl
     by (Some (suc n)) h = absurd (false≢true h)
@@ -72,7 +72,7 @@ drop_of_none : (n : ℕ) → ◌≡◌ {A = List Row} (drop n []) []
 drop_of_none zero = refl
 drop_of_none (suc n) = refl
 
-pub cut_of_none : (limit : LimitRule) → cut limit [] ≡ []
+pub cut_of_none : (limit : LimitRule) → limited_rows limit [] ≡ []
 cut_of_none limit = by limit.count
   where
     first : (n : ℕ) → first_rows limit.keys limit.ties n [] ≡ []
@@ -80,17 +80,18 @@ cut_of_none limit = by limit.count
     first (suc zero) = refl
     first (suc (suc n)) = refl
 
-    by : (count : Option ℕ) → cut (record limit { count = count }) [] ≡ []
+    by : (count : Option ℕ) → limited_rows (record limit { count = count }) [] ≡ []
     by None = drop_of_none limit.offset
     by (Some n) = ap (first_rows limit.keys limit.ties n) (drop_of_none limit.offset) ∙ first n
 
 ordered_none : (class : ClassRule) (rows : List Row) (ordering : List ℕ) → AreNone rows → IsOrdering class rows ordering → AreNone (rows_at rows ordering)
 ordered_none class rows ordering a lawful = Perm-all (λ (row : Row). ⊥) (Perm-ordered rows ordering lawful.once) a
 
-limited_none : (limit : LimitRule) (ordering : List ℕ) (r : RowsOrFault) → HasNone r → AtRows r (λ rows. IsOrdering (limit_class limit) rows ordering) (ordering ≡ []) → HasNone (and_then r (λ rows. Ok (cut limit (rows_at rows ordering))))
-limited_none limit ordering (Ok rows) a lawful =
-    subst AreNone (sym (ap (cut limit) (none_are (rows_at rows ordering) (ordered_none (limit_class limit) rows ordering a lawful)) ∙ cut_of_none limit)) tt
-limited_none limit ordering (Err fault) a lawful = tt
+limited_none : (limit : LimitRule) (own : List (List ℕ)) (r : RowsOrFault) → HasNone r → AreOrderingsOver (limit_class limit ∷ []) r own → HasNone (and_then r (step_outcome (Limit limit) own))
+limited_none limit own (Ok rows) a lawful =
+    let ordering = ordering_at own 0 in
+    subst AreNone (sym (ap (limited_rows limit) (none_are (rows_at rows ordering) (ordered_none (limit_class limit) rows ordering a (lawful.each 0 (omega arith)))) ∙ cut_of_none limit)) tt
+limited_none limit own (Err fault) a lawful = tt
 
 positions_none : (ordering : List ℕ) → AreNone (rows_at [] ordering) → ordering ≡ []
 positions_none [] a = refl
@@ -114,20 +115,19 @@ module _ (tables : List TableRule) (instance : Instance) (meets : Meets tables i
       either : (x y : Bool) (A B : Type 0) → (x ≡ true → A) → (y ≡ true → B) → (x || y) ≡ true → A ⊎ B
       either true y A B f g h = inl (f refl)
       either false y A B f g h = inr (g h)
-  no_rows (Filter condition input) choice fit a h =
+  no_rows (Over (Filter condition) input) choice fit a h =
       let own = (and_parts _ _ fit).0 in
-      by (is_unmet (numbers_of tables input) condition) refl (no_rows input choice own a) h
+      by (is_unmet (numbers_of tables input) condition) refl (no_rows input choice own a.0) h
     where
       by : (b : Bool) → is_unmet (numbers_of tables input) condition ≡ b → (is_empty tables input ≡ true → HasNone (outcome input instance choice)) → (b || is_empty tables input) ≡ true → HasNone (and_then (outcome input instance choice) (filter_outcome condition))
-      by true e below h = step_drops (IsAmong (numbers_of tables input)) (filter_outcome condition) (λ rows from. keeps_none condition rows (all_unmet (numbers_of tables input) condition e rows from)) (outcome input instance choice) (all_among tables instance meets input choice (and_parts _ _ fit).0 a)
+      by true e below h = step_drops (IsAmong (numbers_of tables input)) (filter_outcome condition) (λ rows from. keeps_none condition rows (all_unmet (numbers_of tables input) condition e rows from)) (outcome input instance choice) (all_among tables instance meets input choice (and_parts _ _ fit).0 a.0)
       by false e below h = step_none (filter_outcome condition) tt (outcome input instance choice) (below h)
-  no_rows (Map outputs input) choice fit a h = step_none (map_outcome outputs) tt (outcome input instance choice) (no_rows input choice (and_parts _ _ fit).0 a h)
-  no_rows (Group rule input) choice fit a h = absurd (false≢true h)
-  no_rows (Window w input) choice fit a h = step_none (λ rows. window_outcome w rows (take (length w.classes) (drop (ordering_count input) choice))) tt (outcome input instance choice) (no_rows input choice (and_parts _ _ fit).0 a.0 h)
-  no_rows (Distinct input) choice fit a h = step_none (λ rows. Ok (distinct rows)) tt (outcome input instance choice) (no_rows input choice fit a h)
-  no_rows (Limit limit input) choice fit a h =
+  no_rows (Over (Group rule) input) choice fit a h = absurd (false≢true h)
+  no_rows (Over (Limit limit) input) choice fit a h =
       by (takes_none limit.count) refl (no_rows input choice (and_parts _ _ fit).0 a.0) h
     where
-      by : (b : Bool) → takes_none limit.count ≡ b → (is_empty tables input ≡ true → HasNone (outcome input instance choice)) → (b || is_empty tables input) ≡ true → HasNone (and_then (outcome input instance choice) (λ rows. Ok (cut limit (rows_at rows (ordering_at choice (ordering_count input))))))
-      by true e below h = step_drops (λ row. Unit {0}) (λ rows. Ok (cut limit (rows_at rows (ordering_at choice (ordering_count input))))) (λ rows u. ap (λ x. Ok x) (cut_none limit (rows_at rows (ordering_at choice (ordering_count input))) e)) (outcome input instance choice) (at_any (λ row. Unit {0}) (λ row. tt) (outcome input instance choice))
-      by false e below h = limited_none limit (ordering_at choice (ordering_count input)) (outcome input instance choice) (below h) a.1
+      by : (b : Bool) → takes_none limit.count ≡ b → (is_empty tables input ≡ true → HasNone (outcome input instance choice)) → (b || is_empty tables input) ≡ true → HasNone (and_then (outcome input instance choice) (step_outcome (Limit limit) (own_orderings (Limit limit) input choice)))
+      by true e below h = step_drops (λ row. Unit {0}) (step_outcome (Limit limit) (own_orderings (Limit limit) input choice)) (λ rows u. ap (λ x. Ok x) (cut_none limit (rows_at rows (ordering_at (own_orderings (Limit limit) input choice) 0)) e)) (outcome input instance choice) (at_any (λ row. Unit {0}) (λ row. tt) (outcome input instance choice))
+      by false e below h = limited_none limit (own_orderings (Limit limit) input choice) (outcome input instance choice) (below h) a.1
+  no_rows (Over step input) choice fit a h =
+      step_none (step_outcome step (own_orderings step input choice)) tt (outcome input instance choice) (no_rows input choice (and_parts (fits tables input) (is_step (kinds_of tables input) (width input) step) fit).0 a.0 h)

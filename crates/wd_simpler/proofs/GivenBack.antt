@@ -1,5 +1,5 @@
 -- Columns that others give back: where a column is computed so from another one, a function takes its values back to that one's.
-use Rattle.std.proofs.Common.{◌≡◌, ℕ, zero, suc, ◌<◌, ℤ, pos, Bool, true, false, cond, List, [], ◌∷◌, ◌++◌, map, length, take, drop, nat_eq, nat_lt, refl, sym, ◌∙◌, ap, subst, arith, Option, Some, None, option_and_then, option_map, option_to_list, slice_get, Result, Ok, Err}
+use Rattle.std.proofs.Common.{◌≡◌, ℕ, zero, suc, ◌<◌, ℤ, pos, Bool, true, false, cond, List, [], ◌∷◌, ◌++◌, map, length, nat_eq, nat_lt, refl, sym, ◌∙◌, ap, subst, arith, Option, Some, None, option_and_then, option_map, option_to_list, slice_get, Result, Ok, Err}
 use Rattle.std.specs.Prelude.{◌+ℤ◌, ◌-ℤ◌, neg_ℤ}
 use Rattle.std.specs.List.{AllByRecursion, list_all}
 use Rattle.std.proofs.lemmas.Bool.{and_parts, eqb-true, false≢true, ltb-true}
@@ -27,7 +27,7 @@ use Rattle.wd_plan.specs.Facts.{HasWidth}
 use Rattle.wd_plan.specs.Faults.{all_ok, and_then}
 use Rattle.wd_plan.specs.Fits.{Kinds, fits, is_kind, is_narrow, is_typed, kind_of, kinds_of, width}
 use Rattle.wd_plan.specs.Outcomes.{call_at, distinct, filter_outcome, map_outcome, outcome, window_outcome}
-use Rattle.wd_plan.specs.Plans.{PlanTree, Scan, Join, Filter, Map, Group, Window, WindowRule, Distinct, Limit, has, ordering_count}
+use Rattle.wd_plan.specs.Plans.{PlanTree, Scan, Join, Over, Filter, Map, Group, Window, WindowRule, Distinct, Limit, has, own_orderings}
 use Rattle.wd_simpler.proofs.Rows.{all_made, at_any, at_each, is_extended, item_value, then_all, window_rows}
 use Rattle.wd_simpler.specs.Keyed.{column_shown, given_back, is_number, is_shift, is_whole, origin, place_of, shifted}
 
@@ -278,12 +278,10 @@ some_back below (Some e) v = output_back below e v
 abbrev pub undone : PlanTree → ℕ → Value → Value
 undone (Scan table columns) c v = v
 undone (Join condition left right) c v = v
-undone (Filter condition input) c v = undone input c v
-undone (Map outputs input) c v = some_back (undone input) (slice_get outputs c) v
-undone (Group rule input) c v = v
-undone (Window w input) c v = undone input c v
-undone (Distinct input) c v = undone input c v
-undone (Limit limit input) c v = v
+undone (Over (Map outputs) input) c v = some_back (undone input) (slice_get outputs c) v
+undone (Over (Group rule) input) c v = v
+undone (Over (Limit limit) input) c v = v
+undone (Over step input) c v = undone input c v
 
 abbrev pub GivesBack : PlanTree → Row → Type 0
 GivesBack plan row = (c d : ℕ) → given_back plan c ≡ Some d → column_of row d ≡ undone plan c (column_of row c)
@@ -309,12 +307,10 @@ some_null below h (Some e) = output_null below h e
 undone_null : (plan : PlanTree) (c : ℕ) → undone plan c Null ≡ Null
 undone_null (Scan table columns) c = refl
 undone_null (Join condition left right) c = refl
-undone_null (Filter condition input) c = undone_null input c
-undone_null (Map outputs input) c = some_null (undone input) (undone_null input) (slice_get outputs c)
-undone_null (Group rule input) c = refl
-undone_null (Window w input) c = undone_null input c
-undone_null (Distinct input) c = undone_null input c
-undone_null (Limit limit input) c = refl
+undone_null (Over (Map outputs) input) c = some_null (undone input) (undone_null input) (slice_get outputs c)
+undone_null (Over (Group rule) input) c = refl
+undone_null (Over (Limit limit) input) c = refl
+undone_null (Over step input) c = undone_null input c
 
 pub empty_gives : (plan : PlanTree) → GivesBack plan []
 empty_gives plan c d h = sym (undone_null plan c)
@@ -363,7 +359,7 @@ module _ (input : PlanTree) (kinds : Kinds) (outputs : List Expression) (typed :
   origin_back row gives are (IsNotNull a) own d h w e = shifted_back kinds row are (IsNotNull a) own d h w e
   origin_back row gives are (Case k a b c) own d h w e = shifted_back kinds row are (Case k a b c) own d h w e
 
-  made_gives : (row made : Row) → GivesBack input row → IsOfKinds kinds row → all_ok (map (λ output. value_of output row) outputs) ≡ Ok made → GivesBack (Map outputs input) made
+  made_gives : (row made : Row) → GivesBack input row → IsOfKinds kinds row → all_ok (map (λ output. value_of output row) outputs) ≡ Ok made → GivesBack (Over (Map outputs) input) made
   made_gives row made gives are e c d h = by (slice_get outputs c) refl h
     where
       all : AllOk (λ output. value_of output row) outputs made
@@ -380,9 +376,9 @@ module _ (input : PlanTree) (kinds : Kinds) (outputs : List Expression) (typed :
       by None at k = absurd (no_column d k)
       by (Some o) at k = from o at (origin (given_back input) o) refl k
 
-  map_gives : (rows : List Row) → AllByRecursion (GivesBack input) rows → AllByRecursion (IsOfKinds kinds) rows → AllRows (GivesBack (Map outputs input)) (map_outcome outputs rows)
+  map_gives : (rows : List Row) → AllByRecursion (GivesBack input) rows → AllByRecursion (IsOfKinds kinds) rows → AllRows (GivesBack (Over (Map outputs) input)) (map_outcome outputs rows)
   map_gives rows gives are =
-      all_made [] (GivesBack (Map outputs input)) (λ row. all_ok (map (λ output. value_of output row) outputs)) rows
+      all_made [] (GivesBack (Over (Map outputs) input)) (λ row. all_ok (map (λ output. value_of output row) outputs)) rows
       (λ p made k e. made_gives (row_at rows p) made (at_each (GivesBack input) rows p gives k) (at_each (IsOfKinds kinds) rows p are k) e)
 
 -- ---- Windows
@@ -400,22 +396,21 @@ place_below c (e ∷ outputs) d h = by (place_below c outputs) (has (option_to_l
 given_below : (plan : PlanTree) (c d : ℕ) → given_back plan c ≡ Some d → d < width plan
 given_below (Scan table columns) c d h = absurd (no_column d h)
 given_below (Join condition left right) c d h = absurd (no_column d h)
-given_below (Filter condition input) c d h = given_below input c d h
-given_below (Map outputs input) c d h = by (option_and_then (origin (given_back input)) (slice_get outputs c)) h
+given_below (Over (Map outputs) input) c d h = by (option_and_then (origin (given_back input)) (slice_get outputs c)) h
   where
     by : (o : Option ℕ) → option_and_then (λ (n : ℕ). place_of n outputs) o ≡ Some d → d < length outputs
     by None k = absurd (no_column d k)
     by (Some n) k = place_below n outputs d k
-given_below (Group rule input) c d h = absurd (no_column d h)
-given_below (Window w input) c d h = by (given_below input c d) (nat_lt c (width input)) h
+given_below (Over (Group rule) input) c d h = absurd (no_column d h)
+given_below (Over (Window w) input) c d h = by (given_below input c d) (nat_lt c (width input)) h
   where
-    by : (given_back input c ≡ Some d → d < width input) → (b : Bool) → cond b (given_back input c) None ≡ Some d → d < width (Window w input)
+    by : (given_back input c ≡ Some d → d < width input) → (b : Bool) → cond b (given_back input c) None ≡ Some d → d < width (Over (Window w) input)
     by below true k = let within = below k in omega (arith, within)
     by below false k = absurd (no_column d k)
-given_below (Distinct input) c d h = given_below input c d h
-given_below (Limit limit input) c d h = absurd (no_column d h)
+given_below (Over (Limit limit) input) c d h = absurd (no_column d h)
+given_below (Over step input) c d h = given_below input c d h
 
-extended_gives : (w : WindowRule) (input : PlanTree) (row values : Row) → length row ≡ width input → GivesBack input row → GivesBack (Window w input) (row ++ values)
+extended_gives : (w : WindowRule) (input : PlanTree) (row values : Row) → length row ≡ width input → GivesBack input row → GivesBack (Over (Window w) input) (row ++ values)
 extended_gives w input row values long gives c d h = by (nat_lt c (width input)) refl h
   where
     by : (b : Bool) → nat_lt c (width input) ≡ b → cond b (given_back input c) None ≡ Some d → column_of (row ++ values) d ≡ undone input c (column_of (row ++ values) c)
@@ -425,12 +420,12 @@ extended_gives w input row values long gives c d h = by (nat_lt c (width input))
         get_or_append_left row values Null d (omega arith) ∙ gives c d k ∙ ap (undone input c) (sym (get_or_append_left row values Null c (omega arith)))
     by false e k = absurd (no_column d k)
 
-window_gives : (w : WindowRule) (input : PlanTree) (orderings : List (List ℕ)) (rows : List Row) → HasWidth (width input) rows → AllByRecursion (GivesBack input) rows → AllRows (GivesBack (Window w input)) (window_outcome w rows orderings)
+window_gives : (w : WindowRule) (input : PlanTree) (orderings : List (List ℕ)) (rows : List Row) → HasWidth (width input) rows → AllByRecursion (GivesBack input) rows → AllRows (GivesBack (Over (Window w) input)) (window_outcome w rows orderings)
 window_gives w input orderings rows wide gives =
-    window_rows (GivesBack (Window w input)) w rows orderings
+    window_rows (GivesBack (Over (Window w) input)) w rows orderings
     (λ p row k e.
     let parts = is_extended (row_at rows p) (all_ok (map (call_at w rows orderings p) w.calls)) row e in
-    subst (GivesBack (Window w input)) (sym parts.is) (extended_gives w input (row_at rows p) parts.added (at_each (λ (r : Row). length r ≡ width input) rows p wide k) (at_each (GivesBack input) rows p gives k)))
+    subst (GivesBack (Over (Window w) input)) (sym parts.is) (extended_gives w input (row_at rows p) parts.added (at_each (λ (r : Row). length r ≡ width input) rows p wide k) (at_each (GivesBack input) rows p gives k)))
 
 -- ---- all plans
 
@@ -441,21 +436,20 @@ module _ (tables : List TableRule) (instance : Instance) (meets : Meets tables i
   pub all_give : (plan : PlanTree) (choice : List (List ℕ)) → fits tables plan ≡ true → AreLawful plan instance choice → AllRows (GivesBack plan) (outcome plan instance choice)
   all_give (Scan table columns) choice fit a = at_any (GivesBack (Scan table columns)) (nothing_given (Scan table columns) (λ c. refl)) (outcome (Scan table columns) instance choice)
   all_give (Join condition left right) choice fit a = at_any (GivesBack (Join condition left right)) (nothing_given (Join condition left right) (λ c. refl)) (outcome (Join condition left right) instance choice)
-  all_give (Filter condition input) choice fit a =
-      let here = all_give input choice (and_parts _ _ fit).0 a in
+  all_give (Over (Filter condition) input) choice fit a =
+      let here = all_give input choice (and_parts _ _ fit).0 a.0 in
       then_all (AllByRecursion (GivesBack input)) (AllByRecursion (GivesBack input)) (GivesBack input) (outcome input instance choice) (filter_outcome condition) (λ rows p q. all_filtered (GivesBack input) condition rows p) here here
-  all_give (Map outputs input) choice fit a =
+  all_give (Over (Map outputs) input) choice fit a =
       let parts = and_parts _ _ fit in
       let typed = (and_parts (is_narrow (length outputs)) (list_all (is_typed (kinds_of tables input)) outputs) parts.1).1 in
-      then_all (AllByRecursion (GivesBack input)) (AllByRecursion (IsOfKinds (kinds_of tables input))) (GivesBack (Map outputs input)) (outcome input instance choice) (map_outcome outputs)
-      (map_gives input (kinds_of tables input) outputs typed) (all_give input choice parts.0 a) (has_kinds tables input instance choice parts.0 meets a)
-  all_give (Group rule input) choice fit a = at_any (GivesBack (Group rule input)) (nothing_given (Group rule input) (λ c. refl)) (outcome (Group rule input) instance choice)
-  all_give (Window w input) choice fit a =
+      then_all (AllByRecursion (GivesBack input)) (AllByRecursion (IsOfKinds (kinds_of tables input))) (GivesBack (Over (Map outputs) input)) (outcome input instance choice) (map_outcome outputs)
+      (map_gives input (kinds_of tables input) outputs typed) (all_give input choice parts.0 a.0) (has_kinds tables input instance choice parts.0 meets a.0)
+  all_give (Over (Window w) input) choice fit a =
       let own = (and_parts _ _ fit).0 in
-      let orderings = take (length w.classes) (drop (ordering_count input) choice) in
-      then_all (HasWidth (width input)) (AllByRecursion (GivesBack input)) (GivesBack (Window w input)) (outcome input instance choice) (λ rows. window_outcome w rows orderings)
+      let orderings = own_orderings (Window w) input choice in
+      then_all (HasWidth (width input)) (AllByRecursion (GivesBack input)) (GivesBack (Over (Window w) input)) (outcome input instance choice) (λ rows. window_outcome w rows orderings)
       (λ rows wide p. window_gives w input orderings rows wide p) (has_widths tables input instance choice own meets a.0) (all_give input choice own a.0)
-  all_give (Distinct input) choice fit a =
-      let here = all_give input choice fit a in
+  all_give (Over Distinct input) choice fit a =
+      let here = all_give input choice (and_parts (fits tables input) true fit).0 a.0 in
       then_all (AllByRecursion (GivesBack input)) (AllByRecursion (GivesBack input)) (GivesBack input) (outcome input instance choice) (λ rows. Ok (distinct rows)) (λ rows p q. all_distinct (GivesBack input) rows p) here here
-  all_give (Limit limit input) choice fit a = at_any (GivesBack (Limit limit input)) (nothing_given (Limit limit input) (λ c. refl)) (outcome (Limit limit input) instance choice)
+  all_give (Over step input) choice fit a = at_any (GivesBack (Over step input)) (nothing_given (Over step input) (λ c. refl)) (outcome (Over step input) instance choice)

@@ -1,15 +1,14 @@
 -- Steps that keep no row, and steps over no rows.
-use Rattle.std.proofs.Common.{◌≡◌, ℕ, Bool, true, false, List, [], ◌∷◌, map, refl, sym, ◌∙◌, ap, Option, Ok, Err}
+use Rattle.std.proofs.Common.{◌≡◌, ℕ, Bool, true, false, List, [], ◌∷◌, map, refl, sym, ◌∙◌, ap, arith, Option, Ok, Err}
 use Rattle.std.specs.List.{AllByRecursion}
 use Rattle.wd_value.specs.declared.value.Value.TheVariants.{Bool as TruthValue}
 use Rattle.wd_value.specs.Rows.{Row, rows_at}
 use Rattle.wd_plan.specs.declared.expression.ValueKind.TheVariants.{Truth}
-use Rattle.wd_plan.specs.Choices.{AtRows}
+use Rattle.wd_plan.specs.Choices.{AreOrderingsOver, AtRows}
 use Rattle.wd_plan.specs.Expressions.{Expression, Literal}
 use Rattle.wd_plan.specs.Facts.{HasWidth}
-use Rattle.wd_plan.specs.Outcomes.{RowsOrFault, cut, filter_outcome, window_outcome}
+use Rattle.wd_plan.specs.Outcomes.{RowsOrFault, limited_rows, filter_outcome, ordering_at, window_outcome}
 use Rattle.wd_plan.specs.Plans.{ClassRule, LimitRule, WindowRule}
-use Rattle.wd_plan.specs.Sorting.{IsOrdering}
 use Rattle.wd_step_facts.specs.Steps.{used}
 use Rattle.wd_value.specs.Keys.{key_columns}
 use Rattle.wd_simpler.proofs.Alike.{AreAlikeOn, AreSameOn}
@@ -63,23 +62,23 @@ window_kept false read n w orderings rows others wide none e = window_alike read
 abbrev pub AreNoneIn : List ℕ → List Row → Type 0
 AreNoneIn ordering rows = AreNone rows × (ordering ≡ [])
 
-pub none_in : (class : ClassRule) (ordering : List ℕ) (none : Bool) (r : RowsOrFault) → (none ≡ true → HasNone r) → AtRows r (λ rows. IsOrdering class rows ordering) (ordering ≡ []) → AtRows r (λ rows. none ≡ true → AreNoneIn ordering rows) (Unit {0})
-none_in class ordering none (Ok rows) h lawful = λ e. (h e, ordering_of_none class rows ordering (h e) lawful)
-none_in class ordering none (Err fault) h lawful = tt
+pub none_in : (class : ClassRule) (own : List (List ℕ)) (none : Bool) (r : RowsOrFault) → (none ≡ true → HasNone r) → AreOrderingsOver (class ∷ []) r own → AtRows r (λ rows. none ≡ true → AreNoneIn (ordering_at own 0) rows) (Unit {0})
+none_in class own none (Ok rows) h lawful = λ e. (h e, ordering_of_none class rows (ordering_at own 0) (h e) (lawful.each 0 (omega arith)))
+none_in class own none (Err fault) h lawful = tt
 
-cut_empty : (limit : LimitRule) (rows : List Row) (ordering : List ℕ) → rows ≡ [] → ordering ≡ [] → cut limit (rows_at rows ordering) ≡ []
-cut_empty limit rows ordering e f = (λ i. cut limit (rows_at (e i) (f i))) ∙ cut_of_none limit
+cut_empty : (limit : LimitRule) (rows : List Row) (ordering : List ℕ) → rows ≡ [] → ordering ≡ [] → limited_rows limit (rows_at rows ordering) ≡ []
+cut_empty limit rows ordering e f = (λ i. limited_rows limit (rows_at (e i) (f i))) ∙ cut_of_none limit
 
 plain_alike : (takes : Bool) (read : Read) (limit : LimitRule) → takes_none limit.count ≡ takes → (ordering : List ℕ) (rows others : List Row)
-    → AreSameOn (and_also (kept_reads takes read) (key_columns limit.keys)) rows others → AreAlikeOn read (Ok (cut limit (rows_at rows ordering))) (Ok (cut (plain_limit limit) (rows_at others ordering)))
+    → AreSameOn (and_also (kept_reads takes read) (key_columns limit.keys)) rows others → AreAlikeOn read (Ok (limited_rows limit (rows_at rows ordering))) (Ok (limited_rows (plain_limit limit) (rows_at others ordering)))
 plain_alike true read limit h ordering rows others e =
-    both_none read (Ok (cut limit (rows_at rows ordering))) (Ok (cut (plain_limit limit) (rows_at others ordering))) (ap (λ x. Ok x) (cut_none limit (rows_at rows ordering) h)) (ap (λ x. Ok x) (sym (plain_cut limit (rows_at others ordering)) ∙ cut_none limit (rows_at others ordering) h))
+    both_none read (Ok (limited_rows limit (rows_at rows ordering))) (Ok (limited_rows (plain_limit limit) (rows_at others ordering))) (ap (λ x. Ok x) (cut_none limit (rows_at rows ordering) h)) (ap (λ x. Ok x) (sym (plain_cut limit (rows_at others ordering)) ∙ cut_none limit (rows_at others ordering) h))
 plain_alike false read limit h ordering rows others e = limit_alike read limit ordering rows others e
 
 pub limit_kept : (none takes : Bool) (read : Read) (limit : LimitRule) → takes_none limit.count ≡ takes → (ordering : List ℕ) (rows others : List Row) → (none ≡ true → AreNoneIn ordering rows)
-    → AreSameOn (and_also (kept_reads takes read) (key_columns limit.keys)) rows others → AreAlikeOn read (Ok (cut limit (rows_at rows ordering))) (Ok (cut (read_limit none limit) (rows_at others ordering)))
+    → AreSameOn (and_also (kept_reads takes read) (key_columns limit.keys)) rows others → AreAlikeOn read (Ok (limited_rows limit (rows_at rows ordering))) (Ok (limited_rows (read_limit none limit) (rows_at others ordering)))
 limit_kept true takes read limit h ordering rows others none e =
     let is = none refl in
     let more = and_also (kept_reads takes read) (key_columns limit.keys) in
-    both_none read (Ok (cut limit (rows_at rows ordering))) (Ok (cut (whole_limit limit) (rows_at others ordering))) (ap (λ x. Ok x) (cut_empty limit rows ordering (none_are rows is.0) is.1)) (ap (λ x. Ok x) (cut_empty (whole_limit limit) others ordering (others_none more rows others is.0 e) is.1))
+    both_none read (Ok (limited_rows limit (rows_at rows ordering))) (Ok (limited_rows (whole_limit limit) (rows_at others ordering))) (ap (λ x. Ok x) (cut_empty limit rows ordering (none_are rows is.0) is.1)) (ap (λ x. Ok x) (cut_empty (whole_limit limit) others ordering (others_none more rows others is.0 e) is.1))
 limit_kept false takes read limit h ordering rows others none e = plain_alike takes read limit h ordering rows others e

@@ -1,5 +1,5 @@
 -- Each row of a plan has in its columns the numbers that are known of them.
-use Rattle.std.proofs.Common.{◌≡◌, ℕ, zero, suc, ◌+◌, ◌-◌, ◌*◌, ◌/◌, ◌%◌, ◌<◌, ◌≤◌, ◌&&◌, ◌⊎◌, inl, inr, min, pos, Bool, true, false, not, cond, List, [], ◌∷◌, ◌++◌, map, flat_map, length, take, drop, nat_lt, refl, sym, subst, arith, Option, Some, None, option_and_then, slice_get, Result, Ok, Err}
+use Rattle.std.proofs.Common.{◌≡◌, ℕ, zero, suc, ◌+◌, ◌-◌, ◌*◌, ◌/◌, ◌%◌, ◌<◌, ◌≤◌, ◌&&◌, ◌⊎◌, inl, inr, min, pos, Bool, true, false, not, cond, List, [], ◌∷◌, ◌++◌, map, flat_map, length, drop, nat_lt, refl, sym, subst, arith, Option, Some, None, option_and_then, slice_get, Result, Ok, Err}
 use Rattle.std.specs.List.{AllByRecursion}
 use Rattle.std.specs.Prelude.{int_le}
 use Rattle.std.proofs.lemmas.Bool.{and_from, and_parts, cases_lt, false≢true, ltb-false, ltb-true}
@@ -22,14 +22,14 @@ use Rattle.wd_laws.proofs.Widths.{AllRows, all_distinct, all_filtered, all_limit
 use Rattle.wd_plan.proofs.Ranges.{has_the_table}
 use Rattle.wd_plan.specs.Calls.{aggregate_value, bucket_from, call_value, ranking_value}
 use Rattle.wd_plan.specs.Frames.{frame_of}
-use Rattle.wd_plan.specs.Choices.{AreLawful}
+use Rattle.wd_plan.specs.Choices.{AreLawful, AreOrderings}
 use Rattle.wd_plan.specs.Expressions.{Expression, Column, Literal, Negate, Arithmetic, Compare, Not, And, Or, IsNull, IsNotNull, Case, value_of}
 use Rattle.wd_plan.specs.Facts.{HasWidth}
 use Rattle.wd_plan.specs.Faults.{all_ok, and_then}
-use Rattle.wd_plan.specs.Fits.{fits, has_table, is_narrow, width}
-use Rattle.wd_plan.specs.Outcomes.{call_at, class_at, distinct, filter_outcome, group_outcome, group_row, group_value, groups, map_outcome, ordering_at, outcome, rows_of_group, set_rows, shown, window_outcome}
+use Rattle.wd_plan.specs.Fits.{fits, has_table, is_narrow, is_step, kinds_of, width}
+use Rattle.wd_plan.specs.Outcomes.{call_at, class_at, group_outcome, group_row, group_value, groups, map_outcome, ordering_at, outcome, rows_of_group, set_rows, shown, step_outcome, window_outcome}
 use Rattle.wd_plan.specs.Partitions.{members, partition_of, place_in}
-use Rattle.wd_plan.specs.Plans.{ClassRule, GroupCall, OfRows, Grouping, GroupRule, PlanTree, Scan, Join, Filter, Map, Group, Window, WindowRule, Distinct, Limit, has, ordering_count}
+use Rattle.wd_plan.specs.Plans.{ClassRule, GroupCall, OfRows, Grouping, GroupRule, Step, PlanTree, Scan, Join, Over, Filter, Map, Group, Window, WindowRule, Distinct, Limit, has, ordering_count, own_orderings, step_classes}
 use Rattle.wd_plan.specs.declared.function.Aggregate.{Aggregate as AggregateFunction}
 use Rattle.wd_plan.specs.declared.function.Aggregate.TheVariants.{CountRows, Count, Sum, Min, Max}
 use Rattle.wd_plan.specs.declared.function.FrameFunction.TheVariants.{ValueAt, Aggregate}
@@ -40,7 +40,7 @@ use Rattle.wd_plan.specs.declared.function.Ranking.TheVariants.{RowNumber, Rank,
 use Rattle.wd_plan.specs.declared.window.Call.{Call}
 use Rattle.wd_plan.specs.declared.window.Frame.{Frame}
 use Rattle.wd_simpler.proofs.Conditions.{IsAmong, is_among}
-use Rattle.wd_simpler.proofs.Rows.{all_append, all_made, at_each, both_rows, from_each, is_extended, item_value, then_all, window_rows}
+use Rattle.wd_simpler.proofs.Rows.{all_append, all_made, at_each, both_rows, from_each, is_extended, item_value, step_all, window_rows}
 use Rattle.wd_simpler.specs.Keyed.{column_shown}
 use Rattle.wd_simpler.specs.Numbers.{from_on, numbers_of, numbers_of_aggregate, numbers_of_call, numbers_of_column, numbers_of_function, numbers_of_group_call, numbers_of_table, numbers_of_type, with_null}
 use Rattle.wd_simpler.specs.declared.numbers.Numbers.{Numbers}
@@ -265,6 +265,17 @@ module _ (numbers : ℕ → Option Numbers) (g : GroupRule) (rows : List Row) (a
   group_among : AllRows (IsAmong of_group) (group_outcome g rows)
   group_among = all_results (IsAmong of_group) (flat_map (set_rows g rows) g.sets) (sets_among g.sets)
 
+-- ---- steps
+
+step_among : (tables : List TableRule) (step : Step) (input : PlanTree) (own : List (List ℕ)) (rows : List Row) → HasWidth (width input) rows → AllByRecursion (IsAmong (numbers_of tables input)) rows → AreOrderings (step_classes step) rows own
+    → AllRows (IsAmong (numbers_of tables (Over step input))) (step_outcome step own rows)
+step_among tables (Filter condition) input own rows wide a lawful = all_filtered (IsAmong (numbers_of tables input)) condition rows a
+step_among tables (Map outputs) input own rows wide a lawful = map_among (numbers_of tables input) outputs rows a
+step_among tables (Group g) input own rows wide a lawful = group_among (numbers_of tables input) g rows a
+step_among tables (Window w) input own rows wide a lawful = window_among (numbers_of tables input) (width input) w rows own wide a
+step_among tables Distinct input own rows wide a lawful = all_distinct (IsAmong (numbers_of tables input)) rows a
+step_among tables (Limit limit) input own rows wide a lawful = all_limited (IsAmong (numbers_of tables input)) limit (ordering_at own 0) rows a (lawful.each 0 (omega arith))
+
 -- ---- plans
 
 module _ (tables : List TableRule) (instance : Instance) (meets : Meets tables instance) where
@@ -279,26 +290,7 @@ module _ (tables : List TableRule) (instance : Instance) (meets : Meets tables i
       (λ l r own other. beside_among (width left) (numbers_of tables left) (numbers_of tables right) l r own.0 own.1 other) condition (outcome left instance choice) (outcome right instance rest)
       (both_rows (λ (row : Row). length row ≡ width left) (IsAmong (numbers_of tables left)) (outcome left instance choice) (has_widths tables left instance choice sides.0 meets a.0) (all_among left choice sides.0 a.0))
       (all_among right rest sides.1 a.1)
-  all_among (Filter condition input) choice fit a =
-      let P = IsAmong (numbers_of tables input) in
-      let here = all_among input choice (and_parts _ _ fit).0 a in
-      then_all (AllByRecursion P) (AllByRecursion P) P (outcome input instance choice) (filter_outcome condition) (λ rows p q. all_filtered P condition rows p) here here
-  all_among (Map outputs input) choice fit a =
-      let P = IsAmong (numbers_of tables input) in
-      let here = all_among input choice (and_parts _ _ fit).0 a in
-      then_all (AllByRecursion P) (AllByRecursion P) (IsAmong (numbers_of tables (Map outputs input))) (outcome input instance choice) (map_outcome outputs) (λ rows p q. map_among (numbers_of tables input) outputs rows p) here here
-  all_among (Group g input) choice fit a =
-      let P = IsAmong (numbers_of tables input) in
-      let here = all_among input choice (and_parts _ _ fit).0 a in
-      then_all (AllByRecursion P) (AllByRecursion P) (IsAmong (numbers_of tables (Group g input))) (outcome input instance choice) (group_outcome g) (λ rows p q. group_among (numbers_of tables input) g rows p) here here
-  all_among (Window w input) choice fit a =
-      let own = (and_parts _ _ fit).0 in
-      let P = IsAmong (numbers_of tables input) in
-      let orderings = take (length w.classes) (drop (ordering_count input) choice) in
-      then_all (HasWidth (width input)) (AllByRecursion P) (IsAmong (numbers_of tables (Window w input))) (outcome input instance choice) (λ rows. window_outcome w rows orderings)
-      (λ rows wide p. window_among (numbers_of tables input) (width input) w rows orderings wide p) (has_widths tables input instance choice own meets a.0) (all_among input choice own a.0)
-  all_among (Distinct input) choice fit a =
-      let P = IsAmong (numbers_of tables input) in
-      let here = all_among input choice fit a in
-      then_all (AllByRecursion P) (AllByRecursion P) P (outcome input instance choice) (λ rows. Ok (distinct rows)) (λ rows p q. all_distinct P rows p) here here
-  all_among (Limit limit input) choice fit a = all_limited (IsAmong (numbers_of tables input)) limit (ordering_at choice (ordering_count input)) (outcome input instance choice) (all_among input choice (and_parts _ _ fit).0 a.0) a.1
+  all_among (Over step input) choice fit a =
+      let own = (and_parts (fits tables input) (is_step (kinds_of tables input) (width input) step) fit).0 in
+      step_all (HasWidth (width input)) (AllByRecursion (IsAmong (numbers_of tables input))) (IsAmong (numbers_of tables (Over step input))) step (own_orderings step input choice) (outcome input instance choice)
+      (step_among tables step input (own_orderings step input choice)) (has_widths tables input instance choice own meets a.0) (all_among input choice own a.0) a.1

@@ -1,5 +1,5 @@
 -- A plan of whose columns some are read beside the narrowed one: the same choices are lawful, and what is read is the same.
-use Rattle.std.proofs.Common.{◌≡◌, ℕ, ◌+◌, Bool, true, List, [], map, length, take, drop, refl, sym, ◌∙◌, ap, subst, Ok, Err}
+use Rattle.std.proofs.Common.{◌≡◌, ℕ, zero, suc, ◌+◌, ◌<◌, Bool, true, List, [], ◌∷◌, flat_map, map, length, take, drop, refl, sym, ◌∙◌, ap, subst, arith, Ok, Err}
 use Rattle.std.specs.List.{AllByRecursion}
 use Rattle.std.proofs.lemmas.Bool.{and_parts}
 use Rattle.wd_value.specs.declared.order.SortColumn.{SortColumn}
@@ -8,12 +8,12 @@ use Rattle.wd_value.specs.Rows.{Instance, Row, rows_at}
 use Rattle.wd_schema.specs.Meets.{Meets}
 use Rattle.wd_schema.specs.Tables.{TableRule}
 use Rattle.wd_laws.proofs.Widths.{has_widths}
-use Rattle.wd_plan.specs.Choices.{AreLawful, AreOrderings, AtRows}
+use Rattle.wd_plan.specs.Choices.{AreLawful, AreOrderings, AreOrderingsOver, AtRows}
 use Rattle.wd_plan.specs.Facts.{HasWidth}
 use Rattle.wd_plan.specs.Faults.{and_then}
 use Rattle.wd_plan.specs.Fits.{fits, width}
-use Rattle.wd_plan.specs.Outcomes.{RowsOrFault, cut, distinct, filter_outcome, group_outcome, join_outcome, map_outcome, ordering_at, outcome, pairs, window_outcome}
-use Rattle.wd_plan.specs.Plans.{PlanTree, Scan, Join, Filter, Map, Group, Window, Distinct, Limit, ordering_count}
+use Rattle.wd_plan.specs.Outcomes.{RowsOrFault, class_among, limited_rows, distinct, filter_outcome, group_outcome, join_outcome, map_outcome, ordering_at, outcome, pairs, step_outcome, window_outcome}
+use Rattle.wd_plan.specs.Plans.{ClassRule, WindowRule, Step, PlanTree, Scan, Join, Over, Filter, Map, Group, Window, Distinct, Limit, has, ordering_count, own_orderings, step_classes}
 use Rattle.wd_plan.specs.Sorting.{IsOrdering, limit_class}
 use Rattle.wd_simpler.proofs.Alike.{AreAlikeOn, AreSameOn, alike_every, always, at_alike, every_step, step_alike}
 use Rattle.wd_simpler.proofs.Empty.{AreNone, HasNone, no_rows}
@@ -26,11 +26,11 @@ use Rattle.wd_simpler.proofs.Known.{all_among}
 use Rattle.wd_simpler.proofs.Masks.{mask}
 use Rattle.wd_simpler.proofs.Results.{over}
 use Rattle.wd_simpler.proofs.Steps.{join_alike, limit_reads, map_alike, pairs_alike, read_keys}
-use Rattle.wd_simpler.proofs.Windows.{ordering_alike, orderings_alike, orderings_back, orderings_read}
+use Rattle.wd_simpler.proofs.Windows.{ordering_alike, orderings_alike}
 use Rattle.wd_simpler.proofs.Conditions.{IsAmong}
 use Rattle.wd_simpler.specs.Laws.{SimplerIsAlike}
 use Rattle.wd_step_facts.specs.Steps.{used}
-use Rattle.wd_simpler.specs.Simpler.{Read, after, and_also, condition_reads, every, is_empty, is_unmet, kept_reads, narrowed, read_condition, read_group, read_limit, read_outputs, read_window, takes_none, window_reads}
+use Rattle.wd_simpler.specs.Simpler.{Read, after, and_also, condition_reads, every, group_reads, is_empty, is_unmet, kept_reads, narrowed, read_condition, read_group, read_limit, read_outputs, read_window, takes_none, window_reads}
 use Rattle.wd_simpler.specs.Numbers.{numbers_of}
 
 -- the orderings stay
@@ -39,22 +39,14 @@ count_stays tables (Scan table columns) read = refl
 count_stays tables (Join condition left right) read =
     let more = and_also read (condition_reads condition) in
     λ i. count_stays tables left more i + count_stays tables right (after (width left) more) i
-count_stays tables (Filter condition input) read = count_stays tables input _
-count_stays tables (Map outputs input) read = count_stays tables input _
-count_stays tables (Group rule input) read = count_stays tables input _
-count_stays tables (Window w input) read = λ i. count_stays tables input (and_also read (window_reads (read_window (is_empty tables input) (after (width input) read) (keyed_window input w)))) i + classes_stay input w i
-count_stays tables (Distinct input) read = count_stays tables input _
-count_stays tables (Limit limit input) read = ap (λ n. n + 1) (count_stays tables input _)
+count_stays tables (Over (Window w) input) read = λ i. count_stays tables input (and_also read (window_reads (read_window (is_empty tables input) (after (width input) read) (keyed_window input w)))) i + classes_stay input w i
+count_stays tables (Over step input) read = ap (λ n. n + length (step_classes step)) (count_stays tables input _)
 
 -- a plan and another one under a choice
 record Narrows (plan other : PlanTree) (read : Read) (instance : Instance) (choice : List (List ℕ)) : Type 0 where
   lawful : AreLawful plan instance choice → AreLawful other instance choice
   back : AreLawful other instance choice → AreLawful plan instance choice
   alike : AreLawful plan instance choice → AreAlikeOn read (outcome plan instance choice) (outcome other instance choice)
-
--- the other way round
-back_alike : (read : Read) (a b : RowsOrFault) → AreAlikeOn read a b → AreAlikeOn read b a
-back_alike read a b e = sym e
 
 -- a fact of the rows, and that there are none where that is known
 both_known : (P : List Row → Type 0) (none : Bool) (r : RowsOrFault) → AtRows r P (Unit {0}) → (none ≡ true → HasNone r) → AtRows r (λ rows. P rows × (none ≡ true → AreNone rows)) (Unit {0})
@@ -70,6 +62,41 @@ at_known G P P' Q h (Err fault) g p = p
 same_then : (read : Read) (G : List Row → Type 0) (f g : List Row → RowsOrFault) → ((rows : List Row) → G rows → f rows ≡ g rows) → (r : RowsOrFault) → AtRows r G (Unit {0}) → AreAlikeOn read (and_then r f) (and_then r g)
 same_then read G f g h (Ok rows) known = ap (over (map (mask read))) (h rows known)
 same_then read G f g h (Err fault) known = refl
+
+-- over any input no classes have no orderings
+none_over : (r : RowsOrFault) → AreOrderingsOver [] r []
+none_over (Ok rows) = record { number = refl; each = λ n h. absurd (omega arith) }
+none_over (Err fault) = tt
+
+-- the ordering of one class
+one_class : (class other : ClassRule) (rows others : List Row) (own : List (List ℕ)) → (IsOrdering class rows (ordering_at own 0) → IsOrdering other others (ordering_at own 0)) → AreOrderings (class ∷ []) rows own → AreOrderings (other ∷ []) others own
+one_class class other rows others own h o = record { number = o.number; each = by }
+  where
+    by : (n : ℕ) → n < 1 → IsOrdering (class_among (other ∷ []) n) others (ordering_at own n)
+    by zero k = h (o.each 0 (omega arith))
+    by (suc n) k = absurd (omega arith)
+
+-- the class of a Limit with these keys
+abbrev by_keys : List SortColumn → ClassRule
+by_keys keys = record { partition = []; order = keys }
+
+-- a step and another one, over plans of which one narrows the other
+module _ (instance : Instance) (step other : Step) (input below : PlanTree) (more read : Read) (choice : List (List ℕ)) (narrowing : Narrows input below more instance choice) (count : ordering_count below ≡ ordering_count input) (long : length (step_classes other) ≡ length (step_classes step)) where
+  abbrev own : List (List ℕ)
+  own = own_orderings step input choice
+
+  own_is : own_orderings other below choice ≡ own
+  own_is = λ i. take (long i) (drop (count i) choice)
+
+  over_narrows : (AreLawful input instance choice → AreOrderingsOver (step_classes step) (outcome input instance choice) own → AreOrderingsOver (step_classes other) (outcome below instance choice) own)
+      → (AreLawful input instance choice → AreOrderingsOver (step_classes other) (outcome below instance choice) own → AreOrderingsOver (step_classes step) (outcome input instance choice) own)
+      → (AreLawful input instance choice → AreOrderingsOver (step_classes step) (outcome input instance choice) own → AreAlikeOn read (and_then (outcome input instance choice) (step_outcome step own)) (and_then (outcome below instance choice) (step_outcome other own)))
+      → Narrows (Over step input) (Over other below) read instance choice
+  over_narrows to from alike = record {
+    lawful = λ a. (narrowing.lawful a.0, subst (AreOrderingsOver (step_classes other) (outcome below instance choice)) (sym own_is) (to a.0 a.1));
+    back = λ a. let lawful = narrowing.back a.0 in (lawful, from lawful (subst (AreOrderingsOver (step_classes other) (outcome below instance choice)) own_is a.1));
+    alike = λ a. alike a.0 a.1 ∙ ap (λ os. over (map (mask read)) (and_then (outcome below instance choice) (step_outcome other os))) (sym own_is);
+  }
 
 module _ (tables : List TableRule) (instance : Instance) (meets : Meets tables instance) where
   -- a step that has no orderings
@@ -96,106 +123,81 @@ module _ (tables : List TableRule) (instance : Instance) (meets : Meets tables i
             (outcome left instance choice) (outcome (narrowed tables left more) instance choice) (has_widths tables left instance choice fit_sides.0 meets a.0) (l.alike a.0)
             ∙ ap (λ n. over (map (mask read)) (and_then (outcome (narrowed tables left more) instance choice) (λ ls. and_then (outcome other instance (drop n choice)) (λ rs. join_outcome condition (pairs ls rs))))) (sym count);
       }
-  narrows (Filter condition input) read choice fit =
+  narrows (Over (Filter condition) input) read choice fit =
       let unmet = is_unmet (numbers_of tables input) condition in
       let own = read_condition unmet condition in
       let more = and_also (kept_reads unmet read) (used own) in
+      let fits_below = (and_parts _ _ fit).0 in
+      let below = narrows input more choice fits_below in
+      over_narrows instance (Filter condition) (Filter own) input (narrowed tables input more) more read choice below (count_stays tables input more) refl (λ a o. none_over _) (λ a o. none_over _)
+      (λ a o. step_alike (AllByRecursion (IsAmong (numbers_of tables input))) more read (filter_outcome condition) (filter_outcome own)
+      (λ rows others from e. condition_alike read (numbers_of tables input) condition unmet refl rows others from e) (outcome input instance choice) (outcome (narrowed tables input more) instance choice)
+      (all_among tables instance meets input choice fits_below a) (below.alike a))
+  narrows (Over (Map outputs) input) read choice fit =
+      let own = read_outputs read outputs in
+      let more = has (flat_map used own) in
       let below = narrows input more choice (and_parts _ _ fit).0 in
-      record {
-        lawful = below.lawful;
-        back = below.back;
-        alike = λ a. step_alike (AllByRecursion (IsAmong (numbers_of tables input))) more read (filter_outcome condition) (filter_outcome own)
-            (λ rows others from e. condition_alike read (numbers_of tables input) condition unmet refl rows others from e) (outcome input instance choice) (outcome (narrowed tables input more) instance choice)
-            (all_among tables instance meets input choice (and_parts _ _ fit).0 a) (below.alike a);
-      }
-  narrows (Map outputs input) read choice fit =
-      let below = narrows input _ choice (and_parts _ _ fit).0 in
-      record {
-        lawful = below.lawful;
-        back = below.back;
-        alike = over_step input _ _ choice below read (map_outcome outputs) (map_outcome (read_outputs read outputs)) (map_alike read outputs);
-      }
-  narrows (Group rule input) read choice fit =
+      over_narrows instance (Map outputs) (Map own) input (narrowed tables input more) more read choice below (count_stays tables input more) refl (λ a o. none_over _) (λ a o. none_over _)
+      (λ a o. over_step input _ more choice below read (map_outcome outputs) (map_outcome own) (map_alike read outputs) a)
+  narrows (Over (Group rule) input) read choice fit =
       let own = read_group (after rule.columns read) rule in
-      let below = narrows input _ choice (and_parts _ _ fit).0 in
-      record {
-        lawful = below.lawful;
-        back = below.back;
-        alike = over_step input _ _ choice below read (group_outcome rule) (group_outcome own) (group_alike read rule);
-      }
-  narrows (Window w input) read choice fit =
+      let more = has (group_reads own) in
+      let below = narrows input more choice (and_parts _ _ fit).0 in
+      over_narrows instance (Group rule) (Group own) input (narrowed tables input more) more read choice below (count_stays tables input more) refl (λ a o. none_over _) (λ a o. none_over _)
+      (λ a o. over_step input _ more choice below read (group_outcome rule) (group_outcome own) (group_alike read rule) a)
+  narrows (Over (Window w) input) read choice fit =
       let columns = width input in
       let none = is_empty tables input in
       let keyed = keyed_window input w in
       let own = read_window none (after columns read) keyed in
       let more = and_also read (window_reads own) in
-      let below = narrows input more choice (and_parts _ _ fit).0 in
-      let other = narrowed tables input more in
-      let count : ordering_count other ≡ ordering_count input = count_stays tables input more in
-      let long : length keyed.classes ≡ length w.classes = classes_stay input w in
-      let orderings = λ (k n : ℕ). take k (drop n choice) in
-      let here = orderings (length w.classes) (ordering_count input) in
-      let Served = λ (k n : ℕ). AtRows (outcome other instance choice) (λ rows. AreOrderings own rows (orderings k n)) (AllByRecursion (λ o. o ≡ []) (orderings k n)) in
+      let fits_below = (and_parts _ _ fit).0 in
+      let below = narrows input more choice fits_below in
+      let given = outcome input instance choice in
+      let other = outcome (narrowed tables input more) instance choice in
+      let here = own_orderings (Window w) input choice in
       let none_served = AllByRecursion (λ (o : List ℕ). o ≡ []) here in
-      let gives = λ (a : AreLawful input instance choice). all_give tables instance meets input choice (and_parts _ _ fit).0 a in
-      record {
-        lawful = λ a. (
-          below.lawful a.0,
-          subst (λ k. Served k (ordering_count other)) (sym long) (subst (Served (length w.classes)) (sym count)
-              (at_alike (λ rows. AreOrderings keyed rows here) (λ rows. AreOrderings own rows here) none_served more (λ rows others e o. orderings_alike read own here rows others e (orderings_read none (after columns read) keyed rows here o)) (outcome input instance choice) (outcome other instance choice) (below.alike a.0)
-              (at_known (AllByRecursion (GivesBack input)) (λ rows. AreOrderings w rows here) (λ rows. AreOrderings keyed rows here) none_served (λ rows g o. orderings_keyed input w rows g here o) (outcome input instance choice) (gives a.0) a.1))),
-        );
-        back = λ a.
-            let lawful = below.back a.0 in (
-              lawful,
-              at_known (AllByRecursion (GivesBack input)) (λ rows. AreOrderings keyed rows here) (λ rows. AreOrderings w rows here) none_served (λ rows g o. orderings_unkeyed input w rows g here o) (outcome input instance choice) (gives lawful)
-                  (at_alike (λ rows. AreOrderings own rows here) (λ rows. AreOrderings keyed rows here) none_served more (λ rows others e o. orderings_back none (after columns read) keyed others here (orderings_alike read own here rows others e o)) (outcome other instance choice) (outcome input instance choice) (sym (below.alike lawful))
-                  (subst (Served (length w.classes)) count (subst (λ k. Served k (ordering_count other)) long a.1))),
-            );
-        alike = λ a.
-            same_then read (AllByRecursion (GivesBack input)) (λ rows. window_outcome w rows here) (λ rows. window_outcome keyed rows here) (λ rows g. window_keyed input w rows g here) (outcome input instance choice) (gives a.0)
-            ∙ step_alike (λ rows. HasWidth columns rows × (none ≡ true → AreNone rows)) more read (λ rows. window_outcome keyed rows here) (λ rows. window_outcome own rows here) (λ rows others known e. window_kept none read columns keyed here rows others known.0 known.1 e) (outcome input instance choice) (outcome other instance choice)
-            (both_known (HasWidth columns) none (outcome input instance choice) (has_widths tables input instance choice (and_parts _ _ fit).0 meets a.0) (no_rows tables instance meets input choice (and_parts _ _ fit).0 a.0)) (below.alike a.0)
-            ∙ (λ i. over (map (mask read)) (and_then (outcome other instance choice) (λ rows. window_outcome own rows (orderings (sym long i) (sym count i)))));
-      }
-  narrows (Distinct input) read choice fit =
-      let below = narrows input every choice fit in
-      record {
-        lawful = below.lawful;
-        back = below.back;
-        alike = λ a. every_step read (λ rows. Ok (distinct rows)) _ _ (below.alike a);
-      }
-  narrows (Limit limit input) read choice fit =
+      let Lawful = λ (v : WindowRule) (rows : List Row). AreOrderings v.classes rows here in
+      let gives = λ (a : AreLawful input instance choice). all_give tables instance meets input choice fits_below a in
+      over_narrows instance (Window w) (Window own) input (narrowed tables input more) more read choice below (count_stays tables input more) (classes_stay input w)
+      (λ a o. at_alike (Lawful keyed) (Lawful own) none_served more (λ rows others e o. orderings_alike read own here rows others e o) given other (below.alike a)
+      (at_known (AllByRecursion (GivesBack input)) (Lawful w) (Lawful keyed) none_served (λ rows g o. orderings_keyed input w rows g here o) given (gives a) o))
+      (λ a o. at_known (AllByRecursion (GivesBack input)) (Lawful keyed) (Lawful w) none_served (λ rows g o. orderings_unkeyed input w rows g here o) given (gives a)
+      (at_alike (Lawful own) (Lawful keyed) none_served more (λ rows others e o. orderings_alike read own here rows others e o) other given (sym (below.alike a)) o))
+      (λ a o. same_then read (AllByRecursion (GivesBack input)) (λ rows. window_outcome w rows here) (λ rows. window_outcome keyed rows here) (λ rows g. window_keyed input w rows g here) given (gives a)
+      ∙ step_alike (λ rows. HasWidth columns rows × (none ≡ true → AreNone rows)) more read (λ rows. window_outcome keyed rows here) (λ rows. window_outcome own rows here) (λ rows others known e. window_kept none read columns keyed here rows others known.0 known.1 e) given other
+      (both_known (HasWidth columns) none given (has_widths tables input instance choice fits_below meets a) (no_rows tables instance meets input choice fits_below a)) (below.alike a))
+  narrows (Over Distinct input) read choice fit =
+      let below = narrows input every choice (and_parts (fits tables input) true fit).0 in
+      over_narrows instance Distinct Distinct input (narrowed tables input every) every read choice below (count_stays tables input every) refl (λ a o. none_over _) (λ a o. none_over _)
+      (λ a o. every_step read (λ rows. Ok (distinct rows)) _ _ (below.alike a))
+  narrows (Over (Limit limit) input) read choice fit =
       let none = is_empty tables input in
       let keyed = keyed_limit input limit in
       let own = read_limit none keyed in
       let kept = kept_reads (takes_none limit.count) read in
       let more = and_also kept (key_columns keyed.keys) in
-      let below = narrows input more choice (and_parts _ _ fit).0 in
-      let other = narrowed tables input more in
-      let count : ordering_count other ≡ ordering_count input = count_stays tables input more in
-      let here = ordering_at choice (ordering_count input) in
-      let Lawful = λ (keys : List SortColumn) (rows : List Row) (ordering : List ℕ). IsOrdering (record { partition = []; order = keys }) rows ordering in
-      let Served = λ (keys : List SortColumn) (n : ℕ). AtRows (outcome other instance choice) (λ rows. Lawful keys rows (ordering_at choice n)) (ordering_at choice n ≡ []) in
+      let fits_below = (and_parts _ _ fit).0 in
+      let below = narrows input more choice fits_below in
+      let given = outcome input instance choice in
+      let other = outcome (narrowed tables input more) instance choice in
+      let orderings = own_orderings (Limit limit) input choice in
+      let here = ordering_at orderings 0 in
+      let none_served = AllByRecursion (λ (o : List ℕ). o ≡ []) orderings in
+      let Lawful = λ (keys : List SortColumn) (rows : List Row). AreOrderings (by_keys keys ∷ []) rows orderings in
       let keys : own.keys ≡ keyed.keys = read_keys none keyed in
-      let lawful_too : (rows others : List Row) → AreSameOn more rows others → Lawful keyed.keys rows here → Lawful keyed.keys others here =
-      λ rows others e o. ordering_alike more (limit_class keyed) tt (limit_reads kept keyed) rows others e here o in
-      let gives = λ (a : AreLawful input instance choice). all_give tables instance meets input choice (and_parts _ _ fit).0 a in
-      let to_keyed = λ (a : AreLawful (Limit limit input) instance choice). at_known (AllByRecursion (GivesBack input)) (λ rows. Lawful limit.keys rows here) (λ rows. Lawful keyed.keys rows here) (here ≡ []) (λ rows g o. ordering_keyed input rows g [] limit.keys here o) (outcome input instance choice) (gives a.0) a.1 in
-      record {
-        lawful = λ a. (below.lawful a.0, subst (λ k. Served k (ordering_count other)) (sym keys) (subst (Served keyed.keys) (sym count) (at_alike (λ rows. Lawful keyed.keys rows here) (λ rows. Lawful keyed.keys rows here) (here ≡ []) more lawful_too (outcome input instance choice) (outcome other instance choice) (below.alike a.0) (to_keyed a))));
-        back = λ a.
-            let lawful = below.back a.0 in (
-              lawful,
-              at_known (AllByRecursion (GivesBack input)) (λ rows. Lawful keyed.keys rows here) (λ rows. Lawful limit.keys rows here) (here ≡ []) (λ rows g o. ordering_unkeyed input rows g [] limit.keys here o) (outcome input instance choice) (gives lawful)
-                  (at_alike (λ rows. Lawful keyed.keys rows here) (λ rows. Lawful keyed.keys rows here) (here ≡ []) more lawful_too (outcome other instance choice) (outcome input instance choice) (sym (below.alike lawful)) (subst (Served keyed.keys) count (subst (λ k. Served k (ordering_count other)) keys a.1))),
-            );
-        alike = λ a.
-            same_then read (AllByRecursion (GivesBack input)) (λ rows. Ok (cut limit (rows_at rows here))) (λ rows. Ok (cut keyed (rows_at rows here))) (λ rows g. ap (λ x. Ok x) (cut_keyed input rows g limit here)) (outcome input instance choice) (gives a.0)
-            ∙ step_alike (λ rows. none ≡ true → AreNoneIn here rows) more read (λ rows. Ok (cut keyed (rows_at rows here))) (λ rows. Ok (cut own (rows_at rows here))) (λ rows others known e. limit_kept none (takes_none limit.count) read keyed refl here rows others known e) (outcome input instance choice) (outcome other instance choice)
-            (none_in (limit_class keyed) here none (outcome input instance choice) (no_rows tables instance meets input choice (and_parts _ _ fit).0 a.0) (to_keyed a)) (below.alike a.0)
-            ∙ ap (λ n. over (map (mask read)) (and_then (outcome other instance choice) (λ rows. Ok (cut own (rows_at rows (ordering_at choice n)))))) (sym count);
-      }
+      let lawful_too : (rows others : List Row) → AreSameOn more rows others → Lawful keyed.keys rows → Lawful keyed.keys others =
+      λ rows others e. one_class (by_keys keyed.keys) (by_keys keyed.keys) rows others orderings (ordering_alike more (limit_class keyed) tt (limit_reads kept keyed) rows others e here) in
+      let gives = λ (a : AreLawful input instance choice). all_give tables instance meets input choice fits_below a in
+      let to_keyed : AreLawful input instance choice → AreOrderingsOver (by_keys limit.keys ∷ []) given orderings → AreOrderingsOver (by_keys keyed.keys ∷ []) given orderings =
+      λ a o. at_known (AllByRecursion (GivesBack input)) (Lawful limit.keys) (Lawful keyed.keys) none_served (λ rows g. one_class (by_keys limit.keys) (by_keys keyed.keys) rows rows orderings (ordering_keyed input rows g [] limit.keys here)) given (gives a) o in
+      over_narrows instance (Limit limit) (Limit own) input (narrowed tables input more) more read choice below (count_stays tables input more) refl
+      (λ a o. subst (λ ks. AreOrderingsOver (by_keys ks ∷ []) other orderings) (sym keys) (at_alike (Lawful keyed.keys) (Lawful keyed.keys) none_served more lawful_too given other (below.alike a) (to_keyed a o)))
+      (λ a o. at_known (AllByRecursion (GivesBack input)) (Lawful keyed.keys) (Lawful limit.keys) none_served (λ rows g. one_class (by_keys keyed.keys) (by_keys limit.keys) rows rows orderings (ordering_unkeyed input rows g [] limit.keys here)) given (gives a)
+      (at_alike (Lawful keyed.keys) (Lawful keyed.keys) none_served more lawful_too other given (sym (below.alike a)) (subst (λ ks. AreOrderingsOver (by_keys ks ∷ []) other orderings) keys o)))
+      (λ a o. same_then read (AllByRecursion (GivesBack input)) (λ rows. Ok (limited_rows limit (rows_at rows here))) (λ rows. Ok (limited_rows keyed (rows_at rows here))) (λ rows g. ap (λ x. Ok x) (cut_keyed input rows g limit here)) given (gives a)
+      ∙ step_alike (λ rows. none ≡ true → AreNoneIn here rows) more read (λ rows. Ok (limited_rows keyed (rows_at rows here))) (λ rows. Ok (limited_rows own (rows_at rows here))) (λ rows others known e. limit_kept none (takes_none limit.count) read keyed refl here rows others known e) given other
+      (none_in (limit_class keyed) orderings none given (no_rows tables instance meets input choice fits_below a) (to_keyed a o)) (below.alike a))
 
 pub simpler_is_alike : SimplerIsAlike
 simpler_is_alike tables plan instance fit meets =

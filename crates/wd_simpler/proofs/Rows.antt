@@ -1,23 +1,19 @@
 -- Facts of each row of an outcome.
-use Rattle.std.proofs.Common.{◌≡◌, ℕ, zero, suc, ◌<◌, Bool, true, false, cond, List, [], ◌∷◌, ◌++◌, map, length, take_while, drop, refl, sym, ◌∙◌, ap, subst, arith, Option, Some, None, slice_get, get_or, Result, Ok, Err, zero-add}
+use Rattle.std.proofs.Common.{◌≡◌, ℕ, zero, suc, ◌<◌, List, [], ◌∷◌, ◌++◌, map, length, refl, sym, ◌∙◌, ap, arith, Some, slice_get, get_or, Result, Ok, Err, zero-add}
 use Rattle.std.specs.List.{AllByRecursion}
 use Rattle.std.proofs.lemmas.List.FromFn.{get_or-range_with_len, length-range_with_len}
 use Rattle.std.proofs.lemmas.Option.{get_or_from_slice_get, slice_get_within}
 use Rattle.wd_value.specs.Bags.{positions}
-use Rattle.wd_value.specs.declared.order.SortColumn.{SortColumn}
 use Rattle.wd_value.specs.declared.value.Fault.{Fault}
 use Rattle.wd_value.specs.declared.value.Value.{Value}
 use Rattle.wd_value.specs.declared.value.Value.TheVariants.{Null}
-use Rattle.wd_value.specs.Rows.{Row, column_of, row_at, rows_at}
+use Rattle.wd_value.specs.Rows.{Row, column_of, row_at}
 use Rattle.wd_laws.proofs.AllValues.{AllOk, all_ok_each}
-use Rattle.wd_laws.proofs.ValueKinds.{Each}
 use Rattle.wd_laws.proofs.Widths.{AllRows}
-use Rattle.wd_plan.specs.Choices.{AtRows}
-use Rattle.wd_plan.specs.Expressions.{Expression}
-use Rattle.wd_plan.specs.Faults.{all_ok, and_then, least_fault, unless, values_among}
-use Rattle.wd_plan.specs.Outcomes.{RowsOrFault, cut, extended, first_rows, join_outcome, pairs, peers, window_outcome}
-use Rattle.wd_plan.specs.Plans.{LimitRule, WindowRule}
-use Rattle.wd_plan.specs.Sorting.{IsOrdering, limit_class}
+use Rattle.wd_plan.specs.Choices.{AreOrderings, AreOrderingsOver, AtRows}
+use Rattle.wd_plan.specs.Faults.{all_ok, and_then}
+use Rattle.wd_plan.specs.Outcomes.{RowsOrFault, extended, step_outcome, window_outcome}
+use Rattle.wd_plan.specs.Plans.{Step, WindowRule, step_classes}
 
 pub of_any : (P : Row → Type 0) → ((row : Row) → P row) → (rows : List Row) → AllByRecursion P rows
 of_any P h [] = tt
@@ -30,6 +26,11 @@ at_any P h (Err fault) = tt
 pub then_all : (P Q : List Row → Type 0) (R : Row → Type 0) (r : RowsOrFault) (f : List Row → RowsOrFault) → ((rows : List Row) → P rows → Q rows → AllRows R (f rows)) → AtRows r P (Unit {0}) → AtRows r Q (Unit {0}) → AllRows R (and_then r f)
 then_all P Q R (Ok rows) f h p q = h rows p q
 then_all P Q R (Err fault) f h p q = tt
+
+pub step_all : (P Q : List Row → Type 0) (R : Row → Type 0) (step : Step) (own : List (List ℕ)) (r : RowsOrFault) → ((rows : List Row) → P rows → Q rows → AreOrderings (step_classes step) rows own → AllRows R (step_outcome step own rows))
+    → AtRows r P (Unit {0}) → AtRows r Q (Unit {0}) → AreOrderingsOver (step_classes step) r own → AllRows R (and_then r (step_outcome step own))
+step_all P Q R step own (Ok rows) h p q lawful = h rows p q lawful
+step_all P Q R step own (Err fault) h p q lawful = tt
 
 pub at_each : (P : Row → Type 0) (rows : List Row) (p : ℕ) → AllByRecursion P rows → p < length rows → P (row_at rows p)
 at_each P [] p a h = absurd (omega arith)

@@ -4,7 +4,7 @@ use Rattle.wd_value.specs.Keys.{key_columns}
 use Rattle.wd_schema.specs.Tables.{TableRule}
 use Rattle.wd_plan.specs.Expressions.{Expression}
 use Rattle.wd_plan.specs.Fits.{width}
-use Rattle.wd_plan.specs.Plans.{GroupCall, GroupRule, LimitRule, PlanTree, Scan, Join, Filter, Map, Group, Window, WindowRule, Distinct, Limit, has}
+use Rattle.wd_plan.specs.Plans.{GroupCall, GroupRule, LimitRule, PlanTree, Scan, Join, Over, Filter, Map, Group, Window, WindowRule, Distinct, Limit, has}
 use Rattle.wd_plan.specs.declared.window.Call.{Call}
 use Rattle.wd_step_facts.specs.Steps.{used}
 use Rattle.wd_simpler.proofs.SortKeys.{calls_stay}
@@ -40,28 +40,28 @@ narrow_same tables (Join condition left right) read other h =
     λ i. Join condition
     (narrow_same tables left (and_also read columns) (and_also other columns) (λ c k. both c (omega arith)) i)
     (narrow_same tables right (after (width left) (and_also read columns)) (after (width left) (and_also other columns)) (λ c k. both (width left + c) (omega arith)) i)
-narrow_same tables (Filter condition input) read other h =
+narrow_same tables (Over (Filter condition) input) read other h =
     let unmet = is_unmet (numbers_of tables input) condition in
     let own = read_condition unmet condition in
     let kept = λ (c : ℕ) (k : c < width input). kept_same unmet read other c (h c k) in
-    ap (Filter own) (narrow_same tables input (and_also (kept_reads unmet read) (used own)) (and_also (kept_reads unmet other) (used own)) (and_same (kept_reads unmet read) (kept_reads unmet other) (width input) (used own) kept))
-narrow_same tables (Map outputs input) read other h = ap (λ own. Map own (narrowed tables input (has (flat_map used own)))) (outputs_same read other outputs h)
-narrow_same tables (Group rule input) read other h =
+    ap (Over (Filter own)) (narrow_same tables input (and_also (kept_reads unmet read) (used own)) (and_also (kept_reads unmet other) (used own)) (and_same (kept_reads unmet read) (kept_reads unmet other) (width input) (used own) kept))
+narrow_same tables (Over (Map outputs) input) read other h = ap (λ own. Over (Map own) (narrowed tables input (has (flat_map used own)))) (outputs_same read other outputs h)
+narrow_same tables (Over (Group rule) input) read other h =
     let calls = group_calls_same (after rule.columns read) (after rule.columns other) rule.calls (λ c k. h (rule.columns + c) (omega arith)) in
-    λ i. let own : GroupRule = record { columns = rule.columns; sets = rule.sets; calls = calls i } in Group own (narrowed tables input (has (group_reads own)))
-narrow_same tables (Window w input) read other h =
+    λ i. let own : GroupRule = record { columns = rule.columns; sets = rule.sets; calls = calls i } in Over (Group own) (narrowed tables input (has (group_reads own)))
+narrow_same tables (Over (Window w) input) read other h =
     let keyed = keyed_window input w in
     let own = read_window (is_empty tables input) (after (width input) other) keyed in
     let long = ap length (calls_stay input w) in
     let calls = calls_same (after (width input) read) (after (width input) other) keyed.calls (λ c k. h (width input + c) (omega (arith, k, long))) in
-    (λ i. let own : WindowRule = record { classes = keyed.classes; calls = cond (is_empty tables input) (map count_of keyed.calls) (calls i) } in Window own (narrowed tables input (and_also read (window_reads own))))
-    ∙ ap (Window own) (narrow_same tables input (and_also read (window_reads own)) (and_also other (window_reads own)) (and_same read other (width input) (window_reads own) (λ c k. h c (omega arith))))
-narrow_same tables (Distinct input) read other h = refl
-narrow_same tables (Limit limit input) read other h =
+    (λ i. let own : WindowRule = record { classes = keyed.classes; calls = cond (is_empty tables input) (map count_of keyed.calls) (calls i) } in Over (Window own) (narrowed tables input (and_also read (window_reads own))))
+    ∙ ap (Over (Window own)) (narrow_same tables input (and_also read (window_reads own)) (and_also other (window_reads own)) (and_same read other (width input) (window_reads own) (λ c k. h c (omega arith))))
+narrow_same tables (Over Distinct input) read other h = refl
+narrow_same tables (Over (Limit limit) input) read other h =
     let none = takes_none limit.count in
     let kept = λ (c : ℕ) (k : c < width input). kept_same none read other c (h c k) in
     let own = keyed_limit input limit in
-    ap (Limit (read_limit (is_empty tables input) own)) (narrow_same tables input (and_also (kept_reads none read) (key_columns own.keys)) (and_also (kept_reads none other) (key_columns own.keys)) (and_same (kept_reads none read) (kept_reads none other) (width input) (key_columns own.keys) kept))
+    ap (Over (Limit (read_limit (is_empty tables input) own))) (narrow_same tables input (and_also (kept_reads none read) (key_columns own.keys)) (and_also (kept_reads none other) (key_columns own.keys)) (and_same (kept_reads none read) (kept_reads none other) (width input) (key_columns own.keys) kept))
 
 -- ---- one output, and one call more
 
@@ -84,21 +84,21 @@ narrow_alike tables plan read other h = λ i. narrowed tables plan (λ c. h c i)
 -- ---- the parts of a narrowed step
 
 pub filter_made : (tables : List TableRule) (input below : PlanTree) (condition own : Expression) (unmet : Bool) (read more : Read) → unmet ≡ is_unmet (numbers_of tables input) condition → own ≡ read_condition unmet condition
-    → ((c : ℕ) → more c ≡ and_also (kept_reads unmet read) (used own) c) → below ≡ narrowed tables input more → Filter own below ≡ narrowed tables (Filter condition input) read
+    → ((c : ℕ) → more c ≡ and_also (kept_reads unmet read) (used own) c) → below ≡ narrowed tables input more → Over (Filter own) below ≡ narrowed tables (Over (Filter condition) input) read
 filter_made tables input below condition own unmet read more e f g h =
-    ap (Filter own) (h ∙ narrow_alike tables input more (and_also (kept_reads unmet read) (used own)) g)
-    ∙ ap (λ o. Filter o (narrowed tables input (and_also (kept_reads unmet read) (used o)))) f
-    ∙ ap (λ u. Filter (read_condition u condition) (narrowed tables input (and_also (kept_reads u read) (used (read_condition u condition))))) e
+    ap (Over (Filter own)) (h ∙ narrow_alike tables input more (and_also (kept_reads unmet read) (used own)) g)
+    ∙ ap (λ o. Over (Filter o) (narrowed tables input (and_also (kept_reads unmet read) (used o)))) f
+    ∙ ap (λ u. Over (Filter (read_condition u condition)) (narrowed tables input (and_also (kept_reads u read) (used (read_condition u condition))))) e
 
 pub window_made : (tables : List TableRule) (input below : PlanTree) (w keyed own : WindowRule) (none : Bool) (columns : ℕ) (read more : Read) → none ≡ is_empty tables input → keyed ≡ keyed_window input w → columns ≡ width input → own ≡ read_window none (after columns read) keyed
-    → ((c : ℕ) → more c ≡ and_also read (window_reads own) c) → below ≡ narrowed tables input more → Window own below ≡ narrowed tables (Window w input) read
+    → ((c : ℕ) → more c ≡ and_also read (window_reads own) c) → below ≡ narrowed tables input more → Over (Window own) below ≡ narrowed tables (Over (Window w) input) read
 window_made tables input below w keyed own none columns read more e k f is g h =
-    ap (Window own) (h ∙ narrow_alike tables input more (and_also read (window_reads own)) g)
-    ∙ ap (λ o. Window o (narrowed tables input (and_also read (window_reads o)))) (is ∙ (λ i. read_window (e i) (after (f i) read) (k i)))
+    ap (Over (Window own)) (h ∙ narrow_alike tables input more (and_also read (window_reads own)) g)
+    ∙ ap (λ o. Over (Window o) (narrowed tables input (and_also read (window_reads o)))) (is ∙ (λ i. read_window (e i) (after (f i) read) (k i)))
 
 pub limit_made : (tables : List TableRule) (input below : PlanTree) (limit keyed own : LimitRule) (none takes : Bool) (read more : Read) → none ≡ is_empty tables input → keyed ≡ keyed_limit input limit → takes ≡ takes_none keyed.count → own ≡ read_limit none keyed
-    → ((c : ℕ) → more c ≡ and_also (kept_reads takes read) (key_columns keyed.keys) c) → below ≡ narrowed tables input more → Limit own below ≡ narrowed tables (Limit limit input) read
+    → ((c : ℕ) → more c ≡ and_also (kept_reads takes read) (key_columns keyed.keys) c) → below ≡ narrowed tables input more → Over (Limit own) below ≡ narrowed tables (Over (Limit limit) input) read
 limit_made tables input below limit keyed own none takes read more e k f is g h =
-    ap (Limit own) (h ∙ narrow_alike tables input more (and_also (kept_reads takes read) (key_columns keyed.keys)) g)
-    ∙ (λ i. Limit (is i) (narrowed tables input (and_also (kept_reads (f i) read) (key_columns keyed.keys))))
-    ∙ (λ i. Limit (read_limit (e i) (k i)) (narrowed tables input (and_also (kept_reads (takes_none (k i).count) read) (key_columns (k i).keys))))
+    ap (Over (Limit own)) (h ∙ narrow_alike tables input more (and_also (kept_reads takes read) (key_columns keyed.keys)) g)
+    ∙ (λ i. Over (Limit (is i)) (narrowed tables input (and_also (kept_reads (f i) read) (key_columns keyed.keys))))
+    ∙ (λ i. Over (Limit (read_limit (e i) (k i))) (narrowed tables input (and_also (kept_reads (takes_none (k i).count) read) (key_columns (k i).keys))))

@@ -34,7 +34,7 @@ use Rattle.wd_plan.specs.declared.window.FrameMode.TheVariants as mode
 use Rattle.wd_plan.specs.Faults.{all_ok, and_then}
 use Rattle.wd_plan.specs.Fits.{has_offset}
 use Rattle.wd_plan.specs.Frames.{Distances, bound_asks, ends_at, frame_of, in_frame, is_kept, key_distance, range_asks, starts_at}
-use Rattle.wd_plan.specs.Outcomes.{call_at, class_at, cut, extended, first_rows, ordering_at, peers, window_outcome}
+use Rattle.wd_plan.specs.Outcomes.{call_at, class_at, limited_rows, extended, first_rows, ordering_at, peers, window_outcome}
 use Rattle.wd_plan.specs.Partitions.{different, group_of, members, partition_of, place_in}
 use Rattle.wd_plan.specs.Plans.{ClassRule, LimitRule, PlanTree, WindowRule}
 use Rattle.wd_plan.specs.Sorting.{IsInOrder, IsOrdering, same_partition}
@@ -270,7 +270,7 @@ module _ (input : PlanTree) (rows : List Row) (gives : AllByRecursion (GivesBack
   value_keyed : (class : ClassRule) (frame : Frame) → goes_by_distance frame ≡ false → (function : Function) (ordering : List ℕ) (r : ℕ) → value_at (keyed_class input class) frame function rows ordering r ≡ value_at class frame function rows ordering r
   value_keyed class frame steady function ordering r = value_more (GivesBack input) class.order (added_keys input class.order) (given_keys input class.order) class.partition (empty_gives input) frame steady function rows ordering gives r
 
-  pub cut_keyed : (limit : LimitRule) (ordering : List ℕ) → cut limit (rows_at rows ordering) ≡ cut (keyed_limit input limit) (rows_at rows ordering)
+  pub cut_keyed : (limit : LimitRule) (ordering : List ℕ) → limited_rows limit (rows_at rows ordering) ≡ limited_rows (keyed_limit input limit) (rows_at rows ordering)
   cut_keyed limit ordering = by limit.count
     where
       all : AllByRecursion (GivesBack input) (rows_at rows ordering)
@@ -280,7 +280,7 @@ module _ (input : PlanTree) (rows : List Row) (gives : AllByRecursion (GivesBack
           held [] = tt
           held (p ∷ ps) = (at_any_place (GivesBack input) rows p [] gives (empty_gives input), held ps)
 
-      by : (count : Option ℕ) → cut (record limit { count = count }) (rows_at rows ordering) ≡ cut (keyed_limit input (record limit { count = count })) (rows_at rows ordering)
+      by : (count : Option ℕ) → limited_rows (record limit { count = count }) (rows_at rows ordering) ≡ limited_rows (keyed_limit input (record limit { count = count })) (rows_at rows ordering)
       by None = refl
       by (Some n) = sym (first_more (GivesBack input) limit.keys (added_keys input limit.keys) (given_keys input limit.keys) limit.ties n (drop limit.offset (rows_at rows ordering)) (all_dropped (GivesBack input) limit.offset (rows_at rows ordering) all))
 
@@ -336,20 +336,20 @@ module _ (input : PlanTree) (w : WindowRule) (rows : List Row) (gives : AllByRec
       by true h = refl
       by false h = λ i. all_ok (map (λ r. row_keyed h r i) (positions (length rows)))
 
-  pub orderings_keyed : AreOrderings w rows orderings → AreOrderings (keyed_window input w) rows orderings
+  pub orderings_keyed : AreOrderings w.classes rows orderings → AreOrderings (keyed_window input w).classes rows orderings
   orderings_keyed o = by (goes w)
     where
-      by : (b : Bool) → AreOrderings (keyed_if b input w) rows orderings
+      by : (b : Bool) → AreOrderings (keyed_if b input w).classes rows orderings
       by true = o
       by false = record {
         number = o.number ∙ sym (length-map w.classes (keyed_class input));
         each = λ n h. subst (λ class. IsOrdering class rows (ordering_at orderings n)) (sym (class_keyed input w.classes n)) (ordering_keyed input rows gives (class_at w n).partition (class_at w n).order (ordering_at orderings n) (o.each n (subst (λ k. n < k) (length-map w.classes (keyed_class input)) h)));
       }
 
-  pub orderings_unkeyed : AreOrderings (keyed_window input w) rows orderings → AreOrderings w rows orderings
+  pub orderings_unkeyed : AreOrderings (keyed_window input w).classes rows orderings → AreOrderings w.classes rows orderings
   orderings_unkeyed = by (goes w)
     where
-      by : (b : Bool) → AreOrderings (keyed_if b input w) rows orderings → AreOrderings w rows orderings
+      by : (b : Bool) → AreOrderings (keyed_if b input w).classes rows orderings → AreOrderings w.classes rows orderings
       by true o = o
       by false o = record {
         number = o.number ∙ length-map w.classes (keyed_class input);

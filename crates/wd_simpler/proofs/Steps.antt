@@ -13,7 +13,7 @@ use Rattle.wd_facts.proofs.Outputs.{value_same}
 use Rattle.wd_plan.specs.Expressions.{Expression, Column, Literal, Negate, Arithmetic, Compare, Not, And, Or, IsNull, IsNotNull, Case, value_of}
 use Rattle.wd_plan.specs.Facts.{HasWidth}
 use Rattle.wd_plan.specs.Faults.{all_ok, least_fault, unless}
-use Rattle.wd_plan.specs.Outcomes.{RowsOrFault, cut, filter_outcome, first_rows, join_outcome, map_outcome, pairs, passes, peers}
+use Rattle.wd_plan.specs.Outcomes.{RowsOrFault, limited_rows, filter_outcome, first_rows, join_outcome, map_outcome, pairs, passes, peers}
 use Rattle.wd_plan.specs.Plans.{LimitRule, has}
 use Rattle.wd_step_facts.specs.Steps.{used}
 use Rattle.wd_simpler.proofs.Alike.{AreAlikeOn, AreSameOn, all_weaken, also_read, has_also, has_each, has_own}
@@ -171,10 +171,10 @@ module _ (read : Read) (keys : List SortColumn) (is_read : AreRead read (key_col
   first_read ties (suc zero) (r ∷ rows) = ap (λ l. mask read r ∷ l) (tied_read ties r rows)
   first_read ties (suc (suc n)) (r ∷ rows) = ap (λ l. mask read r ∷ l) (first_read ties (suc n) rows)
 
-cut_read : (read : Read) (limit : LimitRule) → AreRead read (key_columns limit.keys) → (rows : List Row) → cut limit (map (mask read) rows) ≡ map (mask read) (cut limit rows)
+cut_read : (read : Read) (limit : LimitRule) → AreRead read (key_columns limit.keys) → (rows : List Row) → limited_rows limit (map (mask read) rows) ≡ map (mask read) (limited_rows limit rows)
 cut_read read limit h rows = by limit.count
   where
-    by : (count : Option ℕ) → cut (record limit { count = count }) (map (mask read) rows) ≡ map (mask read) (cut (record limit { count = count }) rows)
+    by : (count : Option ℕ) → limited_rows (record limit { count = count }) (map (mask read) rows) ≡ map (mask read) (limited_rows (record limit { count = count }) rows)
     by None = drop-map (mask read) limit.offset rows
     by (Some n) = ap (first_rows limit.keys limit.ties n) (drop-map (mask read) limit.offset rows) ∙ first_read read limit.keys h limit.ties n (drop limit.offset rows)
 
@@ -182,10 +182,10 @@ pub limit_reads : (read : Read) (limit : LimitRule) → AreRead (and_also read (
 limit_reads read limit = all_weaken (λ c. has (key_columns limit.keys) c ≡ true) (λ c. and_also read (key_columns limit.keys) c ≡ true) (has_also read (key_columns limit.keys)) (key_columns limit.keys) (has_own (key_columns limit.keys))
 
 -- the same rows are kept of any rows
-pub plain_cut : (limit : LimitRule) (rows : List Row) → cut limit rows ≡ cut (plain_limit limit) rows
+pub plain_cut : (limit : LimitRule) (rows : List Row) → limited_rows limit rows ≡ limited_rows (plain_limit limit) rows
 plain_cut limit rows = by limit.count refl
   where
-    by : (count : Option ℕ) → limit.count ≡ count → cut limit rows ≡ cut (plain_limit limit) rows
+    by : (count : Option ℕ) → limit.count ≡ count → limited_rows limit rows ≡ limited_rows (plain_limit limit) rows
     by None e = rw e refl
     by (Some zero) e = rw e refl
     by (Some (suc n)) e = rw e refl
@@ -202,14 +202,14 @@ pub read_keys : (none : Bool) (limit : LimitRule) → (read_limit none limit).ke
 read_keys true limit = refl
 read_keys false limit = plain_keys limit
 
-cut_alike : (read : Read) (limit : LimitRule) (ordering : List ℕ) (rows others : List Row) → AreSameOn (and_also read (key_columns limit.keys)) rows others → AreAlikeOn read (Ok (cut limit (rows_at rows ordering))) (Ok (cut limit (rows_at others ordering)))
+cut_alike : (read : Read) (limit : LimitRule) (ordering : List ℕ) (rows others : List Row) → AreSameOn (and_also read (key_columns limit.keys)) rows others → AreAlikeOn read (Ok (limited_rows limit (rows_at rows ordering))) (Ok (limited_rows limit (rows_at others ordering)))
 cut_alike read limit ordering =
     let more = and_also read (key_columns limit.keys) in
-    read_step read more (also_read read (key_columns limit.keys)) (λ rows. Ok (cut limit (rows_at rows ordering)))
+    read_step read more (also_read read (key_columns limit.keys)) (λ rows. Ok (limited_rows limit (rows_at rows ordering)))
     (λ rows. ap (λ x. Ok x) (
-    ap (λ x. map (mask read) (cut limit x)) (rows_read more rows ordering)
+    ap (λ x. map (mask read) (limited_rows limit x)) (rows_read more rows ordering)
     ∙ ap (map (mask read)) (cut_read more limit (limit_reads read limit) (rows_at rows ordering))
-    ∙ masked_more read more (also_read read (key_columns limit.keys)) (cut limit (rows_at rows ordering))))
+    ∙ masked_more read more (also_read read (key_columns limit.keys)) (limited_rows limit (rows_at rows ordering))))
 
-pub limit_alike : (read : Read) (limit : LimitRule) (ordering : List ℕ) (rows others : List Row) → AreSameOn (and_also read (key_columns limit.keys)) rows others → AreAlikeOn read (Ok (cut limit (rows_at rows ordering))) (Ok (cut (plain_limit limit) (rows_at others ordering)))
+pub limit_alike : (read : Read) (limit : LimitRule) (ordering : List ℕ) (rows others : List Row) → AreSameOn (and_also read (key_columns limit.keys)) rows others → AreAlikeOn read (Ok (limited_rows limit (rows_at rows ordering))) (Ok (limited_rows (plain_limit limit) (rows_at others ordering)))
 limit_alike read limit ordering rows others e = cut_alike read limit ordering rows others e ∙ ap (λ x. Ok (map (mask read) x)) (plain_cut limit (rows_at others ordering))

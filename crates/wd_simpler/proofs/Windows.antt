@@ -191,15 +191,8 @@ window_alike read n w orderings rows others wide e =
     ∙ window_read read own orderings others
 
 -- lawful orderings of a Window's classes
-pub orderings_alike : (read : Read) (w : WindowRule) (orderings : List (List ℕ)) (rows others : List Row) → AreSameOn (and_also read (window_reads w)) rows others → AreOrderings w rows orderings → AreOrderings w others orderings
+pub orderings_alike : (read : Read) (w : WindowRule) (orderings : List (List ℕ)) (rows others : List Row) → AreSameOn (and_also read (window_reads w)) rows others → AreOrderings w.classes rows orderings → AreOrderings w.classes others orderings
 orderings_alike read w orderings rows others e o = record {
   number = o.number;
   each = λ n h. ordering_alike (and_also read (window_reads w)) (class_at w n) (partition_reads read w n) (order_reads read w n) rows others e (ordering_at orderings n) (o.each n h);
 }
-
--- the classes stay, whatever calls are read
-pub orderings_read : (none : Bool) (read : Read) (w : WindowRule) (rows : List Row) (orderings : List (List ℕ)) → AreOrderings w rows orderings → AreOrderings (read_window none read w) rows orderings
-orderings_read none read w rows orderings o = record { number = o.number; each = o.each }
-
-pub orderings_back : (none : Bool) (read : Read) (w : WindowRule) (rows : List Row) (orderings : List (List ℕ)) → AreOrderings (read_window none read w) rows orderings → AreOrderings w rows orderings
-orderings_back none read w rows orderings o = record { number = o.number; each = o.each }

@@ -12,9 +12,9 @@ use Rattle.wd_plan.specs.declared.window.Call.{Call}
 use Rattle.wd_plan.specs.declared.window.Frame.{Frame}
 use Rattle.wd_plan.specs.declared.window.FrameMode.{FrameMode}
 use Rattle.wd_plan.specs.declared.window.FrameMode.TheVariants as mode
-use Rattle.wd_plan.specs.Expressions.{Expression, Column, Literal, Negate, Arithmetic, Compare, Not, And, Or, IsNull, IsNotNull, Case}
+use Rattle.wd_plan.specs.Expressions.{Expression, Column, Literal, Negate, Arithmetic}
 use Rattle.wd_plan.specs.Fits.{has_offset, width}
-use Rattle.wd_plan.specs.Plans.{ClassRule, WindowRule, LimitRule, PlanTree, Scan, Join, Filter, Map, Group, Window, Distinct, Limit, has}
+use Rattle.wd_plan.specs.Plans.{ClassRule, WindowRule, LimitRule, PlanTree, Scan, Join, Over, Map, Group, Window, Limit, has}
 
 -- ---- columns that others determine
 
@@ -26,17 +26,8 @@ is_whole (Text t) = false
 is_whole (TruthValue b) = false
 
 abbrev pub is_number : Expression → Bool
-is_number (Column c) = false
 is_number (Literal v kind) = is_whole v
-is_number (Negate a) = false
-is_number (Arithmetic o a b) = false
-is_number (Compare o a b) = false
-is_number (Not a) = false
-is_number (And a b) = false
-is_number (Or a b) = false
-is_number (IsNull a) = false
-is_number (IsNotNull a) = false
-is_number (Case k a b c) = false
+is_number e = false
 
 -- sums and differences; not products, which may be zero
 abbrev pub is_shift : ArithmeticOp → Bool
@@ -49,30 +40,14 @@ is_shift Remainder = false
 -- the column from which an expression differs only by a sign and by added or subtracted whole numbers
 abbrev pub shifted : Expression → Option ℕ
 shifted (Column c) = Some c
-shifted (Literal v kind) = None
 shifted (Negate a) = shifted a
 shifted (Arithmetic o a b) = if is_shift o then (if is_number b then shifted a else (if is_number a then shifted b else None)) else None
-shifted (Compare o a b) = None
-shifted (Not a) = None
-shifted (And a b) = None
-shifted (Or a b) = None
-shifted (IsNull a) = None
-shifted (IsNotNull a) = None
-shifted (Case k a b c) = None
+shifted e = None
 
 -- the column that an output shows
 abbrev pub column_shown : Expression → Option ℕ
 column_shown (Column c) = Some c
-column_shown (Literal v kind) = None
-column_shown (Negate a) = None
-column_shown (Arithmetic o a b) = None
-column_shown (Compare o a b) = None
-column_shown (Not a) = None
-column_shown (And a b) = None
-column_shown (Or a b) = None
-column_shown (IsNull a) = None
-column_shown (IsNotNull a) = None
-column_shown (Case k a b c) = None
+column_shown e = None
 
 -- the first output that shows this column
 abbrev pub place_of : ℕ → List Expression → Option ℕ
@@ -91,12 +66,11 @@ origin below e = of_column (column_shown e)
 abbrev pub given_back : PlanTree → ℕ → Option ℕ
 given_back (Scan table columns) c = None
 given_back (Join condition left right) c = None
-given_back (Filter condition input) c = given_back input c
-given_back (Map outputs input) c = option_and_then (λ (d : ℕ). place_of d outputs) (option_and_then (origin (given_back input)) (slice_get outputs c))
-given_back (Group rule input) c = None
-given_back (Window w input) c = if nat_lt c (width input) then given_back input c else None
-given_back (Distinct input) c = given_back input c
-given_back (Limit limit input) c = None
+given_back (Over (Map outputs) input) c = option_and_then (λ (d : ℕ). place_of d outputs) (option_and_then (origin (given_back input)) (slice_get outputs c))
+given_back (Over (Group rule) input) c = None
+given_back (Over (Window w) input) c = if nat_lt c (width input) then given_back input c else None
+given_back (Over (Limit limit) input) c = None
+given_back (Over step input) c = given_back input c
 
 -- ---- sort keys
 

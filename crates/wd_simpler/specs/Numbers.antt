@@ -12,7 +12,7 @@ use Rattle.wd_plan.specs.declared.function.Function.{Function}
 use Rattle.wd_plan.specs.declared.function.Function.TheVariants.{Ranking as Ranked, Shift as Shifted, OfFrame}
 use Rattle.wd_plan.specs.declared.window.Call.{Call}
 use Rattle.wd_plan.specs.Fits.{width}
-use Rattle.wd_plan.specs.Plans.{GroupCall, OfRows, Grouping, PlanTree, Scan, Join, Filter, Map, Group, Window, Distinct, Limit}
+use Rattle.wd_plan.specs.Plans.{GroupCall, OfRows, Grouping, PlanTree, Scan, Join, Over, Map, Group, Window}
 use Rattle.wd_simpler.specs.Keyed.{column_shown}
 use Rattle.wd_simpler.specs.declared.numbers.Numbers.{Numbers}
 
@@ -79,9 +79,7 @@ with_null (Some numbers) = Some (record { least = numbers.least; greatest = numb
 abbrev pub numbers_of : List TableRule → PlanTree → ℕ → Option Numbers
 numbers_of tables (Scan table columns) c = numbers_of_table tables table c
 numbers_of tables (Join condition left right) c = if nat_lt c (width left) then numbers_of tables left c else numbers_of tables right (c - width left)
-numbers_of tables (Filter condition input) c = numbers_of tables input c
-numbers_of tables (Map outputs input) c = option_and_then (numbers_of tables input) (option_and_then column_shown (slice_get outputs c))
-numbers_of tables (Group g input) c = if nat_lt c g.columns then with_null (numbers_of tables input c) else option_and_then numbers_of_group_call (slice_get g.calls (c - g.columns))
-numbers_of tables (Window w input) c = if nat_lt c (width input) then numbers_of tables input c else option_and_then numbers_of_call (slice_get w.calls (c - width input))
-numbers_of tables (Distinct input) c = numbers_of tables input c
-numbers_of tables (Limit limit input) c = numbers_of tables input c
+numbers_of tables (Over (Map outputs) input) c = option_and_then (numbers_of tables input) (option_and_then column_shown (slice_get outputs c))
+numbers_of tables (Over (Group g) input) c = if nat_lt c g.columns then with_null (numbers_of tables input c) else option_and_then numbers_of_group_call (slice_get g.calls (c - g.columns))
+numbers_of tables (Over (Window w) input) c = if nat_lt c (width input) then numbers_of tables input c else option_and_then numbers_of_call (slice_get w.calls (c - width input))
+numbers_of tables (Over step input) c = numbers_of tables input c

@@ -23,10 +23,10 @@ use Rattle.wd_plan.specs.declared.window.Call.{Call}
 use Rattle.wd_plan.specs.declared.window.Exclusion.TheVariants.{NoOthers}
 use Rattle.wd_plan.specs.declared.window.Frame.{Frame}
 use Rattle.wd_plan.specs.declared.window.FrameMode.TheVariants.{Range}
-use Rattle.wd_plan.specs.Expressions.{Expression, Column, Literal, Negate, Arithmetic, Compare, Not, And, Or, IsNull, IsNotNull, Case, holds, is_true}
+use Rattle.wd_plan.specs.Expressions.{Expression, Column, Literal, Compare, And, Or, holds, is_true}
 use Rattle.wd_plan.specs.Fits.{width}
 use Rattle.wd_plan.specs.Functions.{argument_of, argument_of_aggregate}
-use Rattle.wd_plan.specs.Plans.{GroupCall, OfRows, Grouping, GroupRule, WindowRule, LimitRule, PlanTree, Scan, Join, Filter, Map, Group, Window, Distinct, Limit, has}
+use Rattle.wd_plan.specs.Plans.{GroupCall, OfRows, Grouping, GroupRule, WindowRule, LimitRule, PlanTree, Scan, Join, Over, Filter, Map, Group, Window, Distinct, Limit, has}
 use Rattle.wd_plan.specs.Sorting.{class_columns}
 use Rattle.wd_scalar.specs.Arithmetic.{has_arithmetic}
 use Rattle.wd_simpler.specs.OwnPlace.{peer_frame}
@@ -68,15 +68,7 @@ kept_reads is_none read = if is_none then nothing else read
 abbrev pub is_plain : Expression → Bool
 is_plain (Column c) = true
 is_plain (Literal v kind) = true
-is_plain (Negate a) = false
-is_plain (Arithmetic o a b) = false
-is_plain (Compare o a b) = false
-is_plain (Not a) = false
-is_plain (And a b) = false
-is_plain (Or a b) = false
-is_plain (IsNull a) = false
-is_plain (IsNotNull a) = false
-is_plain (Case k a b c) = false
+is_plain e = false
 
 -- an output, or NULL in its place where it is not read and can't fault
 abbrev pub read_output : Bool → Expression → Expression
@@ -251,17 +243,11 @@ allowing false (Some numbers) = if numbers.nullable then None else Some numbers
 -- a condition that is true over no row: a literal that is not true, a comparison that is never true, an AND with such a side, or an OR of
 -- two such sides
 abbrev pub is_never : (ℕ → Option Numbers) → Expression → Bool
-is_never numbers (Column c) = false
 is_never numbers (Literal v kind) = not (is_true v)
-is_never numbers (Negate a) = false
-is_never numbers (Arithmetic o a b) = false
 is_never numbers (Compare op a b) = never_compares numbers op (side_of a) (side_of b)
-is_never numbers (Not a) = false
 is_never numbers (And a b) = is_never numbers b || is_never numbers a
 is_never numbers (Or a b) = is_never numbers b && is_never numbers a
-is_never numbers (IsNull a) = false
-is_never numbers (IsNotNull a) = false
-is_never numbers (Case k a b c) = false
+is_never numbers e = false
 
 -- the truth value FALSE
 abbrev pub is_false_value : Value → Bool
@@ -273,17 +259,10 @@ is_false_value (Text t) = false
 -- a condition that is FALSE over each row, without a fault: the literal, a comparison that is never true of a column without NULL, or an
 -- AND with such a side; if that is the right side, the left one has no fault or is FALSE itself, so that the right one is not evaluated
 abbrev pub is_false : (ℕ → Option Numbers) → Expression → Bool
-is_false numbers (Column c) = false
 is_false numbers (Literal v kind) = is_false_value v
-is_false numbers (Negate a) = false
-is_false numbers (Arithmetic o a b) = false
 is_false numbers (Compare op a b) = never_compares (λ c. allowing false (numbers c)) op (side_of a) (side_of b)
-is_false numbers (Not a) = false
 is_false numbers (And a b) = is_false numbers a || (not (has_arithmetic a) && is_false numbers b)
-is_false numbers (Or a b) = false
-is_false numbers (IsNull a) = false
-is_false numbers (IsNotNull a) = false
-is_false numbers (Case k a b c) = false
+is_false numbers e = false
 
 -- no row meets a condition, and it has no fault over any of them
 abbrev pub is_unmet : (ℕ → Option Numbers) → Expression → Bool
@@ -299,12 +278,10 @@ read_condition unmet condition = if unmet then Literal (TruthValue false) Truth 
 abbrev pub is_empty : List TableRule → PlanTree → Bool
 is_empty tables (Scan table columns) = false
 is_empty tables (Join condition left right) = is_empty tables right || is_empty tables left
-is_empty tables (Filter condition input) = is_unmet (numbers_of tables input) condition || is_empty tables input
-is_empty tables (Map outputs input) = is_empty tables input
-is_empty tables (Group rule input) = false
-is_empty tables (Window w input) = is_empty tables input
-is_empty tables (Distinct input) = is_empty tables input
-is_empty tables (Limit limit input) = takes_none limit.count || is_empty tables input
+is_empty tables (Over (Filter condition) input) = is_unmet (numbers_of tables input) condition || is_empty tables input
+is_empty tables (Over (Group rule) input) = false
+is_empty tables (Over (Limit limit) input) = takes_none limit.count || is_empty tables input
+is_empty tables (Over step input) = is_empty tables input
 
 -- the columns that a condition reads
 abbrev pub condition_reads : Option Expression → List ℕ
@@ -315,15 +292,15 @@ condition_reads (Some condition) = used condition
 abbrev pub narrowed : List TableRule → PlanTree → Read → PlanTree
 narrowed tables (Scan table columns) read = Scan table columns
 narrowed tables (Join condition left right) read = let more = and_also read (condition_reads condition) in Join condition (narrowed tables left more) (narrowed tables right (after (width left) more))
-narrowed tables (Filter condition input) read =
+narrowed tables (Over (Filter condition) input) read =
     let unmet = is_unmet (numbers_of tables input) condition in
     let own = read_condition unmet condition in
-    Filter own (narrowed tables input (and_also (kept_reads unmet read) (used own)))
-narrowed tables (Map outputs input) read = let own = read_outputs read outputs in Map own (narrowed tables input (has (flat_map used own)))
-narrowed tables (Group rule input) read = let own = read_group (after rule.columns read) rule in Group own (narrowed tables input (has (group_reads own)))
-narrowed tables (Window w input) read = let own = read_window (is_empty tables input) (after (width input) read) (keyed_window input w) in Window own (narrowed tables input (and_also read (window_reads own)))
-narrowed tables (Distinct input) read = Distinct (narrowed tables input every)
-narrowed tables (Limit limit input) read = let own = keyed_limit input limit in Limit (read_limit (is_empty tables input) own) (narrowed tables input (and_also (kept_reads (takes_none limit.count) read) (key_columns own.keys)))
+    Over (Filter own) (narrowed tables input (and_also (kept_reads unmet read) (used own)))
+narrowed tables (Over (Map outputs) input) read = let own = read_outputs read outputs in Over (Map own) (narrowed tables input (has (flat_map used own)))
+narrowed tables (Over (Group rule) input) read = let own = read_group (after rule.columns read) rule in Over (Group own) (narrowed tables input (has (group_reads own)))
+narrowed tables (Over (Window w) input) read = let own = read_window (is_empty tables input) (after (width input) read) (keyed_window input w) in Over (Window own) (narrowed tables input (and_also read (window_reads own)))
+narrowed tables (Over Distinct input) read = Over Distinct (narrowed tables input every)
+narrowed tables (Over (Limit limit) input) read = let own = keyed_limit input limit in Over (Limit (read_limit (is_empty tables input) own)) (narrowed tables input (and_also (kept_reads (takes_none limit.count) read) (key_columns own.keys)))
 
 -- the plan without what nothing reads
 abbrev pub simpler : List TableRule → PlanTree → PlanTree

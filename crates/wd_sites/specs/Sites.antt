@@ -10,7 +10,7 @@ use Rattle.wd_sites.specs.declared.site.PlanSite.{PlanSite}
 use Rattle.wd_sites.specs.declared.site.Site.{Site}
 
 -- the bytes from the beginning of the token with one number to the end of the token with another, which does not come before it
-pub record IsStretch (tokens : List Token) (first last : ℕ) (span : Span) : Type 0 where
+pub record IsSpanFrom (tokens : List Token) (first last : ℕ) (span : Span) : Type 0 where
   pub ordered : first ≤ last
   pub first_token : Token
   pub last_token : Token
@@ -35,14 +35,14 @@ pub record BeginsToken (tokens : List Token) (place : ℕ) : Type 0 where
 
 -- a key is added after a token; where there is an ORDER BY, it begins with a token
 pub record IsKeyPlace (tokens : List Token) (key : KeyPlace) : Type 0 where
-  pub behind : EndsToken tokens key.at
+  pub after : EndsToken tokens key.at
   pub order : IfSome key.order (BeginsToken tokens)
 
 -- a site is a range of whole tokens, and a key is added after a token
 pub record IsSite (tokens : List Token) (site : Site) : Type 0 where
   pub first : ℕ
   pub last : ℕ
-  pub span : IsStretch tokens first last site.span
+  pub span : IsSpanFrom tokens first last site.span
   pub key : IfSome site.key (IsKeyPlace tokens)
 
 -- the token with a number is this terminal
@@ -56,9 +56,9 @@ pub record IsCallSite (tokens : List Token) (site : Site) : Type 0 where
   pub first : ℕ
   pub last : ℕ
   pub over : ℕ
-  pub span : IsStretch tokens first last site.span
+  pub span : IsSpanFrom tokens first last site.span
   pub is_over : IsTerminalAt tokens over m.Over
-  pub behind : first < over
+  pub after : first < over
   pub before : over < last
   pub key : IfSome site.key (IsKeyPlace tokens)
 

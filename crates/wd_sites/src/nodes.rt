@@ -65,7 +65,7 @@ fn add_window(
 ) -> Result<(), OutOfMemory> {
     if let Plan::Window { input, .. } = input {
         let mut shown = Vec::new(alloc);
-        let width = width(input);
+        let width = input.width() as usize;
         for output in outputs {
             add_shown(output, width, &mut shown)?;
         }
@@ -75,14 +75,6 @@ fn add_window(
         })?;
     }
     Ok(())
-}
-
-/// How many columns a Map below a Window shows.
-fn width(plan: &Plan) -> usize {
-    match plan {
-        Plan::Map { outputs, .. } => outputs.len(),
-        _ => 0,
-    }
 }
 
 /// Adds the calls that an expression shows, from left to right: the columns from `width` on.

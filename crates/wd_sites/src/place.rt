@@ -1,7 +1,7 @@
 //! Tokens by their numbers: what they are, and the bytes that they take.
 
 ghost use Rattle.std.specs.Prelude.{◌≡◌, IfSome};
-ghost use Rattle.wd_sites.specs.Sites.{EndsToken, IsStretch, IsTerminalAt};
+ghost use Rattle.wd_sites.specs.Sites.{EndsToken, IsSpanFrom, IsTerminalAt};
 
 use std::alloc::Global;
 use wd_lex::{Span, Terminal, Token, TokenKind};
@@ -26,8 +26,8 @@ pub(crate) fn name_at(tokens: &[Token], number: usize) -> Option<&str> {
 }
 
 /// The bytes from the beginning of one token to the end of another, which does not come before it.
-pub(crate) fn stretch(tokens: &[Token], first: usize, last: usize) -> Option<Span>
-    ensures { IfSome result (IsStretch tokens.now first last) }
+pub(crate) fn span_from(tokens: &[Token], first: usize, last: usize) -> Option<Span>
+    ensures { IfSome result (IsSpanFrom tokens.now first last) }
 {
     if first > last {
         return None;

@@ -10,7 +10,7 @@ ghost use Rattle.wd_lex.specs.declared.token.Terminal.TheVariants as m;
 
 use crate::nodes::{PlanNodes, plan_nodes};
 use crate::outline::{Brackets, NamedWindow, Outline};
-use crate::place::{end_of, partners, stretch};
+use crate::place::{end_of, partners, span_from};
 use std::alloc::Global;
 use wd_lex::{Span, Terminal, Token};
 use wd_plan::Plan;
@@ -160,7 +160,7 @@ fn call_site(brackets: Brackets<'_>, windows: &[NamedWindow], over: usize) -> Op
     if first >= over || over >= last || !is_over(brackets, over) {
         return None;
     }
-    let span = stretch(brackets.tokens, first, last)?;
+    let span = span_from(brackets.tokens, first, last)?;
     let key = match brackets.terminal(window) {
         Some(Terminal::LeftBracket) => window_key(brackets, windows, window),
         _ => named_key(brackets, windows, window),
@@ -239,17 +239,17 @@ fn own_key(brackets: Brackets<'_>, open: usize) -> Option<KeyPlace>
             _ => {}
         }
     }
-    key_behind(brackets.tokens, order, end.checked_sub(1)?)
+    key_after(brackets.tokens, order, end.checked_sub(1)?)
 }
 
 /// The place for a key after a token, and the beginning of its ORDER BY, if there is one.
-fn key_behind(tokens: &[Token], order: Option<usize>, last: usize) -> Option<KeyPlace>
+fn key_after(tokens: &[Token], order: Option<usize>, last: usize) -> Option<KeyPlace>
     ensures { IfSome result (IsKeyPlace tokens.now) }
 {
     let at = end_of(tokens, last)?;
     match order {
         Some(first) => {
-            let span = stretch(tokens, first, last)?;
+            let span = span_from(tokens, first, last)?;
             Some(KeyPlace {
                 at,
                 order: Some(span.start),
@@ -267,7 +267,7 @@ fn limit_site(brackets: Brackets<'_>, outline: &Outline) -> Option<Site>
     let last = end.checked_sub(1)?;
     let limits = outline.limits.unwrap_or(end);
     let first = outline.order.unwrap_or(limits);
-    let span = stretch(brackets.tokens, first, last)?;
-    let key = key_behind(brackets.tokens, outline.order, limits.checked_sub(1)?);
+    let span = span_from(brackets.tokens, first, last)?;
+    let key = key_after(brackets.tokens, outline.order, limits.checked_sub(1)?);
     Some(Site { span, key })
 }

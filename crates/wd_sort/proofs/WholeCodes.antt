@@ -27,12 +27,12 @@ within_up least greatest n a b = omega (arith, ints)
 within_down : (least greatest n : ℤ) → least ≤ℤ n → n ≤ℤ greatest → unsigned_abs (greatest -ℤ n) ≤ unsigned_abs (greatest -ℤ least)
 within_down least greatest n a b = omega (arith, ints)
 
--- before a greater number, and behind a lesser one
+-- before a greater number, and after a lesser one
 before : (p q : ℕ) → p < q → nat_cmp p q ≡ Less
 before p q h = sym (nat_cmp_is p q Less h)
 
-behind : (p q : ℕ) → q < p → nat_cmp p q ≡ Greater
-behind p q h = sym (nat_cmp_is p q Greater h)
+after : (p q : ℕ) → q < p → nat_cmp p q ≡ Greater
+after p q h = sym (nat_cmp_is p q Greater h)
 
 by_cases : (d f : Bool) (least greatest : ℤ) (a b : Value) → IsWhole least greatest a → IsWhole least greatest b → let key : SortKey = record { desc = d; nulls_first = f } in
     nat_cmp (whole_code key least greatest a) (whole_code key least greatest b) ≡ compare key a b
@@ -40,10 +40,10 @@ by_cases d true least greatest Null Null v w = refl
 by_cases d false least greatest Null Null v w = sym (nat_cmp_is (unsigned_abs (greatest -ℤ least) + 1) (unsigned_abs (greatest -ℤ least) + 1) Equal refl)
 by_cases true true least greatest Null (Int m) v w = before 0 (unsigned_abs (greatest -ℤ m) + 1) (omega arith)
 by_cases false true least greatest Null (Int m) v w = before 0 (unsigned_abs (m -ℤ least) + 1) (omega arith)
-by_cases true false least greatest Null (Int m) v w = let h = within_down least greatest m w.0 w.1 in behind (unsigned_abs (greatest -ℤ least) + 1) (unsigned_abs (greatest -ℤ m) + 0) (omega arith)
-by_cases false false least greatest Null (Int m) v w = let h = within_up least greatest m w.0 w.1 in behind (unsigned_abs (greatest -ℤ least) + 1) (unsigned_abs (m -ℤ least) + 0) (omega arith)
-by_cases true true least greatest (Int n) Null v w = behind (unsigned_abs (greatest -ℤ n) + 1) 0 (omega arith)
-by_cases false true least greatest (Int n) Null v w = behind (unsigned_abs (n -ℤ least) + 1) 0 (omega arith)
+by_cases true false least greatest Null (Int m) v w = let h = within_down least greatest m w.0 w.1 in after (unsigned_abs (greatest -ℤ least) + 1) (unsigned_abs (greatest -ℤ m) + 0) (omega arith)
+by_cases false false least greatest Null (Int m) v w = let h = within_up least greatest m w.0 w.1 in after (unsigned_abs (greatest -ℤ least) + 1) (unsigned_abs (m -ℤ least) + 0) (omega arith)
+by_cases true true least greatest (Int n) Null v w = after (unsigned_abs (greatest -ℤ n) + 1) 0 (omega arith)
+by_cases false true least greatest (Int n) Null v w = after (unsigned_abs (n -ℤ least) + 1) 0 (omega arith)
 by_cases true false least greatest (Int n) Null v w = let h = within_down least greatest n v.0 v.1 in before (unsigned_abs (greatest -ℤ n) + 0) (unsigned_abs (greatest -ℤ least) + 1) (omega arith)
 by_cases false false least greatest (Int n) Null v w = let h = within_up least greatest n v.0 v.1 in before (unsigned_abs (n -ℤ least) + 0) (unsigned_abs (greatest -ℤ least) + 1) (omega arith)
 by_cases true f least greatest (Int n) (Int m) v w = sym (down (cond f 1 0) greatest n m v.1 w.1 (int_cmp m n) refl)

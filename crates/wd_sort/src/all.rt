@@ -6,7 +6,7 @@ ghost use Rattle.wd_sort.specs.Sorting.{IsStableSortOf};
 ghost use Rattle.wd_value.specs.Rows.{Row};
 ghost use Rattle.wd_value.specs.declared.order.SortColumn.{SortColumn};
 
-use crate::codes::sorted_by_codes;
+use crate::codes::sort_by_codes;
 use crate::coding::Coding;
 use crate::columns::{Last, last_coding};
 use crate::sort::all_positions;
@@ -50,7 +50,7 @@ fn one_code(alloc: Global, rows: &RowSource) -> Result<Coding, OutOfMemory>
 }
 
 /// The stable sort of positions by the numbers of all rows.
-pub fn sorted_by_coding(
+pub fn sort_by_coding(
     alloc: Global,
     coding: &Coding,
     positions: &[u64],
@@ -60,7 +60,7 @@ pub fn sorted_by_coding(
     ensures { IfOk result (λ v. (columns : List SortColumn) (rows : List Row) → AreCodesOfAll columns rows coding.now.bound coding.now.codes.items → IsStableSortOf columns rows positions.now v.items) }
 {
     let codes = codes_at(alloc, &coding.codes, positions)?;
-    sorted_by_codes(alloc, codes, coding.bound, positions)
+    sort_by_codes(alloc, codes, coding.bound, positions)
 }
 
 /// The numbers at positions.

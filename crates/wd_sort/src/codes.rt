@@ -11,7 +11,7 @@ use wd_value::OutOfMemory;
 
 /// The positions in the order of their codes, each of which is below `bound`; positions with equal codes keep their order. Takes n log n
 /// comparisons of two numbers, of 64 bits where the bound times the count fits these, else of 128.
-pub fn sorted_by_codes(
+pub fn sort_by_codes(
     alloc: Global,
     codes: Vec<u64>,
     bound: u64,
@@ -22,26 +22,26 @@ pub fn sorted_by_codes(
     ensures { IfOk result (λ v. (columns : List SortColumn) (rows : List Row) → IsCoding columns rows positions.now codes.items → IsStableSortOf columns rows positions.now v.items) }
 {
     if bound.checked_mul(positions.len() as u64).is_some() {
-        Ok(sorted_narrow(codes, bound, positions))
+        Ok(sort_narrow(codes, bound, positions))
     } else {
-        sorted_wide(alloc, codes, positions)
+        sort_wide(alloc, codes, positions)
     }
 }
 
 /// The sorted positions, in the codes' own memory.
-fn sorted_narrow(codes: Vec<u64>, bound: u64, positions: &[u64]) -> Vec<u64>
+fn sort_narrow(codes: Vec<u64>, bound: u64, positions: &[u64]) -> Vec<u64>
     requires long { length codes.items ≡ length positions.now }
     requires below { (k : ℕ) → k < length positions.now → get_or codes.items k 0 < bound }
     requires room { bound * length positions.now < 2 ^ 64 }
     ensures { (columns : List SortColumn) (rows : List Row) → IsCoding columns rows positions.now codes.items → IsStableSortOf columns rows positions.now result.items }
 {
-    let mut numbers = packed(codes, bound);
+    let mut numbers = pack(codes, bound);
     numbers.sort_unstable();
-    unpacked(numbers, positions)
+    unpack(numbers, positions)
 }
 
 /// Each code and its place as one number.
-fn packed(codes: Vec<u64>, bound: u64) -> Vec<u64>
+fn pack(codes: Vec<u64>, bound: u64) -> Vec<u64>
     requires below { (k : ℕ) → k < length codes.items → get_or codes.items k 0 < bound }
     requires room { bound * length codes.items < 2 ^ 64 }
     ensures { ArePacked codes.items result.items }
@@ -55,7 +55,7 @@ fn packed(codes: Vec<u64>, bound: u64) -> Vec<u64>
 }
 
 /// For each number the position at the place that it holds.
-fn unpacked(numbers: Vec<u64>, positions: &[u64]) -> Vec<u64>
+fn unpack(numbers: Vec<u64>, positions: &[u64]) -> Vec<u64>
     requires { length numbers.items ≡ length positions.now }
     ensures { result.items ≡ map (position_in positions.now) numbers.items }
 {
@@ -68,17 +68,17 @@ fn unpacked(numbers: Vec<u64>, positions: &[u64]) -> Vec<u64>
 }
 
 /// The sorted positions, by numbers of 128 bits, which hold any code and place.
-fn sorted_wide(alloc: Global, codes: Vec<u64>, positions: &[u64]) -> Result<Vec<u64>, OutOfMemory>
+fn sort_wide(alloc: Global, codes: Vec<u64>, positions: &[u64]) -> Result<Vec<u64>, OutOfMemory>
     requires { length codes.items ≡ length positions.now }
     ensures { IfOk result (λ v. (columns : List SortColumn) (rows : List Row) → IsCoding columns rows positions.now codes.items → IsStableSortOf columns rows positions.now v.items) }
 {
-    let mut packed = packed_wide(alloc, &codes)?;
+    let mut packed = pack_wide(alloc, &codes)?;
     packed.sort_unstable();
-    let order = unpacked_wide(&packed, positions, codes);
+    let order = unpack_wide(&packed, positions, codes);
     Ok(order)
 }
 
-fn packed_wide(alloc: Global, codes: &[u64]) -> Result<Vec<u128>, OutOfMemory>
+fn pack_wide(alloc: Global, codes: &[u64]) -> Result<Vec<u128>, OutOfMemory>
     ensures { IfOk result (λ v. ArePacked codes.now v.items) }
 {
     let count = codes.len() as u128;
@@ -90,7 +90,7 @@ fn packed_wide(alloc: Global, codes: &[u64]) -> Result<Vec<u128>, OutOfMemory>
 }
 
 /// For each number the position at the place that it holds, in the memory of the codes.
-fn unpacked_wide(numbers: &[u128], positions: &[u64], codes: Vec<u64>) -> Vec<u64>
+fn unpack_wide(numbers: &[u128], positions: &[u64], codes: Vec<u64>) -> Vec<u64>
     requires numbers_long { length numbers.now ≡ length positions.now }
     requires codes_long { length codes.items ≡ length positions.now }
     ensures { result.items ≡ map (position_in positions.now) numbers.now }

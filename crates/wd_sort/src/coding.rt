@@ -36,18 +36,18 @@ pub fn column_coding(
 
 /// The numbers of a column and, where these tie, of the columns after it, in the memory of the first; `None` where a pair does not fit 64
 /// bits.
-pub fn combined(first: Coding, others: &Coding) -> Option<Coding>
+pub fn combine(first: Coding, others: &Coding) -> Option<Coding>
     requires long { length first.codes.items ≡ length others.now.codes.items }
     requires high { (k : ℕ) → k < length first.codes.items → get_or first.codes.items k 0 < first.bound }
     requires low { (k : ℕ) → k < length first.codes.items → get_or others.now.codes.items k 0 < others.now.bound }
     ensures { IfSome result (λ c. ArePairs first.codes.items others.now.codes.items others.now.bound c.codes.items × (c.bound ≡ first.bound * others.now.bound)) }
 {
     first.bound.checked_mul(others.bound)?;
-    Some(paired(first, others))
+    Some(pair(first, others))
 }
 
 /// Both numbers of each position as one, in the memory of the first.
-pub fn paired(first: Coding, others: &Coding) -> Coding
+pub fn pair(first: Coding, others: &Coding) -> Coding
     requires long { length first.codes.items ≡ length others.now.codes.items }
     requires high { (k : ℕ) → k < length first.codes.items → get_or first.codes.items k 0 < first.bound }
     requires low { (k : ℕ) → k < length first.codes.items → get_or others.now.codes.items k 0 < others.now.bound }

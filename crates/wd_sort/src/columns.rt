@@ -4,9 +4,9 @@ ghost use Rattle.std.specs.Prelude.{◌≡◌, ◌<◌, IfOk, IfSome, drop, leng
 ghost use Rattle.wd_sort.specs.Codes.{IsCodingBelow};
 ghost use Rattle.wd_sort.specs.Sorting.{IsStableSortOf};
 
-use crate::codes::sorted_by_codes;
-use crate::coding::{Coding, column_coding, combined};
-use crate::sort::sorted_by_rows;
+use crate::codes::sort_by_codes;
+use crate::coding::{Coding, column_coding, combine};
+use crate::sort::sort_by_rows;
 use std::alloc::Global;
 use wd_columns::RowSource;
 use wd_value::{OutOfMemory, SortColumn};
@@ -18,9 +18,9 @@ pub struct Last {
     pub coding: Coding,
 }
 
-/// Sorts as `sorted_from` does: by the codes of as many of the last columns as fit one number, and then stably by the columns before
+/// Sorts as `sort_positions` does: by the codes of as many of the last columns as fit one number, and then stably by the columns before
 /// them. Where a column has no codes, it sorts by rows.
-pub fn sorted_by_columns(
+pub fn sort_by_columns(
     alloc: Global,
     rows: &RowSource,
     columns: &[SortColumn],
@@ -32,10 +32,10 @@ pub fn sorted_by_columns(
     let mut left = columns.len();
     while left > 0 {
         match last_coding(alloc, rows, &columns[..left], &order)? {
-            None => return sorted_by_rows(alloc, rows, &columns[..left], &order),
+            None => return sort_by_rows(alloc, rows, &columns[..left], &order),
             Some(last) => {
                 let Last { start, coding } = last;
-                order = sorted_by_codes(alloc, coding.codes, coding.bound, &order)?;
+                order = sort_by_codes(alloc, coding.codes, coding.bound, &order)?;
                 left = start;
             }
         }
@@ -61,7 +61,7 @@ pub fn last_coding(
         let Some(first) = column_coding(alloc, rows, columns[start - 1], positions)? else {
             break;
         };
-        let Some(more) = combined(first, &coding) else {
+        let Some(more) = combine(first, &coding) else {
             break;
         };
         coding = more;

@@ -45,7 +45,7 @@ fn known_codes<'a>(
     let mut known = known;
     let numbers = numbers_of(alloc, rows, column.column, positions, null, &mut known)?;
     let ranks = ranks_of(alloc, &known.values, column.key)?;
-    let codes = replaced(numbers, &ranks);
+    let codes = replace_numbers(numbers, &ranks);
     let bound = ranks.len() as u64;
     Ok(Coding { codes, bound })
 }
@@ -74,7 +74,7 @@ pub fn numbers_of<'a>(
 }
 
 /// For each number the element at that place, in the memory of the numbers.
-fn replaced(numbers: Vec<u64>, elements: &[u64]) -> Vec<u64>
+fn replace_numbers(numbers: Vec<u64>, elements: &[u64]) -> Vec<u64>
     requires { (k : ℕ) → k < length numbers.items → get_or numbers.items k 0 < length elements.now }
     ensures { result.items ≡ map (λ n. get_or elements.now n 0) numbers.items }
 {

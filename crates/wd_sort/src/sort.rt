@@ -4,7 +4,7 @@ ghost use Rattle.wd_sort.specs.Sorting.{IsSortOf, IsStableSortOf};
 ghost use Rattle.wd_value.specs.Bags.{positions};
 ghost use Rattle.wd_value.specs.Rows.{rows_of};
 
-use crate::columns::sorted_by_columns;
+use crate::columns::sort_by_columns;
 use crate::rows::{compare_rows_at, compare_source_at};
 use std::alloc::Global;
 use wd_columns::RowSource;
@@ -23,14 +23,14 @@ pub fn sorted_positions(
     ensures { IfOk result (λ v. IsSortOf columns.now (rows_of rows.now) v.items) }
 {
     let all = all_positions(alloc, rows.len())?;
-    let order = sorted_from(alloc, rows, columns, &all)?;
+    let order = sort_positions(alloc, rows, columns, &all)?;
     Ok(order)
 }
 
 /// The given positions, each as often as it is given, sorted by the columns of their rows; positions whose rows tie on all columns keep
 /// the given order (a stable sort). A position past the last row counts as the row without columns. Takes time as `sorted_positions`
 /// does.
-pub fn sorted_from(
+pub fn sort_positions(
     alloc: Global,
     rows: &[Row],
     columns: &[SortColumn],
@@ -38,11 +38,11 @@ pub fn sorted_from(
 ) -> Result<Vec<u64>, OutOfMemory>
     ensures { IfOk result (λ v. IsStableSortOf columns.now (rows_of rows.now) positions.now v.items) }
 {
-    sorted_in(alloc, &RowSource::of_rows(rows), columns, positions)
+    sort_positions_in(alloc, &RowSource::of_rows(rows), columns, positions)
 }
 
-/// As `sorted_from`, for rows in any form.
-pub fn sorted_in(
+/// As `sort_positions`, for rows in any form.
+pub fn sort_positions_in(
     alloc: Global,
     rows: &RowSource,
     columns: &[SortColumn],
@@ -51,14 +51,14 @@ pub fn sorted_in(
     ensures { IfOk result (λ v. IsStableSortOf columns.now rows.now positions.now v.items) }
 {
     if positions.len() < FEW {
-        sorted_by_rows(alloc, rows, columns, positions)
+        sort_by_rows(alloc, rows, columns, positions)
     } else {
-        sorted_by_columns(alloc, rows, columns, positions)
+        sort_by_columns(alloc, rows, columns, positions)
     }
 }
 
-/// The given positions sorted as `sorted_from` does, by comparisons of rows.
-pub fn sorted_by_rows(
+/// The given positions sorted as `sort_positions` does, by comparisons of rows.
+pub fn sort_by_rows(
     alloc: Global,
     rows: &RowSource,
     columns: &[SortColumn],

@@ -35,7 +35,7 @@ pub fn whole_range(rows: &RowSource, column: u16, positions: &[u64]) -> Option<R
         greatest: i64::MIN,
     };
     for i in 0..positions.len() {
-        range = widened(range, rows, column, positions[i])?;
+        range = widen(range, rows, column, positions[i])?;
     }
     if range.greatest < range.least {
         return Some(Range {
@@ -46,7 +46,7 @@ pub fn whole_range(rows: &RowSource, column: u16, positions: &[u64]) -> Option<R
     Some(range)
 }
 
-fn widened(range: Range, rows: &RowSource, column: u16, position: u64) -> Option<Range>
+fn widen(range: Range, rows: &RowSource, column: u16, position: u64) -> Option<Range>
     ensures wider { IfSome result (λ r. IsWider range.least range.greatest r.least r.greatest) }
     ensures whole { IfSome result (λ r. IsWhole r.least r.greatest (column_of (row_at rows.now position) column)) }
 {

@@ -10,12 +10,12 @@ pub stand_later : (start place later : ℕ) (spans : List Span) → place ≤ la
 stand_later start place later [] h s = omega (arith, h, s)
 stand_later start place later (span ∷ spans) h s = (s.0, s.1, stand_later span.end place later spans h s.2)
 
--- a further one behind them
+-- a further one after them
 pub stand_more : (start place : ℕ) (spans : List Span) (span : Span) → place ≤ span.start → span.start ≤ span.end → StandInOrder start spans place → StandInOrder start (spans ++ span ∷ []) span.end
 stand_more start place [] span a b s = (omega (arith, a, s), b, omega arith)
 stand_more start place (first ∷ spans) span a b s = (s.0, s.1, stand_more first.end place spans span a b s.2)
 
--- a stretch where something stands in it, before others
+-- a range where something stands in it, before others
 pub if_begun-before : (begun : Bool) (span : Span) (spans : List Span) → if_begun begun span spans ≡ if_begun begun span [] ++ spans
 if_begun-before true span spans = refl
 if_begun-before false span spans = refl
@@ -31,7 +31,7 @@ pub go_on : (found : List Span) (end start : ℕ) (begun : Bool) (token : Token)
     → found ++ statements_from end start true rest ≡ found ++ statements_from end start begun (token ∷ rest)
 go_on found end start begun token rest h = rw h refl
 
--- tokens in order behind a place are so behind an earlier one
+-- tokens in order after a place are so after an earlier one
 pub order_before : (earlier start : ℕ) (tokens : List Token) (end : ℕ) → earlier ≤ start → AreInOrder start tokens end → AreInOrder earlier tokens end
 order_before earlier start [] end h o = omega (arith, h, o)
 order_before earlier start (token ∷ tokens) end h o = (omega (arith, h, o.0), o.1, o.2)

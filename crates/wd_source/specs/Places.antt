@@ -19,7 +19,7 @@ pub record IsLineStart (text : List ℕ) (place start : ℕ) : Type 0 where
 
 -- the line of a byte ends there: at a line feed or at the text's end, and no line feed is between
 pub record IsLineEnd (text : List ℕ) (place end : ℕ) : Type 0 where
-  pub behind : place ≤ end
+  pub after : place ≤ end
   pub whole : (k : ℕ) → place ≤ k → k < end → slice_index text k ≢ line_feed
   pub ends : (end ≡ length text) ⊎ ((end < length text) × (slice_index text end ≡ line_feed))
 

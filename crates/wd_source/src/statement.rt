@@ -17,7 +17,7 @@ pub fn statements(alloc: Global, text: &[u8]) -> Result<Vec<Span>, OutOfMemory>
     ensures order { IfOk result (λ found. StandInOrder 0 found.items (length text.now)) }
 {
     match lex(alloc, text) {
-        Ok(tokens) => cut(alloc, text.len() as u64, tokens.as_slice()),
+        Ok(tokens) => statements_of(alloc, text.len() as u64, tokens.as_slice()),
         Err(LexError::OutOfMemory) => Err(OutOfMemory),
         Err(_) => Ok(vec![in alloc;
             Span {
@@ -48,7 +48,7 @@ fn add_begun(found: &mut Vec<Span>, begun: bool, start: u64, end: u64) -> Result
 }
 
 /// The statements of the tokens of a text that ends at a byte.
-fn cut(alloc: Global, end: u64, tokens: &[Token]) -> Result<Vec<Span>, OutOfMemory>
+fn statements_of(alloc: Global, end: u64, tokens: &[Token]) -> Result<Vec<Span>, OutOfMemory>
     requires { AreInOrder 0 tokens.now end }
     ensures are { IfOk result (λ found. found.items ≡ statements_from end 0 false tokens.now) }
     ensures order { IfOk result (λ found. StandInOrder 0 found.items end) }

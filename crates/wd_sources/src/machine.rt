@@ -1,6 +1,6 @@
 //! The files and folders of the computer.
 
-use crate::paths::{beside, folder_and_name, joined};
+use crate::paths::{beside, folder_and_name, join};
 use crate::sources::{Entry, STANDARD_INPUT, SourceError, Sources};
 use std::alloc::Global;
 use std::fs::{OpenFile, OpenOptions, Permissions};
@@ -60,7 +60,7 @@ impl<R: Files + Input + AllocGlobal + Clone + Drop> Sources for MachineSources<'
             }
             Err(error) => return Err(reason_of(error)),
         };
-        done(put(
+        source_result(write_and_rename(
             self.rt,
             path.as_str(),
             new.as_str(),
@@ -73,7 +73,7 @@ impl<R: Files + Input + AllocGlobal + Clone + Drop> Sources for MachineSources<'
     // as they are.
     fn write(&mut self, alloc: Global, path: &str, bytes: &[u8]) -> Result<(), SourceError> {
         if is_stream(self.rt, path) {
-            return done(pour(self.rt, path, bytes));
+            return source_result(pour(self.rt, path, bytes));
         }
         match self.replace(alloc, path, bytes) {
             Err(SourceError::Missing) => {
@@ -81,23 +81,23 @@ impl<R: Files + Input + AllocGlobal + Clone + Drop> Sources for MachineSources<'
                     return Err(SourceError::Failed);
                 }
                 let new = beside(alloc, path)?;
-                done(put(self.rt, path, new.as_str(), None, bytes))
+                source_result(write_and_rename(self.rt, path, new.as_str(), None, bytes))
             }
             done => done,
         }
     }
 
     fn remove(&mut self, _alloc: Global, path: &str) -> Result<(), SourceError> {
-        done(fs::remove_file(self.rt, path))
+        source_result(fs::remove_file(self.rt, path))
     }
 
-    fn resolved(&mut self, alloc: Global, path: &str) -> Result<String, SourceError> {
+    fn resolve(&mut self, alloc: Global, path: &str) -> Result<String, SourceError> {
         match canonical(self.rt, path) {
             Ok(path) => Ok(String::from_str(alloc, path.as_str())?),
             Err(SourceError::Missing) => {
                 let (folder, name) = folder_and_name(path);
                 let folder = canonical(self.rt, folder)?;
-                Ok(joined(alloc, folder.as_str(), name)?)
+                Ok(join(alloc, folder.as_str(), name)?)
             }
             Err(error) => Err(error),
         }
@@ -127,7 +127,7 @@ fn pour<R: Files>(rt: &R, path: &str, bytes: &[u8]) -> io::Result<()> {
 }
 
 /// The result of an operation, as an error of sources.
-fn done(ended: io::Result<()>) -> Result<(), SourceError> {
+fn source_result(ended: io::Result<()>) -> Result<(), SourceError> {
     match ended {
         Ok(()) => Ok(()),
         Err(error) => Err(reason_of(error)),
@@ -136,7 +136,7 @@ fn done(ended: io::Result<()>) -> Result<(), SourceError> {
 
 /// Writes bytes to a new file, which then takes a name and replaces the file of that name. After an error the old file is unchanged, and
 /// the new one is removed.
-fn put<R: Files>(
+fn write_and_rename<R: Files>(
     rt: &R,
     path: &str,
     new: &str,

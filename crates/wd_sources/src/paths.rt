@@ -75,7 +75,7 @@ fn add_members(
     for member in &members {
         if member.is_folder || is_query(member.name.as_str()) {
             waiting.push(Waiting {
-                path: joined(alloc, folder.path.as_str(), member.name.as_str())?,
+                path: join(alloc, folder.path.as_str(), member.name.as_str())?,
                 depth: folder.depth.saturating_add(1),
                 is_file: !member.is_folder,
             })?;
@@ -90,7 +90,7 @@ fn is_query(name: &str) -> bool {
 }
 
 /// The path of a folder's member.
-pub(crate) fn joined(alloc: Global, folder: &str, name: &str) -> Result<String, AllocError> {
+pub(crate) fn join(alloc: Global, folder: &str, name: &str) -> Result<String, AllocError> {
     let mut path = String::from_str(alloc, folder)?;
     if !folder.is_empty() && !folder.ends_with('/') {
         path.push('/')?;
@@ -120,7 +120,7 @@ pub fn schemas_for(alloc: Global, query: &str) -> Result<Vec<String>, AllocError
         let Some(folder) = folder_of(path) else {
             return Ok(found);
         };
-        found.push(joined(alloc, folder, "schema.sql")?)?;
+        found.push(join(alloc, folder, "schema.sql")?)?;
         path = folder;
     }
     Ok(found)
@@ -141,5 +141,5 @@ pub(crate) fn beside(alloc: Global, path: &str) -> Result<String, AllocError> {
     let mut hidden = String::from_str(alloc, ".")?;
     hidden.push_str(name)?;
     hidden.push_str(".wdreport-new")?;
-    joined(alloc, folder, hidden.as_str())
+    join(alloc, folder, hidden.as_str())
 }

@@ -40,7 +40,7 @@ pub trait Sources {
     fn remove(&mut self, alloc: Global, path: &str) -> Result<(), SourceError>;
 
     /// The path of a file that does not depend on the spelling. The file itself need not exist, but its folder has to.
-    fn resolved(&mut self, alloc: Global, path: &str) -> Result<String, SourceError>;
+    fn resolve(&mut self, alloc: Global, path: &str) -> Result<String, SourceError>;
 }
 
 /// The path that stands for standard input.

@@ -5,7 +5,7 @@ use Rattle.wd_plan.specs.Expressions.{Expression}
 use Rattle.wd_step_facts.specs.Facts.{Fact}
 use Rattle.wd_step_facts.specs.Steps.{conjunct_facts, facts_of_conjuncts}
 
--- the facts of some conjuncts behind those of others
+-- the facts of some conjuncts after those of others
 pub conjuncts_append : (front : List Fact) (xs ys : List Expression) → (front ++ facts_of_conjuncts xs) ++ facts_of_conjuncts ys ≡ front ++ facts_of_conjuncts (xs ++ ys)
 conjuncts_append front xs ys = append_assoc front (facts_of_conjuncts xs) (facts_of_conjuncts ys) ∙ ap (λ l. front ++ l) (joined xs)
   where

@@ -34,15 +34,7 @@ pub data Side : Type 0 where
 abbrev pub side_of : Expression → Side
 side_of (Column c) = Plain c
 side_of (Literal v kind) = Fixed v
-side_of (Negate a) = Other
-side_of (Arithmetic o a b) = Other
-side_of (Compare o a b) = Other
-side_of (Not a) = Other
-side_of (And a b) = Other
-side_of (Or a b) = Other
-side_of (IsNull a) = Other
-side_of (IsNotNull a) = Other
-side_of (Case k a b c) = Other
+side_of e = Other
 
 -- the columns that an expression uses
 abbrev pub used : Expression → List ℕ
@@ -116,17 +108,9 @@ null_facts (Fixed v) = []
 null_facts Other = []
 
 abbrev pub conjunct_facts : Expression → List Fact
-conjunct_facts (Column c) = []
-conjunct_facts (Literal v kind) = []
-conjunct_facts (Negate a) = []
-conjunct_facts (Arithmetic o a b) = []
 conjunct_facts (Compare o a b) = comparison_facts o (side_of a) (side_of b)
-conjunct_facts (Not a) = []
-conjunct_facts (And a b) = []
-conjunct_facts (Or a b) = []
 conjunct_facts (IsNull a) = null_facts (side_of a)
-conjunct_facts (IsNotNull a) = []
-conjunct_facts (Case k a b c) = []
+conjunct_facts e = []
 
 abbrev pub facts_of_conjuncts : List Expression → List Fact
 facts_of_conjuncts es = flat_map conjunct_facts es
@@ -138,17 +122,9 @@ is_side c Other = false
 
 -- a column is not NULL where it is a side of a true comparison, or of a true IS NOT NULL
 abbrev pub rules_out_null : ℕ → Expression → Bool
-rules_out_null c (Column d) = false
-rules_out_null c (Literal v kind) = false
-rules_out_null c (Negate a) = false
-rules_out_null c (Arithmetic o a b) = false
 rules_out_null c (Compare o a b) = is_side c (side_of a) || is_side c (side_of b)
-rules_out_null c (Not a) = false
-rules_out_null c (And a b) = false
-rules_out_null c (Or a b) = false
-rules_out_null c (IsNull a) = false
 rules_out_null c (IsNotNull a) = is_side c (side_of a)
-rules_out_null c (Case k a b d) = false
+rules_out_null c e = false
 
 abbrev pub some_rules_out_null : List Expression → ℕ → Bool
 some_rules_out_null es c = list_any (rules_out_null c) es

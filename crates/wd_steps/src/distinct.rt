@@ -15,7 +15,7 @@ use crate::own::have_width;
 use std::alloc::Global;
 use std::cmp::Ordering;
 use wd_columns::{RowSource, moved_rows};
-use wd_sort::{all_positions, sorted_in};
+use wd_sort::{all_positions, sort_positions_in};
 use wd_value::{OutOfMemory, Row, SortColumn, SortKey, Value, compare};
 
 const ASCENDING: SortKey = SortKey {
@@ -99,7 +99,7 @@ fn sorted_by_values(
     ensures { IfOk result (λ v. IsSortOf columns.now rows.now v.items) }
 {
     let all = all_positions(alloc, rows.len())?;
-    let order = sorted_in(alloc, rows, columns, &all)?;
+    let order = sort_positions_in(alloc, rows, columns, &all)?;
     Ok(order)
 }
 

@@ -1,7 +1,7 @@
 //! What a Limit keeps.
 
 ghost use Rattle.std.specs.Prelude.{◌≡◌, IfOk, length, take_while};
-ghost use Rattle.wd_plan.specs.Outcomes.{cut, first_rows, peers};
+ghost use Rattle.wd_plan.specs.Outcomes.{limited_rows, first_rows, peers};
 ghost use Rattle.wd_plan.specs.Plans.{limit_of};
 ghost use Rattle.wd_steps.specs.Cuts.{IsSliceOf};
 ghost use Rattle.wd_value.specs.Rows.{row_at, rows_of, rows_at};
@@ -22,7 +22,7 @@ pub fn limit_rows(
     rows: &[Row],
     ordering: &[u64],
 ) -> Result<Vec<Row>, OutOfMemory>
-    ensures { IfOk result (λ v. rows_of v.items ≡ cut (limit_of limit.now) (rows_at (rows_of rows.now) ordering.now)) }
+    ensures { IfOk result (λ v. rows_of v.items ≡ limited_rows (limit_of limit.now) (rows_at (rows_of rows.now) ordering.now)) }
 {
     let kept = kept_positions(limit, &RowSource::of_rows(rows), ordering);
     let picked = copied_rows(alloc, rows, kept)?;
@@ -31,7 +31,7 @@ pub fn limit_rows(
 
 /// The part of the ordering that stands for the rows which `limit_rows` keeps.
 pub fn kept_positions<'a>(limit: &Limit, rows: &RowSource, ordering: &'a [u64]) -> &'a [u64]
-    ensures kept { rows_at rows.now result.now ≡ cut (limit_of limit.now) (rows_at rows.now ordering.now) }
+    ensures kept { rows_at rows.now result.now ≡ limited_rows (limit_of limit.now) (rows_at rows.now ordering.now) }
     ensures part { IsSliceOf ordering.now result.now }
 {
     let start = (limit.offset as usize).min(ordering.len());

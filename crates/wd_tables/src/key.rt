@@ -11,7 +11,7 @@ ghost use Rattle.wd_value.specs.Values.{same as same_values};
 use std::alloc::Global;
 use wd_columns::{Columns, RowSource};
 use wd_schema::{Key, is_null};
-use wd_sort::{all_positions, compare_source_at, sorted_in};
+use wd_sort::{all_positions, compare_source_at, sort_positions_in};
 use wd_value::{OutOfMemory, SortColumn, SortKey, Value, same};
 
 /// The first row that repeats an earlier one in some key.
@@ -40,7 +40,7 @@ fn first_repeat_in(alloc: Global, key: &Key, rows: &Columns) -> Result<Option<u6
     ensures { IfOk result (λ o. IsLeast (RepeatsIn (key_of key.now) rows.now) o) }
 {
     let columns = sort_columns(alloc, &key.columns)?;
-    let order = sorted_by(alloc, rows, &columns)?;
+    let order = sorted_positions(alloc, rows, &columns)?;
     Ok(first_violation(key, rows, &order))
 }
 
@@ -63,7 +63,11 @@ fn sort_columns(alloc: Global, columns: &[u16]) -> Result<Vec<SortColumn>, OutOf
 
 // The positions of the rows, sorted by columns; rows that tie on all of them keep their order. Rows that are already sorted, as in most
 // exports, take one pass.
-fn sorted_by(alloc: Global, rows: &Columns, columns: &[SortColumn]) -> Result<Vec<u64>, OutOfMemory>
+fn sorted_positions(
+    alloc: Global,
+    rows: &Columns,
+    columns: &[SortColumn],
+) -> Result<Vec<u64>, OutOfMemory>
     ensures { IfOk result (λ v. IsSortOf columns.now rows.now v.items) }
 {
     let source = RowSource::of_columns(rows);
@@ -71,7 +75,7 @@ fn sorted_by(alloc: Global, rows: &Columns, columns: &[SortColumn]) -> Result<Ve
     if are_in_order(&source, columns) {
         Ok(all)
     } else {
-        let order = sorted_in(alloc, &source, columns, &all)?;
+        let order = sort_positions_in(alloc, &source, columns, &all)?;
         Ok(order)
     }
 }

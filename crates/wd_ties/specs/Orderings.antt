@@ -1,7 +1,7 @@
 -- The orderings of a plan, as the columns by which each sorts the rows of a node.
 use Rattle.std.specs.Prelude.{List, [], ◌∷◌, ◌++◌, map}
 use Rattle.wd_value.specs.Keys.{key_columns}
-use Rattle.wd_plan.specs.Plans.{ClassRule, LimitRule, PlanTree, Scan, Join, Filter, Map, Group, Window, Distinct, Limit}
+use Rattle.wd_plan.specs.Plans.{ClassRule, LimitRule, PlanTree, Scan, Join, Over, Window, Limit}
 use Rattle.wd_plan.specs.Sorting.{class_columns}
 use Rattle.wd_candidates.specs.Tied.{NodeColumns}
 
@@ -16,9 +16,6 @@ of_limit node limit = record { node = node; columns = key_columns limit.keys }
 abbrev pub orderings : PlanTree → List NodeColumns
 orderings (Scan table columns) = []
 orderings (Join condition left right) = orderings left ++ orderings right
-orderings (Filter condition input) = orderings input
-orderings (Map outputs input) = orderings input
-orderings (Group g input) = orderings input
-orderings (Window w input) = orderings input ++ map (of_class input) w.classes
-orderings (Distinct input) = orderings input
-orderings (Limit limit input) = orderings input ++ of_limit input limit ∷ []
+orderings (Over (Window w) input) = orderings input ++ map (of_class input) w.classes
+orderings (Over (Limit limit) input) = orderings input ++ of_limit input limit ∷ []
+orderings (Over step input) = orderings input

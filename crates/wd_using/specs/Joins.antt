@@ -40,15 +40,15 @@ pub record JoinedTable : Type 0 where
   pub columns : List (List ℕ)
   pub condition : Condition
 
-abbrev pub alias_behind_as : Token → List Token → Alias
-alias_behind_as name [] = record { count = 1; name = name }
-alias_behind_as name (alias ∷ tokens) = if is_name alias.kind then record { count = 3; name = alias } else record { count = 1; name = name }
+abbrev pub alias_after_as : Token → List Token → Alias
+alias_after_as name [] = record { count = 1; name = name }
+alias_after_as name (alias ∷ tokens) = if is_name alias.kind then record { count = 3; name = alias } else record { count = 1; name = name }
 
 -- [[AS] alias] after a table's name
 abbrev pub alias_at : Token → List Token → Alias
 alias_at name [] = record { count = 1; name = name }
 alias_at name (next ∷ tokens) =
-    if is_as next.kind then alias_behind_as name tokens else (if is_name next.kind then record { count = 2; name = next } else record { count = 1; name = name })
+    if is_as next.kind then alias_after_as name tokens else (if is_name next.kind then record { count = 2; name = next } else record { count = 1; name = name })
 
 -- the declared table of that name
 abbrev pub declared : List TableRule → TokenKind → Option TableRule
@@ -166,14 +166,14 @@ with_source join tokens (Some source) = with_condition join (take source.alias.c
 abbrev pub joined_at : List TableRule → Token → List Token → Option JoinedTable
 joined_at tables join tokens = with_source join tokens (source_at tables tokens)
 
-abbrev pub with_behind : List Token → Option JoinedTable → Option (JoinedTable × List Token)
-with_behind behind None = None
-with_behind behind (Some table) = Some (table, behind)
+abbrev pub with_after : List Token → Option JoinedTable → Option (JoinedTable × List Token)
+with_after following None = None
+with_after following (Some table) = Some (table, following)
 
 -- FROM or JOIN, a table with its condition, and the tokens after it
 unfoldable pub table_at : List TableRule → List Token → Option (JoinedTable × List Token)
 table_at tables [] = None
-table_at tables (join ∷ tokens) = if begins_table join.kind then with_behind (drop (reach Table tokens) tokens) (joined_at tables join (take (reach Table tokens) tokens)) else None
+table_at tables (join ∷ tokens) = if begins_table join.kind then with_after (drop (reach Table tokens) tokens) (joined_at tables join (take (reach Table tokens) tokens)) else None
 
 -- the most tables of a FROM clause (this project's choice)
 abbrev pub most_tables : ℕ
@@ -184,7 +184,7 @@ is_end [] = true
 is_end (token ∷ tokens) = false
 
 abbrev pub with_next : (List Token → Option (List JoinedTable)) → JoinedTable → List Token → Option (List JoinedTable)
-with_next further table behind = if is_end behind then Some (table ∷ []) else with_front table (further behind)
+with_next further table following = if is_end following then Some (table ∷ []) else with_front table (further following)
 
 abbrev pub with_further : (List Token → Option (List JoinedTable)) → Option (JoinedTable × List Token) → Option (List JoinedTable)
 with_further further None = None

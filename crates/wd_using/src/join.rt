@@ -12,7 +12,7 @@ use crate::level::{Extent, split_at};
 use crate::source::{Source, source_at};
 use std::alloc::{AllocError, Global};
 use wd_clauses::{closing, is_name, parts};
-use wd_distinct_on::cut;
+use wd_distinct_on::split_at_place;
 use wd_lex::Token;
 use wd_schema::Schema;
 
@@ -141,8 +141,8 @@ fn joined_at<'t>(
     let Some(Source { columns, alias }) = source_at(alloc, schema, tokens)? else {
         return Ok(None);
     };
-    let (table, behind) = cut(alias.count, tokens);
-    match condition_at(alloc, alias.name, behind)? {
+    let (table, following) = split_at_place(alias.count, tokens);
+    match condition_at(alloc, alias.name, following)? {
         Some(condition) => Ok(Some(Joined {
             join,
             table,
@@ -169,9 +169,9 @@ fn table_at<'t>(
     if !begins_table(&join.kind) {
         return Ok(None);
     }
-    let (part, behind) = split_at(Extent::Table, rest);
+    let (part, following) = split_at(Extent::Table, rest);
     match joined_at(alloc, schema, join, part)? {
-        Some(table) => Ok(Some((table, behind))),
+        Some(table) => Ok(Some((table, following))),
         None => Ok(None),
     }
 }
@@ -201,12 +201,12 @@ pub fn joined_tables<'t>(
     let mut rest = tokens;
     for _ in 0..MOST_TABLES {
         match table_at(alloc, schema, rest)? {
-            Some((table, behind)) => {
+            Some((table, following)) => {
                 tables.push(table)?;
-                if is_end(behind) {
+                if is_end(following) {
                     return Ok(Some(tables));
                 }
-                rest = behind;
+                rest = following;
             }
             None => return Ok(None),
         }

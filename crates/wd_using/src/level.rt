@@ -79,7 +79,7 @@ fn reach(extent: Extent, tokens: &[Token]) -> usize
 /// The part that the tokens begin with, and the tokens after it.
 pub fn split_at(extent: Extent, tokens: &[Token]) -> (&[Token], &[Token])
     ensures part { result.0.now ≡ take (spec.reach extent tokens.now) tokens.now }
-    ensures behind { result.1.now ≡ drop (spec.reach extent tokens.now) tokens.now }
+    ensures following { result.1.now ≡ drop (spec.reach extent tokens.now) tokens.now }
 {
     let count = reach(extent, tokens);
     (&tokens[..count], &tokens[count..])

@@ -11,10 +11,10 @@ use crate::join::{Joined, joined_tables};
 use crate::kind::{begins_columns, ends_value, goes_on, is_star};
 use crate::merge::{Merged, merged_of, names_in, table_of};
 use crate::select::{Select, select_at};
-use crate::write::written;
+use crate::write::write_select;
 use std::alloc::Global;
 use wd_clauses::RespellError;
-use wd_distinct_on::{Selects, cut, respelled_backwards, starts_with_select};
+use wd_distinct_on::{Selects, respelled_backwards, split_at_place, starts_with_select};
 use wd_lex::{Token, TokenKind};
 use wd_schema::Schema;
 
@@ -79,7 +79,7 @@ fn if_clear(
     ensures { MayWrite (λ x. x.items) result (spec.if_clear front.now (pieces select.now) (map joined_table tables.now) (map merged_column merged.now)) }
 {
     if are_few(merged) && are_clear(merged, &select.select.kind, select.items) {
-        let tokens = written(alloc, front, merged, tables, select)?;
+        let tokens = write_select(alloc, front, merged, tables, select)?;
         return Ok(Some(tokens));
     }
     Ok(None)
@@ -132,7 +132,7 @@ fn respelled_at(
 ) -> Result<Option<Vec<Token>>, RespellError>
     ensures { MayWrite (λ x. x.items) result (spec.respelled_at (schema_of schema.now) place tokens.now) }
 {
-    let (front, rest) = cut(place, tokens);
+    let (front, rest) = split_at_place(place, tokens);
     match select_at(rest) {
         Some(select) => {
             let tokens = respelled_select(alloc, schema, front, &select)?;

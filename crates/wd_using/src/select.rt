@@ -8,7 +8,7 @@ ghost use Rattle.wd_using.specs.Pieces as spec;
 use crate::kind::{begins_distinct, begins_from, begins_on, has_select, is_select};
 use crate::level::{Extent, split_at};
 use wd_clauses::{Stop, split};
-use wd_distinct_on::cut;
+use wd_distinct_on::split_at_place;
 use wd_lex::Token;
 
 /// `SELECT [DISTINCT] items FROM tables clauses`, and the tokens after it.
@@ -26,13 +26,13 @@ pub struct Select<'t> {
 fn with_body<'t>(select: &'t Token, body: &'t [Token], after: &'t [Token]) -> Option<Select<'t>>
     ensures { Finds pieces result (spec.with_body select.now body.now after.now) }
 {
-    let (distinct, list) = cut(if begins_distinct(body) { 1 } else { 0 }, body);
+    let (distinct, list) = split_at_place(if begins_distinct(body) { 1 } else { 0 }, body);
     if begins_on(list) {
         return None;
     }
-    let (items, behind) = split(Stop::From, list);
-    let (tables, clauses) = split(Stop::Clause, behind);
-    if !begins_from(behind) {
+    let (items, following) = split(Stop::From, list);
+    let (tables, clauses) = split(Stop::Clause, following);
+    if !begins_from(following) {
         return None;
     }
     Some(Select {

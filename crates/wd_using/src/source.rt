@@ -12,7 +12,7 @@ ghost use Rattle.wd_using.specs.Named as named;
 use crate::kind::{begins_distinct, is_as, is_select, opens};
 use std::alloc::{AllocError, Global};
 use wd_clauses::{Stop, closing, is_name, parts, split};
-use wd_distinct_on::{cut, is_dot};
+use wd_distinct_on::{is_dot, split_at_place};
 use wd_lex::{Token, TokenKind};
 use wd_schema::{Column, Schema, Table};
 
@@ -31,8 +31,8 @@ pub struct Source<'t> {
 }
 
 /// `alias`, after a table's name and AS.
-fn alias_behind_as<'t>(name: &'t Token, tokens: &'t [Token]) -> Alias<'t>
-    ensures alias { named.table_alias result ≡ spec.alias_behind_as name.now tokens.now }
+fn alias_after_as<'t>(name: &'t Token, tokens: &'t [Token]) -> Alias<'t>
+    ensures alias { named.table_alias result ≡ spec.alias_after_as name.now tokens.now }
     ensures few { result.count ≤ 3 }
 {
     match tokens {
@@ -53,7 +53,7 @@ pub fn alias_at<'t>(name: &'t Token, tokens: &'t [Token]) -> Alias<'t>
         return Alias { count: 1, name };
     };
     if is_as(&next.kind) {
-        return alias_behind_as(name, rest);
+        return alias_after_as(name, rest);
     }
     if is_name(&next.kind) {
         return Alias {
@@ -65,7 +65,7 @@ pub fn alias_at<'t>(name: &'t Token, tokens: &'t [Token]) -> Alias<'t>
 }
 
 /// The declared table of that name.
-fn declared<'t>(schema: &'t Schema, name: &TokenKind) -> Option<&'t Table>
+fn declared_table<'t>(schema: &'t Schema, name: &TokenKind) -> Option<&'t Table>
     ensures { Finds (λ table. rules.table_of table.now) result (spec.declared (schema_of schema.now) name.now) }
 {
     match name {
@@ -87,8 +87,8 @@ fn column_of(tokens: &[Token]) -> Option<&Token>
 }
 
 /// The name after AS.
-pub fn behind_as(tokens: &[Token]) -> Option<&Token>
-    ensures { Finds (λ name. name.now) result (items.behind_as tokens.now) }
+pub fn after_as(tokens: &[Token]) -> Option<&Token>
+    ensures { Finds (λ name. name.now) result (items.after_as tokens.now) }
 {
     match tokens {
         [word, name] if is_as(&word.kind) && is_name(&name.kind) => Some(name),
@@ -101,7 +101,7 @@ fn item_name(tokens: &[Token]) -> Option<&Token>
     ensures { Finds (λ name. name.now) result (spec.name_in (items.item_of tokens.now)) }
 {
     let count = tokens.len().saturating_sub(2);
-    match behind_as(&tokens[count..]) {
+    match after_as(&tokens[count..]) {
         Some(name) => Some(name),
         None => column_of(tokens),
     }
@@ -153,8 +153,8 @@ fn derived_columns(alloc: Global, tokens: &[Token]) -> Result<Option<Vec<&[u8]>>
     if !is_select(&select.kind) {
         return Ok(None);
     }
-    let (_distinct, list) = cut(if begins_distinct(rest) { 1 } else { 0 }, rest);
-    let (items, _behind) = split(Stop::From, list);
+    let (_distinct, list) = split_at_place(if begins_distinct(rest) { 1 } else { 0 }, rest);
+    let (items, _after) = split(Stop::From, list);
     match parts(alloc, items)? {
         Some(parts) => {
             let names = item_names(alloc, &parts)?;
@@ -186,7 +186,7 @@ fn declared_source<'t>(
 ) -> Result<Option<Source<'t>>, AllocError>
     ensures { IfOk result (λ found. Finds named.table_source found (spec.declared_source (named.table_alias alias.entry) (spec.declared (schema_of schema.now) name.now))) }
 {
-    match declared(schema, name) {
+    match declared_table(schema, name) {
         Some(table) => {
             let columns = names_of_columns(alloc, &table.columns)?;
             Ok(Some(Source { columns, alias }))

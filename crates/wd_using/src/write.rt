@@ -13,7 +13,7 @@ use crate::kind::{goes_on, is_taken};
 use crate::merge::{Merged, table_of};
 use crate::select::Select;
 use std::alloc::Global;
-use wd_clauses::{RespellError, add, add_all, added, copy_token};
+use wd_clauses::{RespellError, add, add_all, added_terminal, copy_token};
 use wd_lex::{Terminal, Token, TokenKind};
 
 /// Adds `table.name`; all tokens but the name have the place of a word.
@@ -33,7 +33,7 @@ fn add_of_table(
             span: word.span,
         },
     )?;
-    add(written, added(Terminal::Dot, word))?;
+    add(written, added_terminal(Terminal::Dot, word))?;
     add(written, copy_token(name)?)?;
     Ok(())
 }
@@ -108,7 +108,7 @@ fn add_comparison(
 {
     let word = table.condition.word;
     add_column(written, merged, word, name)?;
-    add(written, added(Terminal::Equals, word))?;
+    add(written, added_terminal(Terminal::Equals, word))?;
     add_of_table(written, word, name, table.alias)?;
     Ok(())
 }
@@ -123,7 +123,7 @@ fn add_compared(
 ) -> Result<(), RespellError>
     ensures { Writes written.old.items written.new.items result (spelling.added first table.now.condition.word.now ∷ spec.comparison (map named.merged_column merged.now) (named.joined_table table.now) name.now) }
 {
-    add(written, added(first, table.condition.word))?;
+    add(written, added_terminal(first, table.condition.word))?;
     add_comparison(written, merged, table, name)?;
     Ok(())
 }
@@ -196,7 +196,7 @@ fn add_select(
 }
 
 /// What replaces a select after these tokens.
-pub fn written(
+pub fn write_select(
     alloc: Global,
     front: &[Token],
     merged: &[Merged],

@@ -10,7 +10,7 @@ use Rattle.wd_facts.specs.Given.{table_rule}
 use Rattle.wd_candidates.specs.declared.outline.Outline.{Outline}
 use Rattle.wd_candidates.specs.Candidates.{cell}
 use Rattle.wd_candidates.specs.Fixed.{fixed_value}
-use Rattle.wd_candidates.specs.Origins.{is_scanned}
+use Rattle.wd_plan.specs.Plans.{is_scanned}
 use Rattle.wd_candidates.specs.Outlines.{fixed_in, scanned_in}
 use Rattle.wd_varied.specs.Patterns.{FillingRule, filled}
 use Rattle.wd_varied.specs.Suggested.{hints_of}

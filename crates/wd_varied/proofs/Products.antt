@@ -2,7 +2,7 @@
 use Rattle.std.proofs.Common.{◌≡◌, ℕ, ◌*◌, ◌^◌, ◌≤◌, leb, nat_le, min, Bool, true, false, refl, sym, ◌∙◌, ap, arith}
 use Rattle.std.proofs.Math.Nat.{le-mul_of_pos_right, min-eq_left, min-eq_right, mul_comm}
 use Rattle.std.proofs.lemmas.Bool.{leb-false, leb-true, lt-leb}
-use Rattle.wd_plan.specs.Plans.{PlanTree, Scan, Join, Filter, Map, Group, Window, Distinct, Limit}
+use Rattle.wd_plan.specs.Plans.{PlanTree, Scan, Join, Over}
 use Rattle.wd_varied.specs.Sizes.{paired}
 
 -- tables with rows pair to some
@@ -13,12 +13,7 @@ some_pairs rows (Join condition left right) h =
     let b = some_pairs rows right h in
     let more : paired rows left ≤ paired rows left * paired rows right = le-mul_of_pos_right (paired rows left) b in
     omega (arith, a, more)
-some_pairs rows (Filter condition input) h = some_pairs rows input h
-some_pairs rows (Map outputs input) h = some_pairs rows input h
-some_pairs rows (Group g input) h = some_pairs rows input h
-some_pairs rows (Window w input) h = some_pairs rows input h
-some_pairs rows (Distinct input) h = some_pairs rows input h
-some_pairs rows (Limit limit input) h = some_pairs rows input h
+some_pairs rows (Over step input) h = some_pairs rows input h
 
 -- a product is counted up to a bound by factors that are
 product : (a b most : ℕ) → 1 ≤ a → 1 ≤ b → 1 ≤ most → min (min a most * min b most) most ≡ min (a * b) most

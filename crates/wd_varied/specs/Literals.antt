@@ -2,7 +2,7 @@
 use Rattle.std.specs.Prelude.{ℕ, List, [], ◌∷◌, ◌++◌, flat_map, Option, Some, None, option_map, option_to_list}
 use Rattle.wd_value.specs.declared.value.Value.{Value}
 use Rattle.wd_plan.specs.Expressions.{Expression, Column, Literal, Negate, Arithmetic, Compare, Not, And, Or, IsNull, IsNotNull, Case}
-use Rattle.wd_plan.specs.Plans.{PlanTree, Scan, Join, Filter, Map, Group, Window, Distinct, Limit}
+use Rattle.wd_plan.specs.Plans.{PlanTree, Scan, Join, Over, Filter, Map}
 use Rattle.wd_step_facts.specs.Steps.{Side, Plain, Fixed, Other, side_of}
 use Rattle.wd_candidates.specs.declared.origins.TableColumn.{TableColumn}
 use Rattle.wd_candidates.specs.Origins.{origin}
@@ -35,12 +35,9 @@ literals_of (Some condition) = literals_in condition
 abbrev pub literals : PlanTree → List Value
 literals (Scan table columns) = []
 literals (Join condition left right) = (literals left ++ literals right) ++ literals_of condition
-literals (Filter condition input) = literals input ++ literals_in condition
-literals (Map outputs input) = literals input ++ flat_map literals_in outputs
-literals (Group g input) = literals input
-literals (Window w input) = literals input
-literals (Distinct input) = literals input
-literals (Limit limit input) = literals input
+literals (Over (Filter condition) input) = literals input ++ literals_in condition
+literals (Over (Map outputs) input) = literals input ++ flat_map literals_in outputs
+literals (Over step input) = literals input
 
 -- ---- comparisons of columns
 
@@ -98,17 +95,9 @@ equated_by GreaterOrEqual origins a b = []
 
 -- the equations that hold where a condition does, those of a right operand before those of the left
 abbrev pub equated_in : (ℕ → Option TableColumn) → Expression → List Equated
-equated_in origins (Column c) = []
-equated_in origins (Literal v kind) = []
-equated_in origins (Negate a) = []
-equated_in origins (Arithmetic o a b) = []
 equated_in origins (Compare o a b) = equated_by o origins (side_of a) (side_of b)
-equated_in origins (Not a) = []
 equated_in origins (And a b) = equated_in origins b ++ equated_in origins a
-equated_in origins (Or a b) = []
-equated_in origins (IsNull a) = []
-equated_in origins (IsNotNull a) = []
-equated_in origins (Case k a b c) = []
+equated_in origins e = []
 
 -- ---- in a plan
 
@@ -121,12 +110,8 @@ in_join f origins (Some condition) = f origins condition
 abbrev pub in_conditions : {X : Type 0} → ((ℕ → Option TableColumn) → Expression → List X) → PlanTree → List X
 in_conditions f (Scan table columns) = []
 in_conditions f (Join condition left right) = (in_conditions f left ++ in_conditions f right) ++ in_join f (origin (Join condition left right)) condition
-in_conditions f (Filter condition input) = in_conditions f input ++ f (origin input) condition
-in_conditions f (Map outputs input) = in_conditions f input
-in_conditions f (Group g input) = in_conditions f input
-in_conditions f (Window w input) = in_conditions f input
-in_conditions f (Distinct input) = in_conditions f input
-in_conditions f (Limit limit input) = in_conditions f input
+in_conditions f (Over (Filter condition) input) = in_conditions f input ++ f (origin input) condition
+in_conditions f (Over step input) = in_conditions f input
 
 abbrev pub compared : PlanTree → List Compared
 compared plan = in_conditions compared_in plan

@@ -3,7 +3,7 @@ use Rattle.std.specs.Prelude.{ℕ, ◌+◌, ◌*◌, ◌&&◌, ◌||◌, Bool, f
 use Rattle.std.specs.List.{list_any, range_with_len}
 use Rattle.wd_value.specs.declared.value.Value.{Value}
 use Rattle.wd_value.specs.declared.value.Value.TheVariants.{Null, Int, Text, Bool as Truth}
-use Rattle.wd_plan.specs.Plans.{LimitRule, PlanTree, Scan, Join, Filter, Map, Group, Window, Distinct, Limit}
+use Rattle.wd_plan.specs.Plans.{LimitRule, PlanTree, Scan, Join, Over, Limit}
 use Rattle.wd_varied.specs.Literals.{literals}
 
 -- one or two more than a number
@@ -29,23 +29,14 @@ reach limit = limit.offset + or_none limit.count
 abbrev pub is_past_limit : ℕ → PlanTree → Bool
 is_past_limit rows (Scan table columns) = false
 is_past_limit rows (Join condition left right) = is_past_limit rows left || is_past_limit rows right
-is_past_limit rows (Filter condition input) = is_past_limit rows input
-is_past_limit rows (Map outputs input) = is_past_limit rows input
-is_past_limit rows (Group g input) = is_past_limit rows input
-is_past_limit rows (Window w input) = is_past_limit rows input
-is_past_limit rows (Distinct input) = is_past_limit rows input
-is_past_limit rows (Limit limit input) = is_past_limit rows input || is_past (reach limit) rows
+is_past_limit rows (Over (Limit limit) input) = is_past_limit rows input || is_past (reach limit) rows
+is_past_limit rows (Over step input) = is_past_limit rows input
 
 -- how many rows the pairs of a plan's tables have, with the given number of rows each; a table that is read twice counts twice
 abbrev pub paired : ℕ → PlanTree → ℕ
 paired rows (Scan table columns) = rows
 paired rows (Join condition left right) = paired rows left * paired rows right
-paired rows (Filter condition input) = paired rows input
-paired rows (Map outputs input) = paired rows input
-paired rows (Group g input) = paired rows input
-paired rows (Window w input) = paired rows input
-paired rows (Distinct input) = paired rows input
-paired rows (Limit limit input) = paired rows input
+paired rows (Over step input) = paired rows input
 
 -- 2; and 3, 4, and those one or two more than a literal or than a Limit reaches, if the tables pair to no more than 16,384 rows
 abbrev pub is_size : PlanTree → ℕ → Bool

@@ -5,11 +5,10 @@ use Rattle.wd_value.specs.Bags.{positions}
 use Rattle.wd_value.specs.Rows.{Instance, Row}
 use Rattle.wd_schema.specs.declared.table.Column.{Column}
 use Rattle.wd_schema.specs.Tables.{KeyRule, TableRule}
-use Rattle.wd_plan.specs.Plans.{PlanTree}
+use Rattle.wd_plan.specs.Plans.{PlanTree, is_scanned}
 use Rattle.wd_facts.specs.Given.{table_rule}
 use Rattle.wd_candidates.specs.Candidates.{cell}
 use Rattle.wd_candidates.specs.Fixed.{fixed_value}
-use Rattle.wd_candidates.specs.Origins.{is_scanned}
 use Rattle.wd_candidates.specs.Outlines.{IsOutline}
 use Rattle.wd_candidates.specs.declared.outline.Outline.{Outline}
 use Rattle.wd_varied.specs.Patterns.{FillingRule, drawn, filled, pattern_by}

@@ -1,7 +1,7 @@
 -- The work of an evaluation for each row of the pairs of a plan's tables, in units of about five nanoseconds.
 use Rattle.std.specs.Prelude.{ℕ, ◌+◌, ◌*◌, List, [], ◌∷◌, length, Option, Some, None}
 use Rattle.wd_plan.specs.Expressions.{Expression, Column, Literal, Negate, Arithmetic, Compare, Not, And, Or, IsNull, IsNotNull, Case}
-use Rattle.wd_plan.specs.Plans.{ClassRule, PlanTree, Scan, Join, Filter, Map, Group, Window, Distinct, Limit}
+use Rattle.wd_plan.specs.Plans.{ClassRule, Step, PlanTree, Scan, Join, Over, Filter, Map, Group, Window, Distinct, Limit}
 
 -- 3 for each column and each literal that an expression reads
 abbrev pub expression_work : Expression → ℕ
@@ -37,13 +37,17 @@ abbrev pub sets_work : List (List ℕ) → ℕ
 sets_work [] = 0
 sets_work (set ∷ sets) = columns_work (length set) + sets_work sets
 
--- 12 for each column of a table; 5 for each call
+-- the work of a step for each row; 5 for each call
+abbrev pub step_work : Step → ℕ
+step_work (Filter condition) = expression_work condition
+step_work (Map outputs) = expressions_work outputs
+step_work (Group g) = sets_work g.sets + 5 * length g.calls
+step_work (Window w) = classes_work w.classes + 5 * length w.calls
+step_work Distinct = columns_work 0
+step_work (Limit limit) = columns_work (length limit.keys)
+
+-- 12 for each column of a table
 abbrev pub row_work : PlanTree → ℕ
 row_work (Scan table columns) = 12 * columns
 row_work (Join condition left right) = (row_work left + row_work right) + condition_work condition
-row_work (Filter condition input) = row_work input + expression_work condition
-row_work (Map outputs input) = row_work input + expressions_work outputs
-row_work (Group g input) = (row_work input + sets_work g.sets) + 5 * length g.calls
-row_work (Window w input) = (row_work input + classes_work w.classes) + 5 * length w.calls
-row_work (Distinct input) = row_work input + columns_work 0
-row_work (Limit limit input) = row_work input + columns_work (length limit.keys)
+row_work (Over step input) = row_work input + step_work step

@@ -5,7 +5,7 @@ use Rattle.std.specs.List.{list_all}
 use Rattle.std.proofs.lemmas.Option.{slice_get-map}
 use Rattle.wd_schema.specs.Tables.{TableRule}
 use Rattle.wd_plan.specs.Fits.{width}
-use Rattle.wd_plan.specs.Plans.{PlanTree, Scan, Join, Filter, Map, Group, Window, Distinct, Limit, GroupRule}
+use Rattle.wd_plan.specs.Plans.{PlanTree, Scan, Join, Over, Filter, Map, Group, Window, Distinct, Limit, GroupRule}
 use Rattle.wd_certificate.specs.Certificates.{KeptRecord, NodeRecord, TraceRecord}
 use Rattle.wd_step_facts.specs.declared.facts.Member.{Member}
 use Rattle.wd_step_facts.specs.declared.facts.Member.TheVariants as member
@@ -71,12 +71,12 @@ pub given_alike : (tables : List TableRule) (plan : PlanTree) (kept others more 
 given_alike tables (Scan table columns) kept others more rest a b = alike_self _
 given_alike tables (Join condition left right) kept others more rest a b =
     alike_append _ _ _ _ (alike_append _ _ _ _ (alike_append _ _ _ _ (alike_append _ _ _ _ (alike_moved (λ c. c) member.Left kept others a) (alike_moved (λ c. width left + c) member.Right more rest b)) (alike_self _)) (alike_self _)) (alike_self _)
-given_alike tables (Filter condition input) kept others more rest a b = alike_append _ _ _ _ (alike_append _ _ _ _ a (alike_self _)) (alike_self _)
-given_alike tables (Map outputs input) kept others more rest a b = alike_append _ _ _ _ (alike_moved (λ c. length outputs + c) member.Row kept others a) (alike_self _)
-given_alike tables (Group g input) kept others more rest a b = alike_append _ _ _ _ (alike_self _) (alike_of_group g kept others a)
-given_alike tables (Window w input) kept others more rest a b = alike_append _ _ _ _ a (alike_self _)
-given_alike tables (Distinct input) kept others more rest a b = alike_append _ _ _ _ a (alike_self (key_fact member.Row (all_columns (width input)) ∷ []))
-given_alike tables (Limit limit input) kept others more rest a b = a
+given_alike tables (Over (Filter condition) input) kept others more rest a b = alike_append _ _ _ _ (alike_append _ _ _ _ a (alike_self _)) (alike_self _)
+given_alike tables (Over (Map outputs) input) kept others more rest a b = alike_append _ _ _ _ (alike_moved (λ c. length outputs + c) member.Row kept others a) (alike_self _)
+given_alike tables (Over (Group g) input) kept others more rest a b = alike_append _ _ _ _ (alike_self _) (alike_of_group g kept others a)
+given_alike tables (Over (Window w) input) kept others more rest a b = alike_append _ _ _ _ a (alike_self _)
+given_alike tables (Over Distinct input) kept others more rest a b = alike_append _ _ _ _ a (alike_self (key_fact member.Row (all_columns (width input)) ∷ []))
+given_alike tables (Over (Limit limit) input) kept others more rest a b = a
 
 -- other facts at the same node
 abbrev pub with_list : FactList → List Fact → FactList
@@ -85,12 +85,7 @@ with_list facts list = record { columns = facts.columns; split = facts.split; li
 pub given_with : (tables : List TableRule) (plan : PlanTree) (kept others more rest : List Fact) → given tables plan others rest ≡ with_list (given tables plan kept more) (given tables plan others rest).list
 given_with tables (Scan table columns) kept others more rest = refl
 given_with tables (Join condition left right) kept others more rest = refl
-given_with tables (Filter condition input) kept others more rest = refl
-given_with tables (Map outputs input) kept others more rest = refl
-given_with tables (Group g input) kept others more rest = refl
-given_with tables (Window w input) kept others more rest = refl
-given_with tables (Distinct input) kept others more rest = refl
-given_with tables (Limit limit input) kept others more rest = refl
+given_with tables (Over step input) kept others more rest = refl
 
 -- what an entry keeps
 pub lean_from : (traces : List TraceRecord) (n : ℕ) → columns_once (trace_or (slice_get traces n)).from ≡ (trace_or (slice_get (map lean_trace traces) n)).from

@@ -1,4 +1,4 @@
--- Traces behind others.
+-- Traces after others.
 use Rattle.std.proofs.Common.{◌≡◌, ℕ, zero, suc, ◌+◌, ◌<◌, arith, drop, get_or, length, Bool, true, ◌&&◌, map, nat_lt, slice_get, Option, Some, None, ◌≢◌, IfOk, IfErr, List, [], ◌∷◌, ◌++◌, refl, ap, ◌∙◌, sym, Result, Ok, Err}
 use Rattle.std.proofs.Math.Seq.{drop-cons}
 use Rattle.std.proofs.lemmas.List.{append_assoc, map-append}
@@ -27,7 +27,7 @@ use Rattle.wd_sets.specs.Sets.{has}
 use Rattle.wd_node_facts.specs.declared.facts.Followed.{Followed}
 use Rattle.wd_verify.proofs.Once.{targets_all}
 
--- traces that are good, behind those before
+-- traces that are good, after those before
 abbrev pub after : List Traced → Result (List Traced) CertError → Result (List Traced) CertError
 after before (Ok shown) = Ok (before ++ shown)
 after before (Err refusal) = Err refusal

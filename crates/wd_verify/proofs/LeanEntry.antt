@@ -6,7 +6,7 @@ use Rattle.wd_plan.specs.declared.window.Call.{Call}
 use Rattle.wd_plan.specs.Fits.{width}
 use Rattle.wd_plan.specs.Frames.{is_stable}
 use Rattle.wd_plan.specs.Outcomes.{class_at}
-use Rattle.wd_plan.specs.Plans.{PlanTree, Scan, Join, Filter, Map, Group, Window, Distinct, Limit, WindowRule, LimitRule}
+use Rattle.wd_plan.specs.Plans.{PlanTree, Scan, Join, Over, Filter, Map, Group, Window, Distinct, Limit, WindowRule, LimitRule}
 use Rattle.wd_plan.specs.Sorting.{class_columns, limit_class, order_columns}
 use Rattle.wd_certificate.specs.Certificates.{KeptRecord, NodeRecord, TraceRecord}
 use Rattle.wd_certificate.specs.declared.certificate.Rule.{Rule}
@@ -159,12 +159,12 @@ module _ (node : ℕ) (facts : FactList) (list : List Fact) where
   rules_alike : (shown : List Traced) (plan : PlanTree) (entry : NodeRecord) → rules_refusal (evidence shown) plan entry ≡ rules_refusal (lean_evidence shown) plan (lean_entry entry)
   rules_alike shown (Scan table columns) entry = refl
   rules_alike shown (Join condition left right) entry = refl
-  rules_alike shown (Filter condition input) entry = refl
-  rules_alike shown (Map outputs input) entry = refl
-  rules_alike shown (Group g input) entry = refl
-  rules_alike shown (Window w input) entry = ap (λ r. or_else r (refuse_unless (has_one_exchange w.calls entry.calls) (SecondExchange node))) (calls_alike (width input) shown w w.calls entry.calls)
-  rules_alike shown (Distinct input) entry = refl
-  rules_alike shown (Limit limit input) entry = limit_alike (width input) shown limit entry.limit
+  rules_alike shown (Over (Filter condition) input) entry = refl
+  rules_alike shown (Over (Map outputs) input) entry = refl
+  rules_alike shown (Over (Group g) input) entry = refl
+  rules_alike shown (Over (Window w) input) entry = ap (λ r. or_else r (refuse_unless (has_one_exchange w.calls entry.calls) (SecondExchange node))) (calls_alike (width input) shown w w.calls entry.calls)
+  rules_alike shown (Over Distinct input) entry = refl
+  rules_alike shown (Over (Limit limit) input) entry = limit_alike (width input) shown limit entry.limit
 
   claims_alike : (plan : PlanTree) (entry : NodeRecord) (r : Result (List Traced) CertError) → claims_refusal node facts plan entry r ≡ claims_refusal node Other plan (lean_entry entry) (lean_shown r)
   claims_alike plan entry (Err refusal) = refl

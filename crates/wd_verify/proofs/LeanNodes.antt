@@ -1,7 +1,7 @@
 -- The entries of a plan and their lean forms are refused alike.
 use Rattle.std.proofs.Common.{◌≡◌, ℕ, zero, suc, ◌+◌, List, [], ◌∷◌, map, refl, sym, ◌∙◌, ap, subst}
 use Rattle.wd_schema.specs.Tables.{TableRule}
-use Rattle.wd_plan.specs.Plans.{PlanTree, Scan, Join, Filter, Map, Group, Window, Distinct, Limit, node_count}
+use Rattle.wd_plan.specs.Plans.{PlanTree, Scan, Join, Over, node_count}
 use Rattle.wd_certificate.specs.Certificates.{NodeRecord, node_of}
 use Rattle.wd_certificate.specs.declared.certificate.Node.{Node}
 use Rattle.wd_facts.specs.Given.{given}
@@ -26,22 +26,12 @@ module _ (tables : List TableRule) (nodes : List NodeRecord) where
   below_lean : (plan : PlanTree) (first : ℕ) → AreAlike (kept_below plan first nodes) (kept_below plan first Lean)
   below_lean (Scan table columns) first = tt
   below_lean (Join condition left right) first = kept_lean left first
-  below_lean (Filter condition input) first = kept_lean input first
-  below_lean (Map outputs input) first = kept_lean input first
-  below_lean (Group g input) first = kept_lean input first
-  below_lean (Window w input) first = kept_lean input first
-  below_lean (Distinct input) first = kept_lean input first
-  below_lean (Limit limit input) first = kept_lean input first
+  below_lean (Over step input) first = kept_lean input first
 
   right_lean : (plan : PlanTree) (first : ℕ) → AreAlike (kept_right plan first nodes) (kept_right plan first Lean)
   right_lean (Scan table columns) first = tt
   right_lean (Join condition left right) first = kept_lean right (first + node_count left)
-  right_lean (Filter condition input) first = tt
-  right_lean (Map outputs input) first = tt
-  right_lean (Group g input) first = tt
-  right_lean (Window w input) first = tt
-  right_lean (Distinct input) first = tt
-  right_lean (Limit limit input) first = tt
+  right_lean (Over step input) first = tt
 
   top_lean : (plan : PlanTree) (first : ℕ) → top_refusal tables plan first nodes ≡ top_refusal tables plan first Lean
   top_lean plan first =
@@ -58,12 +48,7 @@ module _ (tables : List TableRule) (nodes : List NodeRecord) where
   pub nodes_lean : (plan : PlanTree) (first : ℕ) → nodes_refusal tables plan first nodes ≡ nodes_refusal tables plan first Lean
   nodes_lean (Scan table columns) first = top_lean (Scan table columns) first
   nodes_lean (Join condition left right) first = λ i. or_else (nodes_lean left first i) (or_else (nodes_lean right (first + node_count left) i) (top_lean (Join condition left right) first i))
-  nodes_lean (Filter condition input) first = λ i. or_else (nodes_lean input first i) (top_lean (Filter condition input) first i)
-  nodes_lean (Map outputs input) first = λ i. or_else (nodes_lean input first i) (top_lean (Map outputs input) first i)
-  nodes_lean (Group g input) first = λ i. or_else (nodes_lean input first i) (top_lean (Group g input) first i)
-  nodes_lean (Window w input) first = λ i. or_else (nodes_lean input first i) (top_lean (Window w input) first i)
-  nodes_lean (Distinct input) first = λ i. or_else (nodes_lean input first i) (top_lean (Distinct input) first i)
-  nodes_lean (Limit limit input) first = λ i. or_else (nodes_lean input first i) (top_lean (Limit limit input) first i)
+  nodes_lean (Over step input) first = λ i. or_else (nodes_lean input first i) (top_lean (Over step input) first i)
 
 pub lean_nodes : (nodes : List Node) → map lean_entry (map node_of nodes) ≡ map lean_of nodes
 lean_nodes [] = refl

@@ -37,7 +37,7 @@ started node facts has trace e h =
 pub not_started : (node : ℕ) (facts : FactList) (trace : TraceRecord) → list_all (λ c. nat_lt c facts.columns) trace.from ≡ false → traced node facts trace ≡ Err (OutOfRange node)
 not_started node facts trace e = ap (λ b. cond b (with_uses node facts (stands_in (columns_named trace.from)) trace.uses) (Err (OutOfRange node))) e
 
--- the uses of a trace, behind its start
+-- the uses of a trace, after its start
 pub after_start : (node : ℕ) (facts : FactList) (has : Member → Bool) (trace : TraceRecord) (uses : List ℕ) → list_all (λ c. nat_lt c facts.columns) trace.from ≡ true → ((m : Member) → has m ≡ stands_in (columns_named trace.from) m) → uses ≡ trace.uses
     → traced node facts trace ≡ with_uses node facts has uses
 after_start node facts has trace uses e h u = sym (started node facts has trace e h) ∙ ap (with_uses node facts has) (sym u)

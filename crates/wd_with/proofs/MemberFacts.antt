@@ -12,44 +12,44 @@ without-push [] member query = refl
 without-push (first ∷ members) member query = ap (taken_out first) (without-push members member query)
 
 -- those after others
-abbrev pub behind : List NamedQuery → Members → Members
-behind front None = None
-behind front (Some found) = Some (front ++ found.0, found.1)
+abbrev pub following : List NamedQuery → Members → Members
+following front None = None
+following front (Some found) = Some (front ++ found.0, found.1)
 
-behind_front : (front : List NamedQuery) (member : NamedQuery) (found : Members) → behind front (with_front member found) ≡ behind (front ++ member ∷ []) found
-behind_front front member None = refl
-behind_front front member (Some found) = ap (λ (xs : List NamedQuery). let m : Members = Some (xs, found.1) in m) (sym (append_assoc front (member ∷ []) found.0))
+after_front : (front : List NamedQuery) (member : NamedQuery) (found : Members) → following front (with_front member found) ≡ following (front ++ member ∷ []) found
+after_front front member None = refl
+after_front front member (Some found) = ap (λ (xs : List NamedQuery). let m : Members = Some (xs, found.1) in m) (sym (append_assoc front (member ∷ []) found.0))
 
 -- no member begins there
-pub members_none : (n i : ℕ) (front : List NamedQuery) (tokens : List Token) (total : Members) → i < n → member_at tokens ≡ None → behind front (members_at (n - i) tokens) ≡ total → total ≡ None
+pub members_none : (n i : ℕ) (front : List NamedQuery) (tokens : List Token) (total : Members) → i < n → member_at tokens ≡ None → following front (members_at (n - i) tokens) ≡ total → total ≡ None
 unfolding members_at
 members_none n i front tokens total lt e so_far =
     let k : n - i ≡ suc (n - (i + 1)) = omega arith in
-    let one : behind front (members_at (n - i) tokens) ≡ None = rw (k, e) refl in
+    let one : following front (members_at (n - i) tokens) ≡ None = rw (k, e) refl in
     sym so_far ∙ one
 
 -- the last member stands there
-pub members_last : (n i : ℕ) (front : List NamedQuery) (member : NamedQuery) (tokens after : List Token) (total : Members) → i < n → member_at tokens ≡ Some (member, after) → past_comma after ≡ None → behind front (members_at (n - i) tokens) ≡ total → total ≡ Some (front ++ member ∷ [], after)
+pub members_last : (n i : ℕ) (front : List NamedQuery) (member : NamedQuery) (tokens after : List Token) (total : Members) → i < n → member_at tokens ≡ Some (member, after) → past_comma after ≡ None → following front (members_at (n - i) tokens) ≡ total → total ≡ Some (front ++ member ∷ [], after)
 unfolding members_at
 members_last n i front member tokens after total lt e ends so_far =
     let k : n - i ≡ suc (n - (i + 1)) = omega arith in
-    let one : behind front (members_at (n - i) tokens) ≡ Some (front ++ member ∷ [], after) = rw (k, e, ends) refl in
+    let one : following front (members_at (n - i) tokens) ≡ Some (front ++ member ∷ [], after) = rw (k, e, ends) refl in
     sym so_far ∙ one
 
 -- a member stands there, and a further one after a comma
-pub members_more : (n i : ℕ) (front : List NamedQuery) (member : NamedQuery) (tokens after next : List Token) (total : Members) → i < n → member_at tokens ≡ Some (member, after) → past_comma after ≡ Some next → behind front (members_at (n - i) tokens) ≡ total → behind (front ++ member ∷ []) (members_at (n - (i + 1)) next) ≡ total
+pub members_more : (n i : ℕ) (front : List NamedQuery) (member : NamedQuery) (tokens after next : List Token) (total : Members) → i < n → member_at tokens ≡ Some (member, after) → past_comma after ≡ Some next → following front (members_at (n - i) tokens) ≡ total → following (front ++ member ∷ []) (members_at (n - (i + 1)) next) ≡ total
 unfolding members_at
 members_more n i front member tokens after next total lt e goes so_far =
     let k : n - i ≡ suc (n - (i + 1)) = omega arith in
-    let one : behind front (members_at (n - i) tokens) ≡ behind (front ++ member ∷ []) (members_at (n - (i + 1)) next) = rw (k, e, goes) (behind_front front member (members_at (n - (i + 1)) next)) in
+    let one : following front (members_at (n - i) tokens) ≡ following (front ++ member ∷ []) (members_at (n - (i + 1)) next) = rw (k, e, goes) (after_front front member (members_at (n - (i + 1)) next)) in
     sym one ∙ so_far
 
 -- there were as many as there may be
-pub members_over : (n i : ℕ) (front : List NamedQuery) (tokens : List Token) (total : Members) → n ≤ i → behind front (members_at (n - i) tokens) ≡ total → total ≡ None
+pub members_over : (n i : ℕ) (front : List NamedQuery) (tokens : List Token) (total : Members) → n ≤ i → following front (members_at (n - i) tokens) ≡ total → total ≡ None
 unfolding members_at
 members_over n i front tokens total over so_far =
     let k : n - i ≡ 0 = omega arith in
-    let one : behind front (members_at (n - i) tokens) ≡ None = rw k refl in
+    let one : following front (members_at (n - i) tokens) ≡ None = rw k refl in
     sym so_far ∙ one
 
 -- the last member is taken out

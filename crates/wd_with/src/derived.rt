@@ -11,7 +11,7 @@ ghost use Rattle.wd_with.specs.Named.{named_query};
 use crate::member::{Member, is_as};
 use crate::place::{Place, is_table, pass};
 use std::alloc::Global;
-use wd_clauses::{RespellError, add, add_all, added, copy_token, is_name, is_same_name};
+use wd_clauses::{RespellError, add, add_all, added_terminal, copy_token, is_name, is_same_name};
 use wd_lex::{Terminal, Token, TokenKind};
 
 /// A query with a derived table in place of each table of a name, and how many of these there were.
@@ -68,7 +68,7 @@ fn add_alias(written: &mut Vec<Token>, table: &Token, after: &[Token]) -> Result
     if begins_as(after) {
         return Ok(());
     }
-    add(written, added(Terminal::As, table))?;
+    add(written, added_terminal(Terminal::As, table))?;
     if begins_name(after) {
         return Ok(());
     }
@@ -85,9 +85,9 @@ fn add_derived(
 ) -> Result<(), RespellError>
     ensures { Writes written.old.items written.new.items result (spec.derived query.now table.now after.now) }
 {
-    add(written, added(Terminal::LeftBracket, table))?;
+    add(written, added_terminal(Terminal::LeftBracket, table))?;
     add_all(written, query)?;
-    add(written, added(Terminal::RightBracket, table))?;
+    add(written, added_terminal(Terminal::RightBracket, table))?;
     add_alias(written, table, after)?;
     Ok(())
 }
@@ -112,7 +112,11 @@ fn add_written(
 
 /// A query with the member's query in place of each table of its name.
 #[tactic(auto, unfolding(crate::specs::Derived::replaced, crate::specs::Derived::uses))]
-pub fn replaced(alloc: Global, member: &Member, tokens: &[Token]) -> Result<Respelled, RespellError>
+pub fn replace_uses(
+    alloc: Global,
+    member: &Member,
+    tokens: &[Token],
+) -> Result<Respelled, RespellError>
     ensures tokens { Makes (λ x. x.tokens.items) (λ x. x) result (spec.replaced (named_query member.now) (Elsewhere ∷ []) tokens.now) }
     ensures uses { IfOk result (λ x. x.uses ≡ spec.uses (named_query member.now) (Elsewhere ∷ []) tokens.now) }
 {

@@ -5,10 +5,10 @@ ghost use Rattle.wd_with.specs.Expanded as spec;
 ghost use Rattle.wd_clauses.specs.Given.{Makes};
 ghost use Rattle.wd_with.specs.Named.{named_query};
 
-use crate::derived::replaced;
+use crate::derived::replace_uses;
 use crate::member::{Member, are_distinct, is_with, members_at};
 use std::alloc::Global;
-use wd_clauses::{RespellError, copied, copy_token};
+use wd_clauses::{RespellError, copy_token, copy_tokens};
 use wd_lex::Token;
 
 /// A query without its WITH clause.
@@ -20,24 +20,24 @@ pub struct Expanded {
 }
 
 /// A query as it is.
-fn unchanged(alloc: Global, tokens: &[Token]) -> Result<Expanded, RespellError>
+fn copy_query(alloc: Global, tokens: &[Token]) -> Result<Expanded, RespellError>
     ensures { Makes spec.said (λ s. s.tokens) result (spec.unchanged tokens.now) }
 {
     Ok(Expanded {
-        tokens: copied(alloc, tokens)?,
+        tokens: copy_tokens(alloc, tokens)?,
         read_twice: Vec::new(alloc),
     })
 }
 
 /// A query without one member.
-fn taken_out(alloc: Global, member: &Member, query: Expanded) -> Result<Expanded, RespellError>
+fn without_member(alloc: Global, member: &Member, query: Expanded) -> Result<Expanded, RespellError>
     ensures { Makes spec.said (λ s. s.tokens) result (spec.taken_out (named_query member.now) (spec.said query)) }
 {
     let Expanded {
         tokens,
         mut read_twice,
     } = query;
-    let found = replaced(alloc, member, &tokens)?;
+    let found = replace_uses(alloc, member, &tokens)?;
     if found.uses >= 2 {
         read_twice.push(copy_token(member.name)?)?;
     }
@@ -55,9 +55,9 @@ fn without(
 ) -> Result<Expanded, RespellError>
     ensures { Makes spec.said (λ s. s.tokens) result (spec.without (map named_query members.entry.items) (spec.unchanged query.now)) }
 {
-    let mut expanded = unchanged(alloc, query)?;
+    let mut expanded = copy_query(alloc, query)?;
     while let Some(member) = members.pop() {
-        expanded = taken_out(alloc, &member, expanded)?;
+        expanded = without_member(alloc, &member, expanded)?;
     }
     Ok(expanded)
 }
@@ -67,18 +67,18 @@ pub fn without_with(alloc: Global, tokens: &[Token]) -> Result<Expanded, Respell
     ensures { Makes spec.said (λ s. s.tokens) result (spec.expanded tokens.now) }
 {
     let [first, rest @ ..] = tokens else {
-        return unchanged(alloc, tokens);
+        return copy_query(alloc, tokens);
     };
     if !is_with(&first.kind) {
-        return unchanged(alloc, tokens);
+        return copy_query(alloc, tokens);
     }
     match members_at(alloc, rest)? {
         Some((members, query)) => {
             if are_distinct(&members) {
                 return without(alloc, members, query);
             }
-            unchanged(alloc, tokens)
+            copy_query(alloc, tokens)
         }
-        None => unchanged(alloc, tokens),
+        None => copy_query(alloc, tokens),
     }
 }

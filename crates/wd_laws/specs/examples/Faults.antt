@@ -8,51 +8,51 @@ use Rattle.wd_plan.specs.declared.expression.ComparisonOp.TheVariants.{Equal, No
 use Rattle.wd_plan.specs.declared.expression.ValueKind.TheVariants.{Number}
 use Rattle.wd_plan.specs.Expressions.{Column, Literal, Negate, Arithmetic, Compare}
 use Rattle.wd_plan.specs.Outcomes.{outcome}
-use Rattle.wd_plan.specs.Plans.{PlanTree, Join, Filter, Map}
+use Rattle.wd_plan.specs.Plans.{PlanTree, Join, Filter, Map, Over}
 use Rattle.wd_laws.specs.examples.Literals.{n, minus, num, ascending, row_number, sum, over, call, window, select, limited, scan_t, four_rows, one_row, greatest_and_more, zero_and_greatest, greatest_beside_zero, row, only, a, b}
 
 -- SELECT 10 / v, v + 1 FROM t
 abbrev pub two_outputs : PlanTree
-two_outputs = Map (Arithmetic Divide (num 10) (Column 2) ∷ Arithmetic Add (Column 2) (num 1) ∷ []) scan_t
+two_outputs = Over (Map (Arithmetic Divide (num 10) (Column 2) ∷ Arithmetic Add (Column 2) (num 1) ∷ [])) scan_t
 
 -- SELECT v + 1, 10 / u FROM t
 abbrev pub other_outputs : PlanTree
-other_outputs = Map (Arithmetic Add (Column 2) (num 1) ∷ Arithmetic Divide (num 10) (Column 3) ∷ []) scan_t
+other_outputs = Over (Map (Arithmetic Add (Column 2) (num 1) ∷ Arithmetic Divide (num 10) (Column 3) ∷ [])) scan_t
 
 -- SELECT (v + 1) + 10 / u FROM t
 abbrev pub left_first : PlanTree
-left_first = Map (Arithmetic Add (Arithmetic Add (Column 2) (num 1)) (Arithmetic Divide (num 10) (Column 3)) ∷ []) scan_t
+left_first = Over (Map (Arithmetic Add (Arithmetic Add (Column 2) (num 1)) (Arithmetic Divide (num 10) (Column 3)) ∷ [])) scan_t
 
 -- SELECT -9223372036854775808 / -1 FROM t
 abbrev pub least_divided : PlanTree
-least_divided = Map (Arithmetic Divide (Literal (minus 9223372036854775808) Number) (Literal (minus 1) Number) ∷ []) scan_t
+least_divided = Over (Map (Arithmetic Divide (Literal (minus 9223372036854775808) Number) (Literal (minus 1) Number) ∷ [])) scan_t
 
 -- SELECT v % 0 FROM t
 abbrev pub remaining : PlanTree
-remaining = Map (Arithmetic Remainder (Column 2) (num 0) ∷ []) scan_t
+remaining = Over (Map (Arithmetic Remainder (Column 2) (num 0) ∷ [])) scan_t
 
 -- SELECT -v FROM t
 abbrev pub negated_v : PlanTree
-negated_v = Map (Negate (Column 2) ∷ []) scan_t
+negated_v = Over (Map (Negate (Column 2) ∷ [])) scan_t
 
 -- SELECT v - 1 FROM t
 abbrev pub less_one : PlanTree
-less_one = Map (Arithmetic Subtract (Column 2) (num 1) ∷ []) scan_t
+less_one = Over (Map (Arithmetic Subtract (Column 2) (num 1) ∷ [])) scan_t
 
 -- SELECT id FROM t WHERE 10 / v = 1
 abbrev pub filtered : PlanTree
-filtered = select (0 ∷ []) (Filter (Compare Equal (Arithmetic Divide (num 10) (Column 2)) (num 1)) scan_t)
+filtered = select (0 ∷ []) (Over (Filter (Compare Equal (Arithmetic Divide (num 10) (Column 2)) (num 1))) scan_t)
 
 -- SELECT 10 / v FROM t WHERE v <> 0
 abbrev pub filtered_first : PlanTree
-filtered_first = Map (Arithmetic Divide (num 10) (Column 2) ∷ []) (Filter (Compare NotEqual (Column 2) (num 0)) scan_t)
+filtered_first = Over (Map (Arithmetic Divide (num 10) (Column 2) ∷ [])) (Over (Filter (Compare NotEqual (Column 2) (num 0))) scan_t)
 
 -- SELECT * FROM (SELECT v + 1 FROM t) AS x CROSS JOIN (SELECT 10 / u FROM t) AS y
 abbrev pub joined_faults : PlanTree
 joined_faults =
     Join None
-    (Map (Arithmetic Add (Column 2) (num 1) ∷ []) scan_t)
-    (Map (Arithmetic Divide (num 10) (Column 3) ∷ []) scan_t)
+    (Over (Map (Arithmetic Add (Column 2) (num 1) ∷ [])) scan_t)
+    (Over (Map (Arithmetic Divide (num 10) (Column 3) ∷ [])) scan_t)
 
 -- SELECT * FROM t AS a JOIN t AS b ON a.v / b.v = 1
 abbrev pub joined_by_a_fault : PlanTree
@@ -67,11 +67,11 @@ abbrev pub numbered_over_a_fault : PlanTree
 numbered_over_a_fault =
     select (1 ∷ [])
     (window (over [] (ascending 0 ∷ []) ∷ []) (call 0 row_number ∷ [])
-    (Map (Arithmetic Divide (num 10) (Column 2) ∷ []) scan_t))
+    (Over (Map (Arithmetic Divide (num 10) (Column 2) ∷ [])) scan_t))
 
 -- SELECT 10 / v FROM t LIMIT 1
 abbrev pub limited_over_a_fault : PlanTree
-limited_over_a_fault = limited [] 0 (Some 1) false (Map (Arithmetic Divide (num 10) (Column 2) ∷ []) scan_t)
+limited_over_a_fault = limited [] 0 (Some 1) false (Over (Map (Arithmetic Divide (num 10) (Column 2) ∷ [])) scan_t)
 
 -- Which fault a step has, and which it does not have.
 pub record FaultsComeOut : Type 0 where

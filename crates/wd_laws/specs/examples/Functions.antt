@@ -8,7 +8,7 @@ use Rattle.wd_plan.specs.declared.window.Frame.{Frame}
 use Rattle.wd_plan.specs.declared.expression.ComparisonOp.TheVariants.{Equal}
 use Rattle.wd_plan.specs.Expressions.{Column, Compare}
 use Rattle.wd_plan.specs.Outcomes.{outcome}
-use Rattle.wd_plan.specs.Plans.{PlanTree, Filter}
+use Rattle.wd_plan.specs.Plans.{PlanTree, Filter, Over}
 use Rattle.wd_laws.specs.examples.Literals.{n, minus, num, ascending, descending, row_number, rank, dense_rank, ntile, lag, lead, first_value, last_value, nth_value, count_rows, count, sum, min, max, over, between, call, call_in, window, select, scan_t, four_rows, two_groups, greatest_and_more, row, only, a, b, c, d}
 use Rattle.wd_plan.specs.declared.window.Exclusion.TheVariants as exclude
 
@@ -79,7 +79,7 @@ total_of_all = select (1 ∷ []) (window (over [] [] ∷ []) (call 0 (sum 0) ∷
 abbrev pub first_of_each : PlanTree
 first_of_each =
     select (0 ∷ 1 ∷ [])
-    (Filter (Compare Equal (Column 2) (num 1))
+    (Over (Filter (Compare Equal (Column 2) (num 1)))
     (select (0 ∷ 1 ∷ 3 ∷ [])
     (window (over (1 ∷ []) (ascending 2 ∷ ascending 0 ∷ []) ∷ []) (call 0 row_number ∷ [])
     (select (0 ∷ 1 ∷ 2 ∷ []) scan_t))))

@@ -8,12 +8,12 @@ use Rattle.wd_plan.specs.declared.expression.ComparisonOp.TheVariants.{Greater}
 use Rattle.wd_plan.specs.declared.function.Aggregate.TheVariants as of_rows
 use Rattle.wd_plan.specs.Expressions.{Column, Compare}
 use Rattle.wd_plan.specs.Outcomes.{Agree, outcome}
-use Rattle.wd_plan.specs.Plans.{GroupCall, OfRows, Grouping, PlanTree, Filter, Group}
+use Rattle.wd_plan.specs.Plans.{GroupCall, OfRows, Grouping, PlanTree, Filter, Group, Over}
 use Rattle.wd_laws.specs.examples.Literals.{n, num, ascending, descending, row_number, sum, over, call, window, select, scan_t, only, row, four_rows, two_groups, greatest_and_more, a, b, c, d}
 
 -- these grouping sets of the first N columns, with these calls for each group
 abbrev pub group : ℕ → List (List ℕ) → List GroupCall → PlanTree → PlanTree
-group columns sets calls input = Group (record { columns = columns; sets = sets; calls = calls }) input
+group columns sets calls input = Over (Group (record { columns = columns; sets = sets; calls = calls })) input
 
 abbrev pub count_of_rows : GroupCall
 count_of_rows = OfRows of_rows.CountRows
@@ -29,7 +29,7 @@ rolled_up =
 abbrev pub more_than_one : PlanTree
 more_than_one =
     select (0 ∷ 1 ∷ [])
-    (Filter (Compare Greater (Column 1) (num 1))
+    (Over (Filter (Compare Greater (Column 1) (num 1)))
     (group 1 ((0 ∷ []) ∷ []) (count_of_rows ∷ [])
     (select (2 ∷ []) scan_t)))
 

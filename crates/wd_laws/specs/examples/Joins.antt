@@ -6,7 +6,7 @@ use Rattle.wd_value.specs.Rows.{Instance}
 use Rattle.wd_plan.specs.declared.expression.ComparisonOp.TheVariants.{Equal, Greater}
 use Rattle.wd_plan.specs.Expressions.{Column, Compare, Not, IsNotNull}
 use Rattle.wd_plan.specs.Outcomes.{outcome}
-use Rattle.wd_plan.specs.Plans.{PlanTree, Scan, Join, Filter, Distinct}
+use Rattle.wd_plan.specs.Plans.{PlanTree, Scan, Join, Filter, Distinct, Over}
 use Rattle.wd_laws.specs.examples.Literals.{n, num, ascending, descending, row_number, over, call, window, select, limited, scan_t, four_rows, four_rows_reversed, row, only, a, b, c, d}
 
 -- SELECT a.id, b.id, ROW_NUMBER() OVER (ORDER BY a.id, b.id) FROM t AS a JOIN t AS b ON a.v = b.v
@@ -42,11 +42,11 @@ joined_limits =
 
 -- SELECT id FROM t WHERE v = 10
 abbrev pub with_ten : PlanTree
-with_ten = select (0 ∷ []) (Filter (Compare Equal (Column 2) (num 10)) scan_t)
+with_ten = select (0 ∷ []) (Over (Filter (Compare Equal (Column 2) (num 10))) scan_t)
 
 -- SELECT id FROM t WHERE NOT (v = 10)
 abbrev pub not_with_ten : PlanTree
-not_with_ten = select (0 ∷ []) (Filter (Not (Compare Equal (Column 2) (num 10))) scan_t)
+not_with_ten = select (0 ∷ []) (Over (Filter (Not (Compare Equal (Column 2) (num 10)))) scan_t)
 
 -- SELECT id, ROW_NUMBER() OVER (ORDER BY u) FROM t WHERE u IS NOT NULL
 abbrev pub numbered_where_unique : PlanTree
@@ -54,15 +54,15 @@ numbered_where_unique =
     select (0 ∷ 2 ∷ [])
     (window (over [] (ascending 1 ∷ []) ∷ []) (call 0 row_number ∷ [])
     (select (0 ∷ 3 ∷ [])
-    (Filter (IsNotNull (Column 3)) scan_t)))
+    (Over (Filter (IsNotNull (Column 3))) scan_t)))
 
 -- SELECT DISTINCT v FROM t
 abbrev pub keys_once : PlanTree
-keys_once = Distinct (select (2 ∷ []) scan_t)
+keys_once = Over Distinct (select (2 ∷ []) scan_t)
 
 -- SELECT DISTINCT v FROM t ORDER BY v DESC FETCH FIRST 2 ROWS ONLY
 abbrev pub greatest_once : PlanTree
-greatest_once = limited (descending 0 ∷ []) 0 (Some 2) false (Distinct (select (2 ∷ []) scan_t))
+greatest_once = limited (descending 0 ∷ []) 0 (Some 2) false (Over Distinct (select (2 ∷ []) scan_t))
 
 -- The rows of joins, conditions and DISTINCT.
 pub record JoinsComeOut : Type 0 where

@@ -20,7 +20,7 @@ use Rattle.wd_plan.specs.declared.window.FrameMode.{FrameMode}
 use Rattle.wd_plan.specs.declared.window.FrameMode.TheVariants.{Range}
 use Rattle.wd_plan.specs.declared.expression.ValueKind.TheVariants.{Number}
 use Rattle.wd_plan.specs.Expressions.{Expression, Column, Literal}
-use Rattle.wd_plan.specs.Plans.{ClassRule, PlanTree, Scan, Map, Window, Limit}
+use Rattle.wd_plan.specs.Plans.{ClassRule, Map, Window, Limit, PlanTree, Scan, Over}
 
 -- ---- values
 
@@ -138,14 +138,14 @@ call = call_in default_frame
 -- ---- plans
 
 abbrev pub window : List ClassRule → List Call → PlanTree → PlanTree
-window classes calls input = Window (record { classes = classes; calls = calls }) input
+window classes calls input = Over (Window (record { classes = classes; calls = calls })) input
 
 -- the columns with these numbers
 abbrev pub select : List ℕ → PlanTree → PlanTree
-select columns input = Map (map Column columns) input
+select columns input = Over (Map (map Column columns)) input
 
 abbrev pub limited : List SortColumn → ℕ → Option ℕ → Bool → PlanTree → PlanTree
-limited keys offset count ties input = Limit (record { keys = keys; offset = offset; count = count; ties = ties }) input
+limited keys offset count ties input = Over (Limit (record { keys = keys; offset = offset; count = count; ties = ties })) input
 
 -- ---- the table t, with the columns id, g, v and u
 

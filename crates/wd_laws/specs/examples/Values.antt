@@ -10,7 +10,7 @@ use Rattle.wd_plan.specs.declared.expression.ValueKind.TheVariants.{Number}
 use Rattle.wd_plan.specs.declared.expression.Branch.TheVariants.{First}
 use Rattle.wd_plan.specs.Expressions.{Expression, Literal, Negate, Arithmetic, Compare, Not, And, Or, IsNull, IsNotNull, Case, value_of}
 use Rattle.wd_plan.specs.Outcomes.{outcome}
-use Rattle.wd_plan.specs.Plans.{PlanTree, Map}
+use Rattle.wd_plan.specs.Plans.{PlanTree, Map, Over}
 use Rattle.wd_laws.specs.examples.Literals.{n, minus, text, truth, num, scan_t, four_rows, one_row}
 use Rattle.wd_plan.specs.declared.expression.ValueKind.TheVariants as kind
 
@@ -46,17 +46,17 @@ all_fine = map (λ v. Ok v)
 
 -- SELECT 9 - (4 - 2), 9 - 4 - 2, -7 / 2, -7 % 2, -9223372036854775808 % -1 FROM t
 abbrev pub computed : PlanTree
-computed = Map
+computed = Over (Map
     (Arithmetic Subtract (num 9) (Arithmetic Subtract (num 4) (num 2))
     ∷ Arithmetic Subtract (Arithmetic Subtract (num 9) (num 4)) (num 2)
     ∷ Arithmetic Divide (neg 7) (num 2)
     ∷ Arithmetic Remainder (neg 7) (num 2)
     ∷ Arithmetic Remainder (neg 9223372036854775808) (neg 1)
-    ∷ []) scan_t
+    ∷ [])) scan_t
 
 -- SELECT NOT NOT TRUE FROM t
 abbrev pub not_not : PlanTree
-not_not = Map (Not (Not (is (truth true))) ∷ []) scan_t
+not_not = Over (Map (Not (Not (is (truth true))) ∷ [])) scan_t
 
 -- The values of expressions.
 pub record ValuesComeOut : Type 0 where

@@ -1,8 +1,8 @@
 use Rattle.std.proofs.Common.{◌≡◌, ◌+◌, ◌-◌, ◌*◌, length}
-use Rattle.wd_amounts.specs.declared.token.Stop.TheVariants.{Branch, Factor, Sign}
+use Rattle.wd_units.specs.declared.token.Stop.TheVariants.{Branch, Factor, Sign}
 use Rattle.wd_amounts.specs.Seen.{known_seen}
 use Rattle.wd_amounts.specs.Terms.{chain_from, chain_of, factor_unit, term_unit, unit_within}
-use Rattle.wd_amounts.specs.Units.{branched, joined}
+use Rattle.wd_units.specs.Units.{operation_unit, with_branch}
 use Rattle.wd_amounts.proofs.operand.+unit_within.Given as goal
 
 abbrev pub decreases-unit_within : goal.decreases-unit_within
@@ -32,14 +32,14 @@ decreases-factor_unit l = 5 * l.depth + 1
 abbrev pub invariant-unit_within-loop : goal.invariant-unit_within-loop
 invariant-unit_within-loop l =
     let known = known_seen l.known in
-    chain_from Sign joined (term_unit (unit_within known (l.depth - 1)) known) (length l.tokens - l.counter) l.unit l.rest ≡ unit_within known l.depth l.tokens
+    chain_from Sign operation_unit (term_unit (unit_within known (l.depth - 1)) known) (length l.tokens - l.counter) l.unit l.rest ≡ unit_within known l.depth l.tokens
 
 abbrev pub invariant-branches_unit-loop : goal.invariant-branches_unit-loop
 invariant-branches_unit-loop l =
     let part = unit_within (known_seen l.known) l.depth in
-    chain_from Branch branched part (length l.inside - l.counter) l.unit l.rest ≡ chain_of Branch branched part l.inside
+    chain_from Branch with_branch part (length l.inside - l.counter) l.unit l.rest ≡ chain_of Branch with_branch part l.inside
 
 abbrev pub invariant-multiple_unit-loop : goal.invariant-multiple_unit-loop
 invariant-multiple_unit-loop l =
     let known = known_seen l.known in
-    chain_from Factor joined (factor_unit (unit_within known l.depth) known) (length l.tokens - l.counter) l.unit l.rest ≡ chain_of Factor joined (factor_unit (unit_within known l.depth) known) l.tokens
+    chain_from Factor operation_unit (factor_unit (unit_within known l.depth) known) (length l.tokens - l.counter) l.unit l.rest ≡ chain_of Factor operation_unit (factor_unit (unit_within known l.depth) known) l.tokens

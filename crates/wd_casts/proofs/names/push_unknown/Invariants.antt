@@ -1,6 +1,6 @@
 use Rattle.std.proofs.Common.{◌≡◌, ◌++◌, length, map}
 use Rattle.wd_casts.specs.Names.{unknown_uses}
-use Rattle.wd_casts.specs.Seen.{use_seen}
+use Rattle.wd_amounts.specs.Seen.{use_seen}
 use Rattle.wd_casts.proofs.names.push_unknown.Given as goal
 
 abbrev pub invariant-loop-rest : goal.invariant-loop-rest

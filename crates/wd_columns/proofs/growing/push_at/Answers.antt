@@ -2,7 +2,7 @@ use Rattle.std.proofs.Common.{◌≡◌, ◌∙◌, [], ◌∷◌, ◌++◌, set
 use Rattle.std.proofs.lemmas.List.{get_or-map, map-set}
 use Rattle.wd_value.specs.Rows.{row_at, rows_of}
 use Rattle.wd_columns.proofs.Places.{items}
-use Rattle.wd_columns.proofs.Rooms.{behind}
+use Rattle.wd_columns.proofs.Rooms.{after}
 use Rattle.wd_columns.proofs.growing.push_at.Goals as goal
 
 pub returns-then-place-len-clause-within : goal.returns-then-place-len-clause-within
@@ -13,4 +13,4 @@ returns-then-place-len-clause-within c within =
     map-set items columns c.args.place c.push_value.new.column ∙ ap (set (rows_of columns) c.args.place) (c.push_value.ensures ∙ ap (λ column. column ++ c.args.value ∷ []) (sym before))
 
 pub returns-then-place-len-clause-room : goal.returns-then-place-len-clause-room
-returns-then-place-len-clause-room c = behind c.args.columns.now.items c.args.place c.push_value.new.column (omega arith) c.requires
+returns-then-place-len-clause-room c = after c.args.columns.now.items c.args.place c.push_value.new.column (omega arith) c.requires

@@ -11,11 +11,11 @@ loop-i-preserved c =
     let rows = rows_of c.args.rows.items in
     let within : i < length ps = omega arith in
     let p = get_or ps i 0 in
-    let row = c.taken.result in
-    let is : row.items ≡ row_at rows p = c.taken.ensures.taken ∙ c.loop-i.invariant.left i (omega arith) within in
+    let row = c.take_row.result in
+    let is : row.items ≡ row_at rows p = c.take_row.ensures.taken ∙ c.loop-i.invariant.left i (omega arith) within in
     record {
       picked = ap rows_of c.in_ok-push.ensures.items ∙ map_push items c.loop-i.picked.items row
           ∙ (λ j. c.loop-i.invariant.picked j ++ is j ∷ [])
           ∙ sym (map_more (row_at rows) ps i 0 within);
-      left = λ k low high. (c.taken.ensures.others (get_or ps k 0) (λ e. c.requires i k (omega arith) high (sym e)) ∙ c.loop-i.invariant.left k (omega arith) high);
+      left = λ k low high. (c.take_row.ensures.others (get_or ps k 0) (λ e. c.requires i k (omega arith) high (sym e)) ∙ c.loop-i.invariant.left k (omega arith) high);
     }

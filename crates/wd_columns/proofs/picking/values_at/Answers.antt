@@ -10,9 +10,9 @@ loop-i-preserved c =
     let ps = c.args.positions.now in
     let column = c.args.column.items in
     let within : i < length ps = omega arith in
-    let value = c.taken.result in
-    let is : value ≡ get_or column (get_or ps i 0) Null = c.taken.ensures.taken ∙ c.loop-i.invariant.left i (omega arith) within in
+    let value = c.take_value.result in
+    let is : value ≡ get_or column (get_or ps i 0) Null = c.take_value.ensures.taken ∙ c.loop-i.invariant.left i (omega arith) within in
     record {
       picked = c.in_ok-push.ensures.items ∙ (λ j. c.loop-i.invariant.picked j ++ is j ∷ []) ∙ sym (map_more (λ p. at p column) ps i 0 within);
-      left = λ k low high. (c.taken.ensures.others (get_or ps k 0) (λ e. c.requires i k (omega arith) high (sym e)) ∙ c.loop-i.invariant.left k (omega arith) high);
+      left = λ k low high. (c.take_value.ensures.others (get_or ps k 0) (λ e. c.requires i k (omega arith) high (sym e)) ∙ c.loop-i.invariant.left k (omega arith) high);
     }

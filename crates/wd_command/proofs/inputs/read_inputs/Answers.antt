@@ -6,8 +6,8 @@ use Rattle.wd_command.specs.Words.{Check, Explain, Verify, Refute, Run, inputs_o
 use Rattle.wd_command.specs.declared.failure.Failure.{Failure}
 use Rattle.wd_command.specs.declared.task.Table.{Table}
 use Rattle.wd_command.specs.declared.task.Task.{Task as CodeTask}
-use Rattle.wd_command.proofs.FailureLemmas.{IfErr-from_same, IsUnread-behind, IsUnread-weaker}
-use Rattle.wd_command.proofs.FilesLemmas.{AllRead-trans, StandsNext-before, StandsNext-behind}
+use Rattle.wd_command.proofs.FailureLemmas.{IfErr-from_same, IsUnread-after, IsUnread-weaker}
+use Rattle.wd_command.proofs.FilesLemmas.{AllRead-trans, StandsNext-before, StandsNext-after}
 use Rattle.wd_command.proofs.inputs.read_inputs.Goals as goal
 
 abbrev inputs : CodeTask (Bor (List ℕ)) → List (List ℕ)
@@ -26,7 +26,7 @@ of_more : (task : CodeTask (Bor (List ℕ))) (schema query schema_text query_tex
     → (failure : Failure) → IsUnread (StandsNext more) middle after failure → IsUnread (StandsNext (inputs task)) before after failure
 of_more task schema query schema_text query_text more before middle after is read failure h =
     subst (λ paths. IsUnread (StandsNext paths) before after failure) (sym is)
-    (IsUnread-behind before middle after _ _ _ read (StandsNext-behind ((schema, schema_text) ∷ (query, query_text) ∷ []) more) failure h)
+    (IsUnread-after before middle after _ _ _ read (StandsNext-after ((schema, schema_text) ∷ (query, query_text) ∷ []) more) failure h)
 
 pub returns-in_err-schema-in-Verify-clause-err : goal.returns-in_err-schema-in-Verify-clause-err
 returns-in_err-schema-in-Verify-clause-err g c =

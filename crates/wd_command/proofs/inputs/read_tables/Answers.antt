@@ -4,8 +4,8 @@ use Rattle.std.proofs.lemmas.Simd.{map-map}
 use Rattle.wd_command.specs.Files.{AllRead, AreTableTexts, File, Reads, StandsNext}
 use Rattle.wd_command.specs.Inputs.{table_by}
 use Rattle.wd_command.specs.declared.task.Table.{Table}
-use Rattle.wd_command.proofs.FailureLemmas.{IfErr-from_same, IsUnread-behind}
-use Rattle.wd_command.proofs.FilesLemmas.{AllRead-trans, StandsNext-before, StandsNext-behind}
+use Rattle.wd_command.proofs.FailureLemmas.{IfErr-from_same, IsUnread-after}
+use Rattle.wd_command.proofs.FilesLemmas.{AllRead-trans, StandsNext-before, StandsNext-after}
 use Rattle.wd_command.proofs.inputs.read_tables.Goals as goal
 
 abbrev named : List (Table (Bor (List ℕ))) → List (List ℕ × List ℕ)
@@ -38,12 +38,12 @@ next_path tables read i d below same files path next =
     subst (λ ps. StandsNext ps (map file_of read ++ files) path)
     (ap (λ before. (before ++ here ∷ []) ++ paths (named (drop (suc i) tables))) front ∙ paths_at tables i d below)
     (StandsNext-before (map (λ (f : File). f.0) (map file_of read) ++ here ∷ []) (paths (named (drop (suc i) tables))) (map file_of read ++ files) path
-    (StandsNext-behind (map file_of read) (here ∷ []) files path next))
+    (StandsNext-after (map file_of read) (here ∷ []) files path next))
 
 pub returns-in_err-file-clause-err : goal.returns-in_err-file-clause-err
 returns-in_err-file-clause-err g c =
     IfErr-from_same c.from_residual-in_err-file.result c.in_err-file.field-0.0 _ c.from_residual-in_err-file.ensures.1
-    (IsUnread-behind _ _ _ _ _ _ c.loop-table.invariant.read
+    (IsUnread-after _ _ _ _ _ _ c.loop-table.invariant.read
     (next_path c.args.tables.now c.loop-table.invariant.tables c.loop-table.table-index _ c.loop-table-test.true c.loop-table.invariant.named)
     c.in_err-file.field-0.0 c.in_err-file.ensures.err)
 

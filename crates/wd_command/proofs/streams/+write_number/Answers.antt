@@ -5,7 +5,7 @@ use Rattle.std.proofs.KnownBytes.{Appends-nil, Appends-trans}
 use Rattle.std.proofs.lemmas.Fmt.{decimal_digit, decimal_step}
 use Rattle.std.proofs.lemmas.Result.{on_ok_weaker}
 use Rattle.wd_command.specs.Streams.{AppendsPart}
-use Rattle.wd_command.proofs.StreamLemmas.{AppendsPart-first, AppendsPart-behind}
+use Rattle.wd_command.proofs.StreamLemmas.{AppendsPart-first, AppendsPart-after}
 use Rattle.wd_command.proofs.streams.+write_number.Goals as goal
 use Rattle.wd_command.proofs.streams.+write_number.Goals.{then-number-ge10+in_ok-write_number, else-number-ge10}
 
@@ -58,4 +58,4 @@ returns-clause-part g t c =
         digits = one_digit c.args.number w.if-number-ge10.false;
       })
     ] in
-    subst (AppendsPart _ _) (sym f.digits) (AppendsPart-behind _ _ _ f.front _ [] f.written c.write_text.ensures.part)
+    subst (AppendsPart _ _) (sym f.digits) (AppendsPart-after _ _ _ f.front _ [] f.written c.write_text.ensures.part)

@@ -32,7 +32,7 @@ loop-call-preserved c =
             | inl before ↦ (
                 let same : get_or (columns_of c.push.new.self.items) k [] ≡ get_or (columns_of old) k [] = ap (λ cs. get_or cs k []) all ∙ get_or_append_left (columns_of old) (column.items ∷ []) [] k (omega arith) in
                 subst (λ vs. IsOf (get_or calls k call) vs) (sym same) (c.loop-call.invariant.1 orderings listed k call before))
-            | inr behind ↦ (
+            | inr after ↦ (
                 let here : i ≡ k = omega arith in
                 let same : get_or (columns_of c.push.new.self.items) k [] ≡ column.items = ap (λ cs. get_or cs k []) all ∙ get_or_push (columns_of old) column.items [] k (omega arith) in
                 let needs : AreAskedBy c.call-item.result.frame (asks_keys w c.call-item.result.class) =

@@ -40,7 +40,7 @@ returns-in-Some c = λ class asked ordering needs l filled. (
     let within : p < length rows = c.requires in
     let there : Some member ≡ slice_get c.args.class_index.now.partitions p = ap (option_map member_rule) (sym c.in-Some.is) ∙ c.member.ensures in
     let is = own_of class asked rows ordering p within member (ap (λ ms. slice_get ms p) (sym l.members) ∙ sym there) in
-    filled_before class rows ordering l.lawful c.args.call.now p c.args.column.now.items (λ e. (let same = ap (λ (m : MemberRule). m.place) is in let behind = c.if-member-gt0.true in omega arith)) filled)
+    filled_before class rows ordering l.lawful c.args.call.now p c.args.column.now.items (λ e. (let same = ap (λ (m : MemberRule). m.place) is in let after = c.if-member-gt0.true in omega arith)) filled)
 
 pub returns-in-None : goal.returns-in-None
 returns-in-None c = λ class asked ordering needs l filled. (

@@ -39,8 +39,8 @@ returns-then-evaluated-len-clause-refused c =
     let long = length-map c.args.choice.now.orderings.items (λ v. v.items) in
     let next = x.next in
     let at : evaluated.next ≡ ordering_count plan = omega arith in
-    let behind : evaluated.next < length choice = omega arith in
-    surplus_refused plan instance choice evaluated.next x.served at behind
+    let after : evaluated.next < length choice = omega arith in
+    surplus_refused plan instance choice evaluated.next x.served at after
 
 pub returns-clause-outcome : goal.returns-clause-outcome
 returns-clause-outcome c =

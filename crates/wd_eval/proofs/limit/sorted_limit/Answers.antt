@@ -30,4 +30,4 @@ returns c =
     let at : number ≡ length old = (let long = length-map made (λ v. v.items) in omega arith) in
     let grown : new ≡ old ++ own ∷ [] = ap orderings_of c.in_ok-push.ensures.items ∙ map_push (λ v. v.items) made c.in_ok-ordering.ordering in
     let is = subst (λ ps. o ≡ cut_over limit ps input) c.deref.ensures.value c.in_ok-relation.ensures in
-    limit_tied_from limit input c.args.turned old new own number c.turn_of-turn.result at grown c.in_ok-ordering.ensures o c.turn_of-turn.ensures is
+    limit_tied_from limit input c.args.turned old new own number c.turn_of-turn.result o at c.turn_of-turn.ensures c.in_ok-ordering.ensures grown is

@@ -11,7 +11,7 @@ use Rattle.wd_eval.proofs.window.put_sorted.Goals as goal
 
 pub loop-number-init : goal.loop-number-init
 loop-number-init c = record {
-  put = none_put (window_of c.args.window.now) (Ok c.args.rows.now) c.args.turned (orderings_of c.args.made.now.items);
+  put = none_put (window_of c.args.window.now).classes (Ok c.args.rows.now) c.args.turned (orderings_of c.args.made.now.items);
   indexes = subst (λ ls. AreClassIndexes (window_of c.args.window.now) c.args.rows.now (orderings_of c.args.made.now.items) (length (orderings_of c.args.made.now.items)) 0 ls) (sym c.new-indexes.ensures.items)
       (none_listed (window_of c.args.window.now) c.args.rows.now (orderings_of c.args.made.now.items));
 }
@@ -21,7 +21,7 @@ returns-clause-put c =
     let w = window_of c.args.window.now in
     let long = length-map c.args.window.now.classes.items class_of in
     let all : c.loop-number.number ≡ length w.classes = omega arith in
-    subst (λ n. ArePut w (Ok c.args.rows.now) c.args.turned n (orderings_of c.args.made.now.items) (orderings_of c.loop-number.made.items)) all c.loop-number.invariant.put
+    subst (λ n. ArePut w.classes (Ok c.args.rows.now) c.args.turned n (orderings_of c.args.made.now.items) (orderings_of c.loop-number.made.items)) all c.loop-number.invariant.put
 
 pub returns-clause-indexes : goal.returns-clause-indexes
 returns-clause-indexes c =
@@ -48,6 +48,6 @@ loop-number-preserved c =
     let many = p.sorted.long in
     let at : length old + n ≡ length mid = omega arith in
     record {
-      put = one_put w (Ok rows) c.args.turned n c.len.result old mid new turn sorted.ordering.items p number c.turn_of-turn.ensures stable grown;
+      put = one_put w.classes (Ok rows) c.args.turned n c.len.result old mid new turn sorted.ordering.items p number c.turn_of-turn.ensures stable grown;
       indexes = one_listed w rows (length old) n mid new sorted.ordering.items c.loop-number.indexes.items c.push-in-loop-number.new.self.items sorted.class_index at grown c.loop-number.invariant.indexes c.in_ok-sorted.ensures.class_index c.in_ok-push-2.ensures.items;
     }

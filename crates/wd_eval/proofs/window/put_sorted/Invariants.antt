@@ -7,6 +7,6 @@ use Rattle.wd_eval.proofs.window.put_sorted.Given as goal
 
 abbrev pub invariant-loop-number : goal.invariant-loop-number
 invariant-loop-number l = record {
-  put : ArePut (window_of l.window) (Ok l.rows) l.turned l.number (orderings_of l.fn.made.items) (orderings_of l.made.items);
+  put : ArePut (window_of l.window).classes (Ok l.rows) l.turned l.number (orderings_of l.fn.made.items) (orderings_of l.made.items);
   indexes : AreClassIndexes (window_of l.window) l.rows (orderings_of l.made.items) (length (orderings_of l.fn.made.items)) l.number l.indexes.items;
 }

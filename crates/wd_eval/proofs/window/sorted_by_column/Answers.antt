@@ -14,11 +14,11 @@ returns-in-Ok c = λ instance. (
     let new = orderings_of c.put_sorted.new.made.items in
     let indexes = c.in_ok-indexes.indexes.items in
     let source : c.of_columns.result ≡ rows = c.of_columns.ensures in
-    let put : AreAllPut w (Ok rows) c.args.turned old new = subst (λ rs. AreAllPut w (Ok rs) c.args.turned old new) source c.in_ok-indexes.ensures.put in
+    let put : AreAllPut w.classes (Ok rows) c.args.turned old new = subst (λ rs. AreAllPut w.classes (Ok rs) c.args.turned old new) source c.in_ok-indexes.ensures.put in
     let all : AreClassIndexes w rows new (length old) (length w.classes) indexes = subst (λ rs. AreClassIndexes w rs new (length old) (length w.classes) indexes) source c.in_ok-indexes.ensures.indexes in
     record {
       put = put;
-      extended = rows_done w rows new (length old) indexes (Ok c.in-Ok.extended) all (λ orderings listed. sym c.in-Ok.is ∙ c.in_ok-extended.ensures orderings (subst (λ ls. AreIndexed w rows orderings ls) (sym c.deref.ensures.value) listed));
+      stepped = rows_done w rows new (length old) indexes (Ok c.in-Ok.extended) all (λ orderings listed. sym c.in-Ok.is ∙ c.in_ok-extended.ensures orderings (subst (λ ls. AreIndexed w rows orderings ls) (sym c.deref.ensures.value) listed));
     })
 
 pub returns : goal.returns
@@ -29,9 +29,9 @@ returns c = λ instance. (
     let new = orderings_of c.put_sorted.new.made.items in
     let indexes = c.in_ok-indexes.indexes.items in
     let source : c.of_columns.result ≡ rows = c.of_columns.ensures in
-    let put : AreAllPut w (Ok rows) c.args.turned old new = subst (λ rs. AreAllPut w (Ok rs) c.args.turned old new) source c.in_ok-indexes.ensures.put in
+    let put : AreAllPut w.classes (Ok rows) c.args.turned old new = subst (λ rs. AreAllPut w.classes (Ok rs) c.args.turned old new) source c.in_ok-indexes.ensures.put in
     let all : AreClassIndexes w rows new (length old) (length w.classes) indexes = subst (λ rs. AreClassIndexes w rs new (length old) (length w.classes) indexes) source c.in_ok-indexes.ensures.indexes in
     record {
       put = put;
-      extended = rows_done w rows new (length old) indexes (Err c.in-Err.fault) all (λ orderings listed. sym c.in-Err.is ∙ c.in_ok-extended.ensures orderings (subst (λ ls. AreIndexed w rows orderings ls) (sym c.deref.ensures.value) listed));
+      stepped = rows_done w rows new (length old) indexes (Err c.in-Err.fault) all (λ orderings listed. sym c.in-Err.is ∙ c.in_ok-extended.ensures orderings (subst (λ ls. AreIndexed w rows orderings ls) (sym c.deref.ensures.value) listed));
     })

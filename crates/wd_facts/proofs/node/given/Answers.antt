@@ -4,7 +4,7 @@ use Rattle.std.proofs.lemmas.List.{length-map}
 use Rattle.wd_schema.specs.Schemas.{schema_of}
 use Rattle.wd_plan.specs.Expressions.{expression_of}
 use Rattle.wd_plan.specs.Fits.{fits, width}
-use Rattle.wd_plan.specs.Plans.{Filter, Window, Distinct, Limit, limit_of, plan_of, window_of}
+use Rattle.wd_plan.specs.Plans.{Filter, Window, Distinct, Limit, Over, limit_of, plan_of, window_of}
 use Rattle.wd_plan.proofs.Ranges.{names_classes}
 use Rattle.wd_plan.specs.declared.expression.Expr.{Expr}
 use Rattle.wd_step_facts.specs.Facts.{is_plain_fact, kept_by}
@@ -31,7 +31,7 @@ pub width-requires-in-Filter : goal.width-requires-in-Filter
 width-requires-in-Filter c =
     let tables = schema_of c.args.schema.now in
     let f = subst (λ p. fits tables (plan_of p) ≡ true) c.in-Filter.is c.requires.fits in
-    rw c.deref-in-Filter-2.ensures (width_below tables (Filter (expression_of c.in-Filter.condition) (plan_of c.in-Filter.input.value)) f)
+    rw c.deref-in-Filter-2.ensures (width_below tables (Over (Filter (expression_of c.in-Filter.condition)) (plan_of c.in-Filter.input.value)) f)
 
 pub map_facts-requires-clause-kept : goal.map_facts-requires-clause-kept
 map_facts-requires-clause-kept c =
@@ -61,19 +61,19 @@ pub width-requires-in-Distinct : goal.width-requires-in-Distinct
 width-requires-in-Distinct c =
     let tables = schema_of c.args.schema.now in
     let f = subst (λ p. fits tables (plan_of p) ≡ true) c.in-Distinct.is c.requires.fits in
-    rw c.deref-in-Distinct.ensures (width_below tables (Distinct (plan_of c.in-Distinct.input.value)) f)
+    rw c.deref-in-Distinct.ensures (width_below tables (Over Distinct (plan_of c.in-Distinct.input.value)) f)
 
 pub width-requires-in-Limit : goal.width-requires-in-Limit
 width-requires-in-Limit c =
     let tables = schema_of c.args.schema.now in
     let f = subst (λ p. fits tables (plan_of p) ≡ true) c.in-Limit.is c.requires.fits in
-    rw c.deref-in-Limit.ensures (width_below tables (Limit (limit_of c.in-Limit.limit) (plan_of c.in-Limit.input.value)) f)
+    rw c.deref-in-Limit.ensures (width_below tables (Over (Limit (limit_of c.in-Limit.limit)) (plan_of c.in-Limit.input.value)) f)
 
 pub window_facts-requires-clause-named : goal.window_facts-requires-clause-named
 window_facts-requires-clause-named c =
     let tables = schema_of c.args.schema.now in
     let f = subst (λ p. fits tables (plan_of p) ≡ true) c.in-Window.is c.requires.fits in
-    (names_classes tables (Window (window_of c.in-Window.window) (plan_of c.in-Window.input.value)) f).1
+    (names_classes tables (Over (Window (window_of c.in-Window.window)) (plan_of c.in-Window.input.value)) f).1
 
 pub returns-in_ok-add_keys_of_sides-in-Join : goal.returns-in_ok-add_keys_of_sides-in-Join
 returns-in_ok-add_keys_of_sides-in-Join c =

@@ -13,7 +13,7 @@ pub loop-rest-preserved : goal.loop-rest-preserved
 loop-rest-preserved c =
     let more : 0 < c.loop-rest.left = omega arith in
     rw (c.in_ok-push.ensures.items, map_push conjunct c.loop-rest.conjuncts.items _)
-    (conjuncts_more c.loop-rest.left (map conjunct c.loop-rest.conjuncts.items) c.word-item.result c.loop-rest.rest.now c.split_at.result.0.now c.split_at.result.1.now (conjuncts_at most_conjuncts c.args.tokens.now) c.in-len1-up.len_at_least c.word-item.is more c.split_at.ensures.part c.split_at.ensures.behind c.loop-rest.invariant)
+    (conjuncts_more c.loop-rest.left (map conjunct c.loop-rest.conjuncts.items) c.word-item.result c.loop-rest.rest.now c.split_at.result.0.now c.split_at.result.1.now (conjuncts_at most_conjuncts c.args.tokens.now) c.in-len1-up.len_at_least c.word-item.is more c.split_at.ensures.part c.split_at.ensures.following c.loop-rest.invariant)
 
 pub returns : goal.returns
 returns c =

@@ -17,8 +17,8 @@ decreases-from l = 10 * l.depth + 4
 abbrev pub decreases-joins : goal.decreases-joins
 decreases-joins l = 10 * l.depth + 3
 
-abbrev pub decreases-joined : goal.decreases-joined
-decreases-joined l = 10 * l.depth + 2
+abbrev pub decreases-join : goal.decreases-join
+decreases-join l = 10 * l.depth + 2
 
 abbrev pub decreases-inner : goal.decreases-inner
 decreases-inner l = 10 * l.depth + 1

@@ -9,16 +9,16 @@ use Rattle.wd_partition.specs.Steps.{AreSteps, compare_codes}
 use Rattle.wd_partition.proofs.Coding.{AreSteps-alike, within_given}
 use Rattle.wd_partition.proofs.ordering.coded_index.Goals as goal
 
-pub sorted_by_coding-requires-clause-within : goal.sorted_by_coding-requires-clause-within
-sorted_by_coding-requires-clause-within c =
+pub sort_by_coding-requires-clause-within : goal.sort_by_coding-requires-clause-within
+sort_by_coding-requires-clause-within c =
     let rows = c.args.rows.now in
     let codes : AreCodesOfAll c.args.keys.now rows c.in-Some-2.within.bound c.in-Some-2.within.codes.items = search rules in
     let given : c.deref.result.now ≡ given_positions c.args.turn (length rows) = search rules in
     let long : length rows ≡ length c.in-Some-2.within.codes.items = sym codes.long in
     subst (λ l. All (λ p. p < length c.in-Some-2.within.codes.items) l) (sym given) (subst (λ n. All (λ p. p < n) (given_positions c.args.turn (length rows))) long (within_given c.args.turn (length rows)))
 
-pub sorted_by_coding-requires-2-clause-within : goal.sorted_by_coding-requires-2-clause-within
-sorted_by_coding-requires-2-clause-within c =
+pub sort_by_coding-requires-2-clause-within : goal.sort_by_coding-requires-2-clause-within
+sort_by_coding-requires-2-clause-within c =
     let rows = c.args.rows.now in
     let keys : AreCodesOfAll c.args.keys.now rows c.in-Some-2.within.bound c.in-Some-2.within.codes.items = search rules in
     let codes : AreCodesOfAll c.args.by_partition.now rows c.in-Some.partitions.bound c.in-Some.partitions.codes.items = search rules in

@@ -20,7 +20,7 @@ returns-then-not-begins_partition c =
     let high : i + 1 < length list = omega arith in
     let to : step_to (by_partition indexed) (by_keys indexed) list (i + 1) ≡ Some step = c.requires.indexed.steps.each (i + 1) Partition high in
     let tie : is_eq (by_partition indexed (get_or list i 0) (get_or list (i + 1) 0)) ≡ true = goes_on (by_partition indexed) (by_keys indexed) list i step to is in
-    c.requires.behind high ∙ sym (same_end (by_partition indexed) (rows_total (partition_columns indexed.partition.now) indexed.rows.now) list (get_or list i 0) (get_or list (i + 1) 0) tie)
+    c.requires.following high ∙ sym (same_end (by_partition indexed) (rows_total (partition_columns indexed.partition.now) indexed.rows.now) list (get_or list i 0) (get_or list (i + 1) 0) tie)
 
 pub returns-else-i-indexed : goal.returns-else-i-indexed
 returns-else-i-indexed c =

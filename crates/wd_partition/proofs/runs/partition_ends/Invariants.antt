@@ -7,5 +7,5 @@ abbrev pub invariant-loop-i : goal.invariant-loop-i
 invariant-loop-i l = record {
   long : length l.ends.items ≡ length l.indexed.positions.now;
   each : (k : ℕ) → l.i ≤ k → k < length l.indexed.positions.now → get_or l.ends.items k 0 ≡ ends_at (by_partition l.indexed) l.indexed.positions.now (get_or l.indexed.positions.now k 0);
-  behind : l.i < length l.indexed.positions.now → l.end ≡ ends_at (by_partition l.indexed) l.indexed.positions.now (get_or l.indexed.positions.now l.i 0);
+  following : l.i < length l.indexed.positions.now → l.end ≡ ends_at (by_partition l.indexed) l.indexed.positions.now (get_or l.indexed.positions.now l.i 0);
 }

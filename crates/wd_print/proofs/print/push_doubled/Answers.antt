@@ -2,7 +2,7 @@ use Rattle.std.proofs.Common.{◌≡◌, [], ◌∷◌, ◌++◌, Some, None, st
 use Rattle.std.proofs.ResultArms.{chosen}
 use Rattle.std.proofs.lemmas.Str.Pattern.{split_parts}
 use Rattle.wd_lex.specs.Pieces.{doubled}
-use Rattle.wd_lex.proofs.Boundaries.{utf8_behind}
+use Rattle.wd_lex.proofs.Boundaries.{utf8_after}
 use Rattle.wd_print.proofs.DoubledFacts.{doubled_none, doubled_step}
 use Rattle.wd_print.proofs.print.push_doubled.Goals as goal
 
@@ -17,7 +17,7 @@ loop-before-preserved c =
     let two = chosen _ _ _ _ c.push-in-Some.ensures.bytes (ap is_ok c.in_ok-push-2.was) in
     let once : string_bytes c.push.new.self ≡ (string_bytes c.loop-before.text ++ before) ++ q ∷ [] = one ∙ ap₂ (λ a b. a ++ b) front (c.push.ensures.ascii c.requires) in
     let twice : string_bytes c.push-in-Some.new.self ≡ ((string_bytes c.loop-before.text ++ before) ++ q ∷ []) ++ q ∷ [] = two ∙ ap₂ (λ a b. a ++ b) once (c.push-in-Some.ensures.ascii c.requires) in (
-      utf8_behind c.loop-before.rest.now before after q c.loop-before.invariant.0 parts.0 c.requires,
+      utf8_after c.loop-before.rest.now before after q c.loop-before.invariant.0 parts.0 c.requires,
       ap (λ l. l ++ doubled q after) twice ∙ doubled_step q (string_bytes c.loop-before.text) c.loop-before.rest.now before after parts.0 parts.1 ∙ c.loop-before.invariant.1,
     )
 

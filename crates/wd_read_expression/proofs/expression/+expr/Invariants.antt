@@ -21,23 +21,23 @@ decreases-links l = 60 * l.depth + 3 * rank l.height + 18
 abbrev pub decreases-comparison : goal.decreases-comparison
 decreases-comparison l = 60 * l.depth + 31
 
-abbrev pub decreases-tested : goal.decreases-tested
-decreases-tested l = 60 * l.depth + 34
+abbrev pub decreases-test : goal.decreases-test
+decreases-test l = 60 * l.depth + 34
 
-abbrev pub decreases-negated : goal.decreases-negated
-decreases-negated l = 60 * l.depth + 37
+abbrev pub decreases-negation : goal.decreases-negation
+decreases-negation l = 60 * l.depth + 37
 
-abbrev pub decreases-signed : goal.decreases-signed
-decreases-signed l = 60 * l.depth + 22
+abbrev pub decreases-signed_operand : goal.decreases-signed_operand
+decreases-signed_operand l = 60 * l.depth + 22
 
 abbrev pub decreases-primary : goal.decreases-primary
 decreases-primary l = 60 * l.depth + 19
 
-abbrev pub decreases-led_by : goal.decreases-led_by
-decreases-led_by l = 60 * l.depth + 18
+abbrev pub decreases-primary_by_terminal : goal.decreases-primary_by_terminal
+decreases-primary_by_terminal l = 60 * l.depth + 18
 
-abbrev pub decreases-named : goal.decreases-named
-decreases-named l = 60 * l.depth + 18
+abbrev pub decreases-primary_by_name : goal.decreases-primary_by_name
+decreases-primary_by_name l = 60 * l.depth + 18
 
 abbrev pub decreases-call : goal.decreases-call
 decreases-call l = 60 * l.depth + 17

@@ -26,5 +26,5 @@ loop-number-preserved c =
     let within : n < length tables = simp length-map (omega arith) in
     let other : is_named tables name n ≡ _ = sym c.is_named.ensures ∙ c.if-is_named.false in
     let step : position_or_len (has_name name) (drop n tables) ≡ 1 + position_or_len (has_name name) (drop (suc n) tables) = named_step n name tables within ∙ ap (λ (b : Bool). if b then 0 else 1 + position_or_len (has_name name) (drop (suc n) tables)) other in
-    let behind : position_or_len (has_name name) (drop (n + 1) tables) ≡ position_or_len (has_name name) (drop (suc n) tables) = ap (λ k. position_or_len (has_name name) (drop k tables)) (add-one n) in
-    omega (arith, step, behind, c.loop-number.invariant)
+    let after : position_or_len (has_name name) (drop (n + 1) tables) ≡ position_or_len (has_name name) (drop (suc n) tables) = ap (λ k. position_or_len (has_name name) (drop k tables)) (add-one n) in
+    omega (arith, step, after, c.loop-number.invariant)

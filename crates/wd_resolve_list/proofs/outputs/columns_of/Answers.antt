@@ -3,7 +3,7 @@ use Rattle.std.specs.List.{cons_option, range_with_len}
 use Rattle.wd_resolve_scope.specs.declared.scope.ScopeColumn.{ScopeColumn}
 use Rattle.wd_resolve_scope.specs.Resolving.{context_of}
 use Rattle.wd_resolve_list.specs.Outputs.{columns_shown, is_of, output_of}
-use Rattle.wd_resolve_list.proofs.ShownColumns.{behind, column_first}
+use Rattle.wd_resolve_list.proofs.ShownColumns.{after, column_first}
 use Rattle.wd_resolve_list.proofs.outputs.columns_of.Goals as goal
 
 pub loop-number-preserved : goal.loop-number-preserved
@@ -21,7 +21,7 @@ loop-number-preserved c =
     let rest = zip (range_with_len (n + 1) (length (drop (n + 1) columns))) (drop (n + 1) columns) in
     let before = map output_of c.loop-number.outputs.items in
     let shown = cons_option (option_map output_of c.in_ok-shown.shown) [] in
-    ap (λ os. behind os (columns_shown context.groups (filter test rest))) c.in_ok-add_shown.ensures
+    ap (λ os. after os (columns_shown context.groups (filter test rest))) c.in_ok-add_shown.ensures
     ∙ sym (column_first context.groups test (n, column) rest before shown c.in_ok-shown.ensures)
-    ∙ ap (λ (xs : List ScopeColumn). behind before (columns_shown context.groups (filter test (zip (range_with_len n (length xs)) xs)))) (sym next)
+    ∙ ap (λ (xs : List ScopeColumn). after before (columns_shown context.groups (filter test (zip (range_with_len n (length xs)) xs)))) (sym next)
     ∙ c.loop-number.invariant

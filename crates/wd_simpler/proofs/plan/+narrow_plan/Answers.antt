@@ -3,7 +3,7 @@ use Rattle.std.proofs.lemmas.Bool.{and_parts}
 use Rattle.wd_plan.proofs.Ranges.{narrow}
 use Rattle.wd_plan.specs.Expressions.{expression_of}
 use Rattle.wd_plan.specs.Fits.{fits, width}
-use Rattle.wd_plan.specs.Plans.{Group, GroupRule, Join, LimitRule, Map, PlanTree, WindowRule, grouping_of, has, limit_of, plan_of, window_of}
+use Rattle.wd_plan.specs.Plans.{Group, GroupRule, Join, Over, LimitRule, Map, PlanTree, WindowRule, grouping_of, has, limit_of, plan_of, window_of}
 use Rattle.wd_schema.specs.Schemas.{schema_of}
 use Rattle.wd_simpler.proofs.Same.{filter_made, limit_made, narrow_alike, narrow_same, window_made}
 use Rattle.wd_simpler.specs.Keyed.{keyed_limit, keyed_window}
@@ -46,7 +46,7 @@ returns-in_ok-new-in-Map t c =
     let e = narrow_alike tables (plan_of c.in-Map.input.value) (read_of c.in_ok-below-in-Map.below) (has (flat_map used own)) shown in
     let below : plan_of c.in_ok-new-in-Map.field-0.value ≡ narrowed tables (plan_of c.in-Map.input.value) (has (flat_map used own)) =
     ap plan_of c.in_ok-new-in-Map.ensures.ok ∙ c.in_ok-input-in-Map.ensures ∙ ap (λ p. narrowed tables (plan_of p) (read_of c.in_ok-below-in-Map.below)) c.into_inner-in-Map.ensures ∙ e in
-    rw c.in-Map.is (ap (Map own) below ∙ ap (λ es. Map es (narrowed tables (plan_of c.in-Map.input.value) (has (flat_map used es)))) c.in_ok-outputs-in-Map.ensures)
+    rw c.in-Map.is (ap (Over (Map own)) below ∙ ap (λ es. Over (Map es) (narrowed tables (plan_of c.in-Map.input.value) (has (flat_map used es)))) c.in_ok-outputs-in-Map.ensures)
 
 pub returns-in_ok-new-in-Group : goal.returns-in_ok-new-in-Group
 returns-in_ok-new-in-Group t c =
@@ -56,7 +56,7 @@ returns-in_ok-new-in-Group t c =
     let e = narrow_alike tables input (read_of c.in_ok-below-in-Group.below) (has (group_reads own)) c.in_ok-below-in-Group.ensures in
     let below : plan_of c.in_ok-new-in-Group.field-0.value ≡ narrowed tables input (has (group_reads own)) =
     ap plan_of c.in_ok-new-in-Group.ensures.ok ∙ c.in_ok-input-in-Group.ensures ∙ ap (λ p. narrowed tables (plan_of p) (read_of c.in_ok-below-in-Group.below)) c.into_inner-in-Group.ensures ∙ e in
-    rw c.in-Group.is (ap (Group own) below ∙ ap (λ g. Group g (narrowed tables input (has (group_reads g)))) c.in_ok-group-in-Group.ensures)
+    rw c.in-Group.is (ap (Over (Group own)) below ∙ ap (λ g. Over (Group g) (narrowed tables input (has (group_reads g)))) c.in_ok-group-in-Group.ensures)
 
 pub returns-in_ok-new-in-Window : goal.returns-in_ok-new-in-Window
 returns-in_ok-new-in-Window t c =

@@ -12,7 +12,7 @@ loop-start-preserved c =
     let start = c.loop-start.start in
     let first = c.in-Some-2.first in
     let coding = c.loop-start.coding in
-    let more = c.in-Some-combined.more in
+    let more = c.in-Some-combine.more in
     let d : SortColumn = record { column = 0; key = record { desc = false; nulls_first = false } } in
     let low : start - 1 < length columns = (let h = c.loop-start.invariant.within in omega arith) in
     let next : suc (start - 1) ≡ start = omega arith in

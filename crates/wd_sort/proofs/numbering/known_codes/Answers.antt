@@ -15,12 +15,12 @@ returns c =
     let are : AreNumbers known c.args.column.column rows given numbers = search rules in
     let all : AreKnown known = search rules in
     let ranked : AreRanks c.args.column.key known.values.items ranks = search rules in
-    let codes : c.replaced-codes.result.items ≡ map (λ n. get_or ranks n 0) numbers = c.replaced-codes.ensures ∙ (λ t. map (λ n. get_or (c.deref-2.ensures.value t) n 0) numbers) in
+    let codes : c.replace_numbers-codes.result.items ≡ map (λ n. get_or ranks n 0) numbers = c.replace_numbers-codes.ensures ∙ (λ t. map (λ n. get_or (c.deref-2.ensures.value t) n 0) numbers) in
     let bound : c.len-bound.result ≡ length ranks = search rules in
-    coding_of_ranks rows given c.args.column known numbers ranks c.replaced-codes.result.items c.len-bound.result all are ranked codes bound
+    coding_of_ranks rows given c.args.column known numbers ranks c.replace_numbers-codes.result.items c.len-bound.result all are ranked codes bound
 
-pub replaced-codes-requires : goal.replaced-codes-requires
-replaced-codes-requires c = λ k low.
+pub replace_numbers-codes-requires : goal.replace_numbers-codes-requires
+replace_numbers-codes-requires c = λ k low.
     (let known = c.numbers_of.new.known in
     let numbers = c.in_ok-numbers.numbers.items in
     let are : AreNumbers known c.args.column.column c.args.rows.now c.args.positions.now numbers = c.in_ok-numbers.ensures.numbers in

@@ -15,18 +15,18 @@ returns-in-None c =
 pub returns-then-is_end : goal.returns-then-is_end
 returns-then-is_end c =
     let schema = schema_of c.args.schema.now in
-    let read : table_at schema c.loop.rest.now ≡ Some (joined_table c.in-Some.table, c.in-Some.behind.now) = search rules in
-    let ended : is_end c.in-Some.behind.now ≡ true = search rules in
+    let read : table_at schema c.loop.rest.now ≡ Some (joined_table c.in-Some.table, c.in-Some.following.now) = search rules in
+    let ended : is_end c.in-Some.following.now ≡ true = search rules in
     rw (c.in_ok-push-in-Some.ensures.items, map_push joined_table c.loop.tables.items c.in-Some.table)
-    (tables_last schema most_tables c.loop.counter (map joined_table c.loop.tables.items) c.loop.rest.now c.in-Some.behind.now (joined_table c.in-Some.table) (joined_tables schema most_tables c.args.tokens.now) c.loop-test.true read ended c.loop.invariant)
+    (tables_last schema most_tables c.loop.counter (map joined_table c.loop.tables.items) c.loop.rest.now c.in-Some.following.now (joined_table c.in-Some.table) (joined_tables schema most_tables c.args.tokens.now) c.loop-test.true read ended c.loop.invariant)
 
 pub loop-preserved : goal.loop-preserved
 loop-preserved c =
     let schema = schema_of c.args.schema.now in
-    let read : table_at schema c.loop.rest.now ≡ Some (joined_table c.in-Some.table, c.in-Some.behind.now) = search rules in
-    let goes : is_end c.in-Some.behind.now ≡ false = search rules in
+    let read : table_at schema c.loop.rest.now ≡ Some (joined_table c.in-Some.table, c.in-Some.following.now) = search rules in
+    let goes : is_end c.in-Some.following.now ≡ false = search rules in
     rw (c.in_ok-push-in-Some.ensures.items, map_push joined_table c.loop.tables.items c.in-Some.table)
-    (tables_more schema most_tables c.loop.counter (map joined_table c.loop.tables.items) c.loop.rest.now c.in-Some.behind.now (joined_table c.in-Some.table) (joined_tables schema most_tables c.args.tokens.now) c.loop-test.true read goes c.loop.invariant)
+    (tables_more schema most_tables c.loop.counter (map joined_table c.loop.tables.items) c.loop.rest.now c.in-Some.following.now (joined_table c.in-Some.table) (joined_tables schema most_tables c.args.tokens.now) c.loop-test.true read goes c.loop.invariant)
 
 pub returns : goal.returns
 returns c = tables_over (schema_of c.args.schema.now) most_tables c.loop.counter (map joined_table c.loop.tables.items) c.loop.rest.now (joined_tables (schema_of c.args.schema.now) most_tables c.args.tokens.now) c.loop-test.false c.loop.invariant

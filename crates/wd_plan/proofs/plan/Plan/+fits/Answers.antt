@@ -2,8 +2,8 @@ use Rattle.std.proofs.Common.{◌≡◌, ◌∙◌, sym, ap, map, option_map, tr
 use Rattle.wd_schema.specs.Schemas.{schema_of}
 use Rattle.wd_plan.specs.Expressions.{expression_of}
 use Rattle.wd_plan.specs.Fits.{fits}
-use Rattle.wd_plan.specs.Plans.{grouping_of, plan_of, window_of}
-use Rattle.wd_plan.proofs.FitsNodes.{fits-filter, fits-group, fits-join, fits-map, fits-window}
+use Rattle.wd_plan.specs.Plans.{Filter, Group, Map, Window, grouping_of, plan_of, window_of}
+use Rattle.wd_plan.proofs.FitsNodes.{fits-join, fits-over}
 use Rattle.std.proofs.lemmas.Bool.{false≢true}
 use Rattle.wd_plan.proofs.plan.Plan.+fits.Goals as goal
 use Rattle.wd_plan.proofs.plan.Plan.+fits.Goals.{then-fits, else-fits}
@@ -24,19 +24,19 @@ returns-then-fits-2 t c =
 pub returns-then-fits-3 : goal.returns-then-fits-3
 returns-then-fits-3 t c =
     let below : fits (schema_of c.args.schema.now) (plan_of c.in-Filter.input.value) ≡ true = cc (c.deref-in-Filter.ensures, c.fits-in-Filter.ensures, c.if-fits-3.true) in
-    fits-filter (schema_of c.args.schema.now) (plan_of c.args.self.now) (plan_of c.in-Filter.input.value) (expression_of c.in-Filter.condition) c.is_condition.result (ap plan_of c.in-Filter.is) below (cc (c.deref-then-fits-3.ensures, c.is_condition.ensures))
+    fits-over (schema_of c.args.schema.now) (plan_of c.args.self.now) (plan_of c.in-Filter.input.value) (Filter (expression_of c.in-Filter.condition)) c.is_condition.result (ap plan_of c.in-Filter.is) below (cc (c.deref-then-fits-3.ensures, c.is_condition.ensures))
 
 pub returns-then-fits-4 : goal.returns-then-fits-4
 returns-then-fits-4 t c =
     let below : fits (schema_of c.args.schema.now) (plan_of c.in-Map.input.value) ≡ true = cc (c.deref-in-Map.ensures, c.fits-in-Map.ensures, c.if-fits-4.true) in
-    fits-map (schema_of c.args.schema.now) (plan_of c.args.self.now) (plan_of c.in-Map.input.value) (map expression_of c.in-Map.outputs.items) c.are_outputs.result (ap plan_of c.in-Map.is) below (cc (c.deref-then-fits-4.ensures.value, c.deref-then-fits-4-2.ensures, c.are_outputs.ensures))
+    fits-over (schema_of c.args.schema.now) (plan_of c.args.self.now) (plan_of c.in-Map.input.value) (Map (map expression_of c.in-Map.outputs.items)) c.are_outputs.result (ap plan_of c.in-Map.is) below (cc (c.deref-then-fits-4.ensures.value, c.deref-then-fits-4-2.ensures, c.are_outputs.ensures))
 
 pub returns-then-fits-5 : goal.returns-then-fits-5
 returns-then-fits-5 t c =
     let below : fits (schema_of c.args.schema.now) (plan_of c.in-Group.input.value) ≡ true = sym (ap (λ p. fits (schema_of c.args.schema.now) (plan_of p)) c.deref-in-Group.ensures) ∙ sym c.fits-in-Group.ensures ∙ c.if-fits-5.true in
-    fits-group (schema_of c.args.schema.now) (plan_of c.args.self.now) (plan_of c.in-Group.input.value) (grouping_of c.in-Group.group) c.is_group.result (ap plan_of c.in-Group.is) below (cc (c.deref-then-fits-5.ensures, c.is_group.ensures))
+    fits-over (schema_of c.args.schema.now) (plan_of c.args.self.now) (plan_of c.in-Group.input.value) (Group (grouping_of c.in-Group.group)) c.is_group.result (ap plan_of c.in-Group.is) below (cc (c.deref-then-fits-5.ensures, c.is_group.ensures))
 
 pub returns-then-fits-6 : goal.returns-then-fits-6
 returns-then-fits-6 t c =
     let below : fits (schema_of c.args.schema.now) (plan_of c.in-Window.input.value) ≡ true = sym (ap (λ p. fits (schema_of c.args.schema.now) (plan_of p)) c.deref-in-Window.ensures) ∙ sym c.fits-in-Window.ensures ∙ c.if-fits-6.true in
-    fits-window (schema_of c.args.schema.now) (plan_of c.args.self.now) (plan_of c.in-Window.input.value) (window_of c.in-Window.window) c.is_window.result (ap plan_of c.in-Window.is) below (cc (c.deref-then-fits-6.ensures, c.is_window.ensures))
+    fits-over (schema_of c.args.schema.now) (plan_of c.args.self.now) (plan_of c.in-Window.input.value) (Window (window_of c.in-Window.window)) c.is_window.result (ap plan_of c.in-Window.is) below (cc (c.deref-then-fits-6.ensures, c.is_window.ensures))

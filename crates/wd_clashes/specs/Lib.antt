@@ -1,0 +1,3 @@
+pub mod Comparisons
+pub mod Seen
+pub mod Unlike

@@ -1,7 +1,0 @@
-use Rattle.std.proofs.Common.{◌≡◌, take}
-use Rattle.std.specs.List.{flat_map}
-use Rattle.wd_formats.specs.Annotations.{part_byte}
-use Rattle.wd_formats.proofs.github.escaped.Given as goal
-
-abbrev pub invariant-loop-byte : goal.invariant-loop-byte
-invariant-loop-byte l = l.more.items ≡ flat_map (part_byte l.part) (take l.byte-index l.text)

@@ -1,0 +1,5 @@
+pub mod Amounts
+pub mod Given
+pub mod Numerals
+pub mod Tokens
+pub mod Units
