@@ -13,6 +13,7 @@ pub mod Tying
 pub mod Putting
 pub mod SomeSort
 pub mod SomeTied
+pub mod Cursors
 pub mod Walks
 pub mod Walking
 pub mod Taking

@@ -11,15 +11,15 @@ use Rattle.wd_join.specs.declared.error.StepError.TheVariants as error
 use Rattle.wd_eval.specs.Errors.{error_of}
 use Rattle.wd_eval.specs.Steps.{has_larger_step, is_larger}
 use Rattle.wd_nodes.specs.Relation.{relation_of, IsSmall, IsLarge, group_over, join_over}
-use Rattle.wd_eval.specs.Nodes.{IsEvaluated, IsStopped}
+use Rattle.wd_eval.specs.Nodes.{Evaluated, IsEvaluated, IsStopped}
 use Rattle.wd_eval.specs.Windows.{AreUnserved, IsLeast, IsStepped, IsWrongIn, step_over}
 use Rattle.wd_eval.specs.Wrong.{IsWrongFrom}
 use Rattle.wd_eval.specs.declared.error.EvalError.{EvalError}
 use Rattle.wd_eval.specs.declared.error.EvalError.TheVariants.{NotValid, TooManyRows, OutOfMemory}
 use Rattle.wd_nodes.specs.declared.relation.Relation.{Relation}
-use Rattle.wd_eval.specs.declared.node.Evaluated.{Evaluated}
 use Rattle.wd_eval.proofs.Wrong.{none_wrong, wrong_within}
-use Rattle.wd_eval.proofs.Sizes.{IsFew, fewer_step}
+use Rattle.wd_eval.specs.Walks.{IsFew}
+use Rattle.wd_eval.proofs.Sizes.{fewer_step}
 
 pub or_left : (a b : Bool) → a ≡ true → (a || b) ≡ true
 or_left a b e = ap (λ x. x || b) e

@@ -1,7 +1,7 @@
 -- Sorted orderings put after those that are there serve a step over its input.
-use Rattle.std.proofs.Common.{◌≡◌, ℕ, ◌+◌, ◌<◌, List, [], ◌∷◌, ◌++◌, take, drop, length, get_or, Option, Ok, Err, refl, sym, ap, ◌∙◌, subst, arith, append_assoc, below_more, length-append}
+use Rattle.std.proofs.Common.{◌≡◌, ℕ, zero, suc, ◌+◌, ◌<◌, List, [], ◌∷◌, ◌++◌, take, drop, length, get_or, Option, None, Ok, Err, refl, sym, ap, ◌∙◌, subst, arith, append_assoc, below_more, length-append}
 use Rattle.std.proofs.Math.Seq.{drop-append_seam, get_or-append_seam}
-use Rattle.std.proofs.lemmas.List.{append-nil, get_or_append_left, take_all}
+use Rattle.std.proofs.lemmas.List.{append-nil, get_or-append-add, get_or_append_left, take_all}
 use Rattle.wd_value.specs.declared.value.Fault.{Fault}
 use Rattle.wd_value.specs.Rows.{Row}
 use Rattle.wd_plan.specs.Choices.{AtRows, AreOrderingsOver}
@@ -150,3 +150,44 @@ one_listed w rows first n mid new ordering ls more l at e a b f =
     let long = ap length e ∙ length-append mid (ordering ∷ []) in
     let here : ordering_at new (first + n) ≡ ordering = ap (ordering_at new) at ∙ ap (λ ch. ordering_at ch (length mid)) e ∙ get_or-append_seam mid ordering [] [] in
     indexes_more w rows new first n ls more l grown (record { present = omega arith; is = subst (λ (o : List ℕ). IsClassIndexIn w n rows o l) (sym here) b }) f
+
+-- ---- where rows that tie are taken as they are, the orderings made before make no difference
+
+module _ (classes : List ClassRule) (input : RowsOrFault) (old new : List (List ℕ)) (p : AreAllPut classes input None old new) (made : List (List ℕ)) where
+  pub put_again : AreAllPut classes input None made (made ++ p.own)
+  put_again = record { own = p.own; grown = refl; sorted = record { long = p.sorted.long; each = λ k h. p.sorted.each k h } }
+
+  -- as many of them stand after those made before
+  same_own : take (length classes) (drop (length old) new) ≡ take (length classes) (drop (length made) (made ++ p.own))
+  same_own = ap (λ ch. take (length classes) (drop (length old) ch)) p.grown ∙ ap (take (length classes)) (drop-append_seam old p.own ∙ sym (drop-append_seam made p.own))
+
+  pub indexes_again : (w : WindowRule) (rows : List Row) (n : ℕ) (ls : List ClassIndex) → AreClassIndexes w rows new (length old) n ls → AreClassIndexes w rows (made ++ p.own) (length made) n ls
+  indexes_again w rows n ls a =
+      let there = a.present in
+      let before = ap length p.grown ∙ length-append old p.own in
+      let after = length-append made p.own in
+      record {
+        long = a.long;
+        present = omega arith;
+        each = λ k l h. (
+            let at : ordering_at new (length old + k) ≡ ordering_at (made ++ p.own) (length made + k) =
+            ap (λ ch. ordering_at ch (length old + k)) p.grown ∙ get_or-append-add old p.own k [] ∙ sym (get_or-append-add made p.own k []) in
+            subst (λ (o : List ℕ). IsClassIndexIn w k rows o (get_or ls k l)) at (a.each k l h));
+      }
+
+pub step_again : (step : Step) (input : RowsOrFault) (old new : List (List ℕ)) (found : RowsOrFault) (made : List (List ℕ)) → IsStableStep step input None old new found → (more : List (List ℕ)) × IsStableStep step input None made more found
+step_again step input old new found made x =
+    let classes = step_classes step in
+    let put = put_again classes input old new x.put made in (
+      made ++ x.put.own,
+      record {
+        put = put;
+        stepped = record { served = all_put classes input None made (made ++ x.put.own) put; is = x.stepped.is ∙ ap (λ own. step_over step own input) (same_own classes input old new x.put made) };
+      },
+    )
+
+pub some_empty : (count : ℕ) (old : List (List ℕ)) → (more : List (List ℕ)) × IsPutEmpty count old more
+some_empty zero old = (old, none_empty old)
+some_empty (suc count) old =
+    let mid = some_empty count old in
+    (mid.0 ++ [] ∷ [], subst (λ n. IsPutEmpty n old (mid.0 ++ [] ∷ [])) (omega arith) (one_empty count old mid.0 (mid.0 ++ [] ∷ []) mid.1 refl))

@@ -1,7 +1,6 @@
 -- No step but a Group has more rows than its input.
 use Rattle.std.proofs.Common.{◌≡◌, ℕ, zero, suc, ◌≤◌, Bool, true, false, cond, not, nat_lt, List, [], ◌∷◌, map, filter, drop, take_while, length, Option, Some, None, Result, Ok, Err, refl, ap, ◌∙◌, arith}
 use Rattle.std.proofs.lemmas.Bool.{ltb-false, le-ltb}
-use Rattle.std.specs.Prelude.{⊤}
 use Rattle.std.specs.List.{prefix_len}
 use Rattle.std.proofs.lemmas.List.{length-map, length-drop, length-take}
 use Rattle.std.proofs.lemmas.List.FromFn.{length-range_with_len}
@@ -16,6 +15,7 @@ use Rattle.wd_plan.specs.Outcomes.{RowsOrFault, limited_rows, distinct, extended
 use Rattle.wd_plan.specs.Plans.{Step, Filter, Map, Group, Window, Distinct, Limit, step_classes}
 use Rattle.wd_partition.proofs.Marks.{length_once}
 use Rattle.wd_join.specs.Joins.{has_more_rows}
+use Rattle.wd_eval.specs.Walks.{IsFew}
 use Rattle.wd_eval.specs.Windows.{step_over}
 
 fewer : (most n m : ℕ) → m ≤ n → nat_lt most n ≡ false → nat_lt most m ≡ false
@@ -67,11 +67,6 @@ fewer_all most f xs h =
     let le = values_among-le (map f xs) in
     let long = length-map xs f in
     fewer_unless most (least_fault (map f xs)) (values_among (map f xs)) (fewer most (length xs) (length (values_among (map f xs))) (omega arith) h)
-
--- A Group may have more, so this is asked of it; nothing is asked of another step
-abbrev pub IsFew : ℕ → Step → RowsOrFault → Type 0
-IsFew most (Group rule) input = has_more_rows most (step_over (Group rule) [] input) ≡ false
-IsFew most step input = ⊤
 
 pub fewer_step : (most : ℕ) (step : Step) (orderings : List (List ℕ)) (input : RowsOrFault) → IsFew most step input → AreOrderingsOver (step_classes step) input orderings → has_more_rows most input ≡ false → has_more_rows most (step_over step orderings input) ≡ false
 fewer_step most step orderings (Err fault) few lawful h = refl

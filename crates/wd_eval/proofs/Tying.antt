@@ -13,20 +13,20 @@ use Rattle.wd_join.specs.declared.error.StepError.{StepError}
 use Rattle.wd_join.specs.declared.error.StepError.TheVariants as error
 use Rattle.wd_eval.specs.Errors.{error_of}
 use Rattle.wd_eval.specs.Judged.{IsOutcome}
+use Rattle.wd_eval.specs.Runs.{IsUnderTurned}
 use Rattle.wd_nodes.specs.Relation.{relation_of, IsLarge, IsSmall, group_over, join_over, most_rows}
-use Rattle.wd_eval.specs.Nodes.{IsEvaluated}
+use Rattle.wd_eval.specs.Nodes.{Evaluated, IsEvaluated}
 use Rattle.wd_eval.specs.Windows.{step_over}
 use Rattle.wd_eval.specs.Steps.{has_large_step, is_large}
 use Rattle.wd_eval.specs.Tied.{AreTied, IsSortedOver, IsValidTurnedChoice, turn_of}
-use Rattle.wd_eval.specs.Ties.{IsUnderStable, IsStableStep, IsUntied, IsOutOfMemory}
+use Rattle.wd_eval.specs.Ties.{IsUnderStable, IsStableStep, IsUntied}
 use Rattle.wd_eval.specs.declared.error.EvalError.{EvalError}
 use Rattle.wd_eval.specs.declared.error.EvalError.TheVariants.{NotValid, TooManyRows, OutOfMemory}
 use Rattle.wd_nodes.specs.declared.relation.Relation.{Relation}
-use Rattle.wd_eval.specs.declared.node.Evaluated.{Evaluated}
 use Rattle.wd_partition.specs.declared.turn.Turn.{Turn}
 use Rattle.wd_eval.specs.declared.turned.Turned.{Turned}
 use Rattle.wd_eval.proofs.Nodes.{or_left, or_right, scan_done, step_done, join_done}
-use Rattle.wd_eval.proofs.Sizes.{IsFew}
+use Rattle.wd_eval.specs.Walks.{IsFew}
 use Rattle.wd_eval.proofs.Stable.{one_stable_sort}
 
 -- ---- the sorted ordering is the only one
@@ -116,11 +116,6 @@ evaluated_append plan tables instance choice more first e h b =
     }
 
 -- ---- nodes
-
-pub memory_untied : (plan : PlanTree) (instance : Instance) (turned : Option Turned) (first : ℕ) (e : EvalError) → IsOutOfMemory e → IsUntied plan instance turned first e
-memory_untied plan instance turned first (NotValid p) h = h
-memory_untied plan instance turned first TooManyRows h = absurd h
-memory_untied plan instance turned first OutOfMemory h = tt
 
 module _ (tables instance : Instance) (turned : Option Turned) (old : List (List ℕ)) where
   grown_long : (mid own : List (List ℕ)) → mid ≡ old ++ own → length old ≤ length mid
@@ -273,3 +268,6 @@ module _ (plan : PlanTree) (tables instance : Instance) (turned : Option Turned)
 
   pub stable_outcome : (o : RowsOrFault) → o ≡ relation_of tables g → IsOutcome plan instance new o
   stable_outcome o e = record { valid = tied_valid.valid; small = t.evaluated.each; is = e ∙ t.evaluated.is }
+
+  pub under_turned : IsUnderTurned plan instance turned new (relation_of tables g)
+  under_turned = record { choice = tied_valid; is = t.evaluated.is }

@@ -1,191 +1,289 @@
--- What a node gives, and why it gives nothing, under the orderings of a choice and under sorted ones.
-use Rattle.std.proofs.Common.{◌≡◌, ℕ, ◌+◌, ◌-◌, ◌^◌, ◌≤◌, false, List, [], drop, length, Option, Result, Ok, Err, sym, ap, ◌∙◌, subst, arith, length-append, length-drop}
+-- What a node gives, and why it gives nothing, from what the nodes below it give.
+use Rattle.std.proofs.Common.{◌≡◌, ℕ, ◌+◌, ◌-◌, ◌^◌, ◌≤◌, Bool, true, false, List, [], length, length-drop, Option, None, Result, Ok, Err, refl, ap, ◌∙◌, subst, arith}
 use Rattle.std.proofs.lemmas.Bool.{ltb-false}
 use Rattle.std.proofs.lemmas.List.{length-map}
-use Rattle.std.specs.Borrow.{Bor}
-use Rattle.std.specs.declared.alloc.Global.{Global}
-use Rattle.std.specs.declared.vec.Vec.{Vec}
 use Rattle.wd_value.specs.Rows.{Instance, table_at}
 use Rattle.wd_plan.specs.Expressions.{Expression}
-use Rattle.wd_plan.specs.Outcomes.{RowsOrFault, outcome}
-use Rattle.wd_plan.specs.Plans.{Step, Group, Limit, PlanTree, Scan, Join, Over, GroupRule, LimitRule, step_classes}
+use Rattle.wd_plan.specs.Outcomes.{RowsOrFault}
+use Rattle.wd_plan.specs.Plans.{Step, Filter, Map, Group, Window, Distinct, Limit, GroupRule, PlanTree, Scan, Join, Over, step_classes}
 use Rattle.wd_join.specs.Joins.{has_more_rows}
 use Rattle.wd_join.specs.declared.error.StepError.{StepError}
 use Rattle.wd_join.specs.declared.error.StepError.TheVariants as error
 use Rattle.wd_eval.specs.Errors.{error_of}
-use Rattle.wd_eval.specs.Windows.{AreFew, orderings_of, step_over}
 use Rattle.wd_nodes.specs.Relation.{relation_of, IsSmall, IsLarge, group_over, join_over, most_rows}
-use Rattle.wd_eval.specs.Nodes.{IsLimitedOrUnserved, IsStopped}
-use Rattle.wd_eval.specs.Ties.{IsUntied}
-use Rattle.wd_eval.specs.Walks.{IsAt, IsHalted, IsStep, IsWalked, most_of}
+use Rattle.wd_nodes.specs.declared.relation.Relation.{Relation}
+use Rattle.wd_eval.specs.Nodes.{IsEvaluated, IsStopped}
+use Rattle.wd_eval.specs.Ties.{IsUnderStable, IsUntied}
+use Rattle.wd_eval.specs.Walks.{Gives, GivesOrHalts, GivesOrStops, Halts, HasMade, IsAt, IsFew, IsHalted, IsLargeGroup, IsWalked, IsWalkedOrHalted, IsWithin, Stops, most_of}
+use Rattle.wd_eval.specs.Windows.{AreFew, orderings_of, step_over}
 use Rattle.wd_eval.specs.declared.error.EvalError.{EvalError}
 use Rattle.wd_eval.specs.declared.error.EvalError.TheVariants.{NotValid, TooManyRows, OutOfMemory}
-use Rattle.wd_nodes.specs.declared.relation.Relation.{Relation}
-use Rattle.wd_eval.specs.declared.node.Evaluated.{Evaluated}
 use Rattle.wd_eval.specs.declared.orderings.Orderings.{Orderings}
-use Rattle.wd_eval.specs.declared.orderings.Orderings.TheVariants.{Chosen, Sorted}
+use Rattle.wd_eval.specs.declared.orderings.Orderings.TheVariants.{Chosen, Sorted, Stable}
 use Rattle.wd_eval.specs.declared.turned.Turned.{Turned}
 use Rattle.wd_eval.proofs.Nodes.{scan_done, scan_stopped, step_done, step_stopped, step_stopped_below, group_stopped, join_done, join_stopped, join_stopped_left, join_stopped_right}
 use Rattle.wd_eval.proofs.Putting.{bare_stable}
-use Rattle.wd_eval.proofs.Serving.{bare_stepped, limited_or_unserved}
-use Rattle.wd_eval.proofs.Sizes.{IsFew}
-use Rattle.wd_eval.proofs.Tying.{scan_tied, step_tied, step_untied_below, group_untied, join_tied, join_untied, join_untied_left, join_untied_right, memory_untied}
+use Rattle.wd_eval.proofs.Serving.{bare_stepped}
+use Rattle.wd_eval.proofs.Tying.{scan_tied, step_tied, step_untied_below, group_untied, join_tied, join_untied, join_untied_left, join_untied_right}
+
+-- ---- where the walk stands
+
+chosen_most : (os : Orderings) (most : ℕ) (choice : List (List ℕ)) (first : ℕ) → IsAt os most choice first → most_of os ≡ most
+chosen_most (Chosen own next m) most choice first at = at.2
+chosen_most (Sorted turned made) most choice first at = absurd at
+chosen_most Stable most choice first at = absurd at
+
+sorted_most : (os : Orderings) (kept : Bool) (turned : Option Turned) (made : List (List ℕ)) → HasMade os kept turned made → most_of os ≡ most_rows
+sorted_most (Chosen own next m) kept turned made has = absurd has
+sorted_most (Sorted t own) kept turned made has = refl
+sorted_most Stable kept turned made has = refl
+
+pub within_at : (os : Orderings) (most : ℕ) (choice : List (List ℕ)) (first : ℕ) → IsWithin os → IsAt os most choice first → first ≤ length choice
+within_at (Chosen own next m) most choice first within at =
+    let long = length-map own.now (λ v. v.items) in
+    let same = ap length at.0 in
+    let number = at.1 in
+    let low = within.0 in
+    omega arith
+within_at (Sorted turned made) most choice first within at = absurd at
+within_at Stable most choice first within at = absurd at
+
+pub bounded : (os : Orderings) → IsWithin os → most_of os ≤ most_rows
+bounded (Chosen own next m) within = within.1
+bounded (Sorted turned made) within = omega arith
+bounded Stable within = omega arith
 
 few_from : (most : ℕ) (r : RowsOrFault) → most ≤ most_rows → has_more_rows most r ≡ false → AreFew (2 ^ 32 - 1) r
 few_from most (Ok rows) bound h = let few = ltb-false most (length rows) h in omega arith
 few_from most (Err fault) bound h = tt
 
--- ---- the same under a choice, and under sorted orderings
+pub few_rows : (os : Orderings) (r : RowsOrFault) → IsWithin os → has_more_rows (most_of os) r ≡ false → AreFew (2 ^ 32 - 1) r
+few_rows os r within h = few_from (most_of os) r (bounded os within) h
 
-module _ (plan : PlanTree) (instance : Instance) (first : ℕ) where
-  from_stopped : (choice : Bor (List (Vec ℕ Global))) (most : ℕ) (e : EvalError) → IsStopped most plan instance (orderings_of choice.now) first e → IsHalted plan instance (Chosen choice most) first e
-  from_stopped choice most (NotValid place) h = h
-  from_stopped choice most TooManyRows h = h
-  from_stopped choice most OutOfMemory h = tt
+-- further on it stands within the choice too
+within_chosen : (os : Orderings) (most : ℕ) (choice : List (List ℕ)) (next : ℕ) → IsAt os most choice next → next ≤ length choice → most ≤ most_rows → IsWithin os
+within_chosen (Chosen own n m) most choice next at low bound =
+    let long = length-map own.now (λ v. v.items) in
+    let same = ap length at.0 in
+    let number = at.1 in
+    let all = at.2 in
+    (omega arith, omega arith)
+within_chosen (Sorted turned made) most choice next at low bound = tt
+within_chosen Stable most choice next at low bound = tt
 
-  pub to_stopped : (choice : Bor (List (Vec ℕ Global))) (most : ℕ) (e : EvalError) → IsHalted plan instance (Chosen choice most) first e → IsStopped most plan instance (orderings_of choice.now) first e
-  to_stopped choice most (NotValid place) h = h
-  to_stopped choice most TooManyRows h = h
-  to_stopped choice most OutOfMemory h = tt
+within_sorted : (os : Orderings) (kept : Bool) (turned : Option Turned) (made : List (List ℕ)) → HasMade os kept turned made → IsWithin os
+within_sorted (Chosen own n m) kept turned made has = absurd has
+within_sorted (Sorted t own) kept turned made has = tt
+within_sorted Stable kept turned made has = tt
 
-  from_untied : (turned : Option Turned) (e : EvalError) → IsUntied plan instance turned first e → IsHalted plan instance (Sorted turned) first e
-  from_untied turned (NotValid place) h = h
-  from_untied turned TooManyRows h = h
-  from_untied turned OutOfMemory h = tt
+module _ (tables instance : Instance) (plan : PlanTree) (new : Orderings) (o : Relation) where
+  pub within_next : (old : Orderings) → IsWithin old → IsWalked plan tables instance old new o → IsWithin new
+  within_next (Chosen own next m) within b =
+      let choice = orderings_of own.now in
+      let w = b.chosen m choice next (refl, refl, refl) in
+      let there = w.2.served.present in
+      let at = w.2.next in
+      let rest = length-drop next choice in
+      let long = length-map own.now (λ v. v.items) in
+      let low = within.0 in
+      within_chosen new m choice w.0 w.1 (omega arith) within.1
+  within_next (Sorted turned made) within b = let w = b.sorted true turned (orderings_of made.items) (refl, refl, refl) in within_sorted new true turned w.0 w.1
+  within_next Stable within b = let w = b.sorted false None [] (refl, refl) in within_sorted new false None w.0 w.1
 
-  pub to_untied : (turned : Option Turned) (e : EvalError) → IsHalted plan instance (Sorted turned) first e → IsUntied plan instance turned first e
-  to_untied turned (NotValid place) h = h
-  to_untied turned TooManyRows h = h
-  to_untied turned OutOfMemory h = tt
+  pub small_below : (old : Orderings) → IsWalked plan tables instance old new o → has_more_rows (most_of new) (relation_of tables o) ≡ false
+  small_below (Chosen own next m) b =
+      let choice = orderings_of own.now in
+      let w = b.chosen m choice next (refl, refl, refl) in
+      (λ i. has_more_rows (chosen_most new m choice w.0 w.1 i) (w.2.is i)) ∙ w.2.small
+  small_below (Sorted turned made) b =
+      let w = b.sorted true turned (orderings_of made.items) (refl, refl, refl) in
+      (λ i. has_more_rows (sorted_most new true turned w.0 w.1 i) (w.2.evaluated.is i)) ∙ w.2.evaluated.small
+  small_below Stable b =
+      let w = b.sorted false None [] (refl, refl) in
+      (λ i. has_more_rows (sorted_most new false None w.0 w.1 i) (w.2.evaluated.is i)) ∙ w.2.evaluated.small
 
--- ---- where the walk stands
+-- ---- what a step gives
 
-within_choice : (choice : List (Vec ℕ Global)) (first : ℕ) → first ≤ length choice → first ≤ length (orderings_of choice)
-within_choice choice first h = let long = length-map choice (λ v. v.items) in omega arith
+module _ (tables : Instance) (old : Orderings) where
+  module _ (step : Step) (input : Relation) where
+    -- a step without classes leaves the orderings as they are
+    pub bare_answered : (o : Relation) → IsWithin old → step_classes step ≡ [] → IsFew (most_of old) step (relation_of tables input) → relation_of tables o ≡ step_over step [] (relation_of tables input)
+        → GivesOrHalts (relation_of tables) step (relation_of tables input) old old (Ok o)
+    bare_answered o within bare few is =
+        let none = ap length bare in
+        record {
+          ok = (
+            few,
+            record {
+              chosen = λ most choice first at. (
+                  let same : first ≡ first + length (step_classes step) = omega arith in
+                  (subst (IsAt old most choice) same at, bare_stepped step (relation_of tables input) choice first (relation_of tables o) bare (within_at old most choice first within at) is));
+              sorted = λ kept turned made has. (made, has, bare_stable step (relation_of tables input) turned made (relation_of tables o) bare is);
+            },
+          );
+          refused = tt;
+        }
 
-after_made : (made : List (Vec ℕ Global)) (first : ℕ) → first ≡ length made → first ≡ length (orderings_of made)
-after_made made first e = e ∙ sym (length-map made (λ v. v.items))
+    -- one with classes has no more rows than its input
+    pub serves : (new : Orderings) (r : Result Relation EvalError) → IsFew (most_of old) step (relation_of tables input) → GivesOrStops (relation_of tables) step (relation_of tables input) old new r
+        → GivesOrHalts (relation_of tables) step (relation_of tables input) old new r
+    serves new (Ok o) few g = record { ok = (few, g.ok); refused = tt }
+    serves new (Err (NotValid place)) few g = record { ok = tt; refused = g.refused }
+    serves new (Err TooManyRows) few g = absurd (never old g.refused)
+      where
+        never : (os : Orderings) → Stops step (relation_of tables input) os TooManyRows → ⊥
+        never (Chosen own next m) h = h.chosen m (orderings_of own.now) next (refl, refl, refl)
+        never (Sorted turned made) h = h.sorted true turned (orderings_of made.items) (refl, refl, refl)
+        never Stable h = h.sorted false None [] (refl, refl)
+    serves new (Err OutOfMemory) few g = record { ok = tt; refused = tt }
 
-module _ (tables instance : Instance) (first : ℕ) (old new : List (Vec ℕ Global)) where
-  -- after a node
-  pub at_next : (orderings : Orderings) (plan : PlanTree) (e : Evaluated) → IsAt orderings first old → IsWalked plan tables instance orderings first old new e → IsAt orderings e.next new
-  at_next (Chosen choice most) plan e at b =
-      let next = b.next in
-      let there = b.served.present in
-      let rest = length-drop first (orderings_of choice.now) in
-      let long = length-map choice.now (λ v. v.items) in
-      omega arith
-  at_next (Sorted turned) plan e at b = b.0
+  pub group_halts : (rule : GroupRule) (input : Relation) (e : StepError) → IsLarge (most_of old) (group_over rule (relation_of tables input)) e → Halts (Group rule) (relation_of tables input) old (error_of e)
+  group_halts rule input error.TooManyRows h = h
+  group_halts rule input error.OutOfMemory h = tt
 
-  pub few_below : (orderings : Orderings) (plan : PlanTree) (e : Evaluated) → most_of orderings ≤ most_rows → IsWalked plan tables instance orderings first old new e → AreFew (2 ^ 32 - 1) (relation_of tables e.outcome)
-  few_below (Chosen choice most) plan e bound b = subst (AreFew (2 ^ 32 - 1)) (sym b.is) (few_from most (outcome plan instance (drop first (orderings_of choice.now))) bound b.small)
-  few_below (Sorted turned) plan e bound b = subst (AreFew (2 ^ 32 - 1)) (sym b.1.evaluated.is) (few_from most_rows (outcome plan instance (drop (length (orderings_of old)) (orderings_of new))) bound b.1.evaluated.small)
+-- ---- a Group of too many rows
 
-  pub small_below : (orderings : Orderings) (plan : PlanTree) (e : Evaluated) → IsWalked plan tables instance orderings first old new e → has_more_rows (most_of orderings) (relation_of tables e.outcome) ≡ false
-  small_below (Chosen choice most) plan e b = ap (has_more_rows most) b.is ∙ b.small
-  small_below (Sorted turned) plan e b = ap (has_more_rows most_rows) b.1.evaluated.is ∙ b.1.evaluated.small
+module _ (tables instance : Instance) (input : PlanTree) (below : Relation) where
+  large_stopped : (step : Step) (most : ℕ) (choice : List (List ℕ)) (first next : ℕ) → IsEvaluated most input tables instance choice first (record { outcome = below; next = next })
+      → IsLargeGroup most step (relation_of tables below) → IsStopped most (Over step input) instance choice first TooManyRows
+  large_stopped (Filter condition) most choice first next b h = absurd h
+  large_stopped (Map outputs) most choice first next b h = absurd h
+  large_stopped (Group rule) most choice first next b h = group_stopped most tables instance choice first rule input (record { outcome = below; next = next }) b error.TooManyRows h
+  large_stopped (Window w) most choice first next b h = absurd h
+  large_stopped Distinct most choice first next b h = absurd h
+  large_stopped (Limit limit) most choice first next b h = absurd h
 
-module _ (tables instance : Instance) (first : ℕ) (old : List (Vec ℕ Global)) where
-  -- a node stops where one below it does
-  halted_below : (orderings : Orderings) (plan above : PlanTree) (e : EvalError) → IsAt orderings first old
-      → ((choice : List (List ℕ)) → IsStopped (most_of orderings) plan instance choice first e → IsStopped (most_of orderings) above instance choice first e)
-      → ((turned : Option Turned) → IsUntied plan instance turned (length (orderings_of old)) e → IsUntied above instance turned (length (orderings_of old)) e)
-      → IsHalted plan instance orderings first e → IsHalted above instance orderings first e
-  halted_below (Chosen choice most) plan above e at f g h = from_stopped above instance first choice most e (f (orderings_of choice.now) (to_stopped plan instance first choice most e h))
-  halted_below (Sorted turned) plan above e at f g h =
-      let here = after_made old first at in
-      from_untied above instance first turned e
-      (subst (λ (n : ℕ). IsUntied above instance turned n e) (sym here) (g turned (subst (λ (n : ℕ). IsUntied plan instance turned n e) here (to_untied plan instance first turned e h))))
+  large_untied : (step : Step) (turned : Option Turned) (made mid : List (List ℕ)) → IsUnderStable input tables instance turned made mid below
+      → IsLargeGroup most_rows step (relation_of tables below) → IsUntied (Over step input) instance turned (length made) TooManyRows
+  large_untied (Filter condition) turned made mid b h = absurd h
+  large_untied (Map outputs) turned made mid b h = absurd h
+  large_untied (Group rule) turned made mid b h = group_untied tables instance turned made rule input mid below b error.TooManyRows h
+  large_untied (Window w) turned made mid b h = absurd h
+  large_untied Distinct turned made mid b h = absurd h
+  large_untied (Limit limit) turned made mid b h = absurd h
 
-  -- ---- Scan
+-- ---- Scan
 
-  pub scan_walked : (orderings : Orderings) (table columns : ℕ) (o : Relation) → IsAt orderings first old → IsSmall (most_of orderings) (Ok (table_at instance table)) (relation_of tables o)
-      → IsWalked (Scan table columns) tables instance orderings first old old (record { outcome = o; next = first })
-  scan_walked (Chosen choice most) table columns o at s = scan_done most tables instance (orderings_of choice.now) first table columns o s
-  scan_walked (Sorted turned) table columns o at s = (at, scan_tied tables instance turned (orderings_of old) table columns o s)
+module _ (tables instance : Instance) (old : Orderings) where
+  module _ (table columns : ℕ) where
+    abbrev read : RowsOrFault
+    read = Ok (table_at instance table)
 
-  pub scan_halted : (orderings : Orderings) (table columns : ℕ) (e : StepError) → IsLarge (most_of orderings) (Ok (table_at instance table)) e → IsHalted (Scan table columns) instance orderings first (error_of e)
-  scan_halted (Chosen choice most) table columns e h = from_stopped (Scan table columns) instance first choice most (error_of e) (scan_stopped most tables instance (orderings_of choice.now) first table columns e h)
-  scan_halted (Sorted turned) table columns error.TooManyRows h = λ choice long s. h
-  scan_halted (Sorted turned) table columns error.OutOfMemory h = tt
+    pub scan_walked : (o : Relation) → IsSmall (most_of old) read (relation_of tables o) → IsWalked (Scan table columns) tables instance old old o
+    scan_walked o s = record {
+      chosen = λ most choice first at. (first, at, scan_done most tables instance choice first table columns o (subst (λ m. IsSmall m read (relation_of tables o)) (chosen_most old most choice first at) s));
+      sorted = λ kept turned made has. (made, has, scan_tied tables instance turned made table columns o (subst (λ m. IsSmall m read (relation_of tables o)) (sorted_most old kept turned made has) s));
+    }
+
+    scan_untied : (turned : Option Turned) (first : ℕ) (e : StepError) → IsLarge most_rows read e → IsUntied (Scan table columns) instance turned first (error_of e)
+    scan_untied turned first error.TooManyRows h = λ choice long s. h
+    scan_untied turned first error.OutOfMemory h = tt
+
+    pub scan_halted : (e : StepError) → IsLarge (most_of old) read e → IsHalted (Scan table columns) instance old (error_of e)
+    scan_halted e h = record {
+      chosen = λ most choice first at. scan_stopped most tables instance choice first table columns e (subst (λ m. IsLarge m read e) (chosen_most old most choice first at) h);
+      sorted = λ kept turned made has. scan_untied turned (length made) e (subst (λ m. IsLarge m read e) (sorted_most old kept turned made has) h);
+    }
 
   -- ---- a step
 
   module _ (step : Step) (input : PlanTree) where
-    pub step_halted_below : (orderings : Orderings) (e : EvalError) → IsAt orderings first old → IsHalted input instance orderings first e → IsHalted (Over step input) instance orderings first e
-    step_halted_below orderings e at h = halted_below orderings input (Over step input) e at (λ choice. step_stopped_below (most_of orderings) tables instance choice first step input e) (λ turned. step_untied_below tables instance turned (orderings_of old) step input e) h
+    pub step_halted_below : (e : EvalError) → IsHalted input instance old e → IsHalted (Over step input) instance old e
+    step_halted_below e h = record {
+      chosen = λ most choice first at. step_stopped_below most tables instance choice first step input e (h.chosen most choice first at);
+      sorted = λ kept turned made has. step_untied_below tables instance turned made step input e (h.sorted kept turned made has);
+    }
 
-    module _ (mid : List (Vec ℕ Global)) (below : Evaluated) where
-      pub step_walked : (orderings : Orderings) (new : List (Vec ℕ Global)) (o : Relation) (next : ℕ) → IsAt orderings first old → IsWalked input tables instance orderings first old mid below → IsFew (most_of orderings) step (relation_of tables below.outcome)
-          → IsStep (relation_of tables) step (relation_of tables below.outcome) orderings below.next mid new (Ok o) → next ≡ below.next + length (step_classes step)
-          → IsWalked (Over step input) tables instance orderings first old new (record { outcome = o; next = next })
-      step_walked (Chosen choice most) new o next at b few x e = step_done most tables instance (orderings_of choice.now) first step input below b o next (within_choice choice.now first at) few x.ok e
-      step_walked (Sorted turned) new o next at b few x e =
-          let here = after_made mid below.next b.0 in
-          let long = ap length x.ok.put.grown ∙ length-append (orderings_of mid) x.ok.put.own in
-          let size = x.ok.put.sorted.long in
-          let all = length-map new (λ v. v.items) in
-          (omega arith, step_tied tables instance turned (orderings_of old) step input (orderings_of mid) (orderings_of new) below.outcome o b.1 few x.ok)
+    module _ (mid : Orderings) (below : Relation) (b : IsWalked input tables instance old mid below) where
+      step_walked : (new : Orderings) (o : Relation) → IsWithin old → IsFew (most_of mid) step (relation_of tables below) → Gives step (relation_of tables below) mid new (relation_of tables o) → IsWalked (Over step input) tables instance old new o
+      step_walked new o within few g = record {
+        chosen = λ most choice first at. (
+            let w = b.chosen most choice first at in
+            let x = g.chosen most choice w.0 w.1 in
+            let own = subst (λ m. IsFew m step (relation_of tables below)) (chosen_most mid most choice w.0 w.1) few in
+            let next = w.0 + length (step_classes step) in (
+              next,
+              x.0,
+              step_done most tables instance choice first step input (record { outcome = below; next = w.0 }) w.2 o next (within_at old most choice first within at) own x.1 refl,
+            ));
+        sorted = λ kept turned made has. (
+            let w = b.sorted kept turned made has in
+            let x = g.sorted kept turned w.0 w.1 in
+            let own = subst (λ m. IsFew m step (relation_of tables below)) (sorted_most mid kept turned w.0 w.1) few in
+            (x.0, x.1, step_tied tables instance turned made step input w.0 x.0 below o w.2 own x.2));
+      }
 
-      pub step_halted : (orderings : Orderings) (new : List (Vec ℕ Global)) (e : EvalError) → IsWalked input tables instance orderings first old mid below
-          → IsStep (relation_of tables) step (relation_of tables below.outcome) orderings below.next mid new (Err e) → IsHalted (Over step input) instance orderings first e
-      step_halted (Chosen choice most) new e b x = from_stopped (Over step input) instance first choice most e (step_stopped most tables instance (orderings_of choice.now) first step input below b e x.refused)
-      step_halted (Sorted turned) new e b x = from_untied (Over step input) instance first turned e (memory_untied (Over step input) instance turned first e x.refused)
+      step_halted : (e : EvalError) → Halts step (relation_of tables below) mid e → IsHalted (Over step input) instance old e
+      step_halted (NotValid place) h = record {
+        chosen = λ most choice first at. (
+            let w = b.chosen most choice first at in
+            step_stopped most tables instance choice first step input (record { outcome = below; next = w.0 }) w.2 (NotValid place) (h.chosen most choice w.0 w.1));
+        sorted = λ kept turned made has. (let w = b.sorted kept turned made has in h.sorted kept turned w.0 w.1);
+      }
+      step_halted OutOfMemory h = record { chosen = λ most choice first at. tt; sorted = λ kept turned made has. tt }
+      step_halted TooManyRows h = record {
+        chosen = λ most choice first at. (
+            let w = b.chosen most choice first at in
+            large_stopped tables instance input below step most choice first w.0 w.2 (subst (λ m. IsLargeGroup m step (relation_of tables below)) (chosen_most mid most choice w.0 w.1) h));
+        sorted = λ kept turned made has. (
+            let w = b.sorted kept turned made has in
+            large_untied tables instance input below step turned made w.0 w.2 (subst (λ m. IsLargeGroup m step (relation_of tables below)) (sorted_most mid kept turned w.0 w.1) h));
+      }
 
-      -- a step without classes leaves the orderings as they are
-      bare_step : (orderings : Orderings) (o : Relation) → step_classes step ≡ [] → IsAt orderings below.next mid → relation_of tables o ≡ step_over step [] (relation_of tables below.outcome)
-          → IsStep (relation_of tables) step (relation_of tables below.outcome) orderings below.next mid mid (Ok o)
-      bare_step (Chosen choice most) o bare at is = record { ok = bare_stepped step (relation_of tables below.outcome) (orderings_of choice.now) below.next (relation_of tables o) bare (within_choice choice.now below.next at) is; refused = tt }
-      bare_step (Sorted turned) o bare at is = record { ok = bare_stable step (relation_of tables below.outcome) turned (orderings_of mid) (relation_of tables o) bare is; refused = tt }
-
-      pub bare_walked : (orderings : Orderings) (o : Relation) → step_classes step ≡ [] → IsAt orderings first old → IsWalked input tables instance orderings first old mid below → IsFew (most_of orderings) step (relation_of tables below.outcome)
-          → relation_of tables o ≡ step_over step [] (relation_of tables below.outcome) → IsWalked (Over step input) tables instance orderings first old mid (record { outcome = o; next = below.next })
-      bare_walked orderings o bare at b few is =
-          let none = ap length bare in
-          step_walked orderings mid o below.next at b few (bare_step orderings o bare (at_next tables instance first old mid orderings input below at b) is) (omega arith)
-
-  -- a Group of too many rows
-  module _ (rule : GroupRule) (input : PlanTree) (new : List (Vec ℕ Global)) (below : Evaluated) where
-    pub group_halted : (orderings : Orderings) (e : StepError) → IsAt orderings first old → IsWalked input tables instance orderings first old new below
-        → IsLarge (most_of orderings) (group_over rule (relation_of tables below.outcome)) e → IsHalted (Over (Group rule) input) instance orderings first (error_of e)
-    group_halted (Chosen choice most) e at b h = from_stopped (Over (Group rule) input) instance first choice most (error_of e) (group_stopped most tables instance (orderings_of choice.now) first rule input below b e h)
-    group_halted (Sorted turned) e at b h =
-        from_untied (Over (Group rule) input) instance first turned (error_of e)
-        (subst (λ (n : ℕ). IsUntied (Over (Group rule) input) instance turned n (error_of e)) (sym (after_made old first at))
-        (group_untied tables instance turned (orderings_of old) rule input (orderings_of new) below.outcome b.1 e h))
+      pub step_answered : (new : Orderings) (r : Result Relation EvalError) → IsWithin old → GivesOrHalts (relation_of tables) step (relation_of tables below) mid new r → IsWalkedOrHalted (Over step input) tables instance old new r
+      step_answered new (Ok o) within g = record { ok = step_walked new o within g.ok.0 g.ok.1; refused = tt }
+      step_answered new (Err e) within g = record { ok = tt; refused = step_halted e g.refused }
 
   -- ---- Join
 
-  pub join_halted_left : (condition : Option Expression) (left right : PlanTree) (orderings : Orderings) (e : EvalError) → IsAt orderings first old → IsHalted left instance orderings first e → IsHalted (Join condition left right) instance orderings first e
-  join_halted_left condition left right orderings e at h = halted_below orderings left (Join condition left right) e at (λ choice. join_stopped_left (most_of orderings) tables instance choice first condition left right e) (λ turned. join_untied_left tables instance turned (orderings_of old) condition left right e) h
+  module _ (condition : Option Expression) (left right : PlanTree) where
+    pub join_halted_left : (e : EvalError) → IsHalted left instance old e → IsHalted (Join condition left right) instance old e
+    join_halted_left e h = record {
+      chosen = λ most choice first at. join_stopped_left most tables instance choice first condition left right e (h.chosen most choice first at);
+      sorted = λ kept turned made has. join_untied_left tables instance turned made condition left right e (h.sorted kept turned made has);
+    }
 
-  module _ (condition : Option Expression) (left right : PlanTree) (mid : List (Vec ℕ Global)) (l : Evaluated) where
-    pub join_halted_right : (orderings : Orderings) (e : EvalError) → IsAt orderings first old → IsWalked left tables instance orderings first old mid l → IsHalted right instance orderings l.next e → IsHalted (Join condition left right) instance orderings first e
-    join_halted_right (Chosen choice most) e at a h = from_stopped (Join condition left right) instance first choice most e (join_stopped_right most tables instance (orderings_of choice.now) first condition left right l a e (to_stopped right instance l.next choice most e h))
-    join_halted_right (Sorted turned) e at a h =
-        let here = after_made old first at in
-        let there = after_made mid l.next a.0 in
-        from_untied (Join condition left right) instance first turned e
-        (subst (λ (n : ℕ). IsUntied (Join condition left right) instance turned n e) (sym here)
-        (join_untied_right tables instance turned (orderings_of old) condition left right (orderings_of mid) l.outcome a.1 e
-        (subst (λ (n : ℕ). IsUntied right instance turned n e) there (to_untied right instance l.next turned e h))))
+    module _ (mid : Orderings) (l : Relation) (a : IsWalked left tables instance old mid l) where
+      pub join_halted_right : (e : EvalError) → IsHalted right instance mid e → IsHalted (Join condition left right) instance old e
+      join_halted_right e h = record {
+        chosen = λ most choice first at. (
+            let w = a.chosen most choice first at in
+            join_stopped_right most tables instance choice first condition left right (record { outcome = l; next = w.0 }) w.2 e (h.chosen most choice w.0 w.1));
+        sorted = λ kept turned made has. (
+            let w = a.sorted kept turned made has in
+            join_untied_right tables instance turned made condition left right w.0 l w.2 e (h.sorted kept turned w.0 w.1));
+      }
 
-    module _ (new : List (Vec ℕ Global)) (r : Evaluated) where
-      pub join_walked : (orderings : Orderings) (o : Relation) → IsWalked left tables instance orderings first old mid l → IsWalked right tables instance orderings l.next mid new r
-          → IsSmall (most_of orderings) (join_over condition (relation_of tables l.outcome) (relation_of tables r.outcome)) (relation_of tables o) → IsWalked (Join condition left right) tables instance orderings first old new (record { outcome = o; next = r.next })
-      join_walked (Chosen choice most) o a b s = join_done most tables instance (orderings_of choice.now) first condition left right l a r b o s
-      join_walked (Sorted turned) o a b s = (b.0, join_tied tables instance turned (orderings_of old) condition left right (orderings_of mid) l.outcome a.1 (orderings_of new) r.outcome b.1 o s)
+      module _ (new : Orderings) (r : Relation) (b : IsWalked right tables instance mid new r) where
+        abbrev joined : RowsOrFault
+        joined = join_over condition (relation_of tables l) (relation_of tables r)
 
-      pub join_halted : (orderings : Orderings) (e : StepError) → IsAt orderings first old → IsWalked left tables instance orderings first old mid l → IsWalked right tables instance orderings l.next mid new r
-          → IsLarge (most_of orderings) (join_over condition (relation_of tables l.outcome) (relation_of tables r.outcome)) e → IsHalted (Join condition left right) instance orderings first (error_of e)
-      join_halted (Chosen choice most) e at a b h = from_stopped (Join condition left right) instance first choice most (error_of e) (join_stopped most tables instance (orderings_of choice.now) first condition left right l a r b e h)
-      join_halted (Sorted turned) e at a b h =
-          from_untied (Join condition left right) instance first turned (error_of e)
-          (subst (λ (n : ℕ). IsUntied (Join condition left right) instance turned n (error_of e)) (sym (after_made old first at))
-          (join_untied tables instance turned (orderings_of old) condition left right (orderings_of mid) l.outcome a.1 (orderings_of new) r.outcome b.1 e h))
+        pub join_walked : (o : Relation) → IsSmall (most_of new) joined (relation_of tables o) → IsWalked (Join condition left right) tables instance old new o
+        join_walked o s = record {
+          chosen = λ most choice first at. (
+              let w = a.chosen most choice first at in
+              let x = b.chosen most choice w.0 w.1 in (
+                x.0,
+                x.1,
+                join_done most tables instance choice first condition left right (record { outcome = l; next = w.0 }) w.2 (record { outcome = r; next = x.0 }) x.2 o (subst (λ m. IsSmall m joined (relation_of tables o)) (chosen_most new most choice x.0 x.1) s),
+              ));
+          sorted = λ kept turned made has. (
+              let w = a.sorted kept turned made has in
+              let x = b.sorted kept turned w.0 w.1 in (
+                x.0,
+                x.1,
+                join_tied tables instance turned made condition left right w.0 l w.2 x.0 r x.2 o (subst (λ m. IsSmall m joined (relation_of tables o)) (sorted_most new kept turned x.0 x.1) s),
+              ));
+        }
 
--- ---- a Limit under a choice
-
-pub limit_step : {X : Type 0} (view : X → RowsOrFault) (orderings : Orderings) (choice : Bor (List (Vec ℕ Global))) (most : ℕ) (limit : LimitRule) (input : RowsOrFault) (first : ℕ) (old new : List (Vec ℕ Global)) (r : Result X EvalError)
-    → orderings ≡ Chosen choice most → IsLimitedOrUnserved view limit input (orderings_of choice.now) first r → IsStep view (Limit limit) input orderings first old new r
-limit_step view orderings choice most limit input first old new r is h = subst (λ o. IsStep view (Limit limit) input o first old new r) (sym is) (limited_or_unserved view limit input (orderings_of choice.now) first r h)
+        pub join_halted : (e : StepError) → IsLarge (most_of new) joined e → IsHalted (Join condition left right) instance old (error_of e)
+        join_halted e h = record {
+          chosen = λ most choice first at. (
+              let w = a.chosen most choice first at in
+              let x = b.chosen most choice w.0 w.1 in
+              join_stopped most tables instance choice first condition left right (record { outcome = l; next = w.0 }) w.2 (record { outcome = r; next = x.0 }) x.2 e (subst (λ m. IsLarge m joined e) (chosen_most new most choice x.0 x.1) h));
+          sorted = λ kept turned made has. (
+              let w = a.sorted kept turned made has in
+              let x = b.sorted kept turned w.0 w.1 in
+              join_untied tables instance turned made condition left right w.0 l w.2 x.0 r x.2 e (subst (λ m. IsLarge m joined e) (sorted_most new kept turned x.0 x.1) h));
+        }

@@ -14,7 +14,12 @@ use Rattle.wd_nodes.specs.Relation.{relation_of}
 use Rattle.wd_eval.specs.Wrong.{IsWrongFrom}
 use Rattle.wd_eval.specs.declared.error.EvalError.{EvalError}
 use Rattle.wd_eval.specs.declared.error.EvalError.TheVariants.{NotValid, TooManyRows, OutOfMemory}
-use Rattle.wd_eval.specs.declared.node.Evaluated.{Evaluated}
+use Rattle.wd_nodes.specs.declared.relation.Relation.{Relation}
+
+-- what a node gives, and the number of the next ordering
+pub record Evaluated : Type 0 where
+  pub outcome : Relation
+  pub next : ℕ
 
 -- the plan's orderings are there, each of them lawful
 pub record IsServed (plan : PlanTree) (instance : Instance) (choice : List (List ℕ)) : Type 0 where

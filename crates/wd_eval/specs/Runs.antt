@@ -13,10 +13,13 @@ use Rattle.wd_eval.specs.declared.error.EvalError.{EvalError}
 use Rattle.wd_eval.specs.declared.eval.StableOutcome.{StableOutcome}
 use Rattle.wd_eval.specs.declared.turned.Turned.{Turned}
 
--- such a choice, but for one ordering that may take rows that tie in another turn, and the outcome under it
-pub record IsTurnedOutcome (plan : PlanTree) (instance : Instance) (turned : Option Turned) (t : StableOutcome) : Type 0 where
-  pub choice : IsValidTurnedChoice plan instance turned (orderings_of t.choice.orderings.items)
-  pub is : outcome_of t.outcome ≡ outcome plan instance (orderings_of t.choice.orderings.items)
+-- the orderings are such a choice, but for one that may take rows that tie in another turn, and this is the outcome under it
+pub record IsUnderTurned (plan : PlanTree) (instance : Instance) (turned : Option Turned) (orderings : List (List ℕ)) (o : RowsOrFault) : Type 0 where
+  pub choice : IsValidTurnedChoice plan instance turned orderings
+  pub is : o ≡ outcome plan instance orderings
+
+abbrev pub IsTurnedOutcome : PlanTree → Instance → Option Turned → StableOutcome → Type 0
+IsTurnedOutcome plan instance turned t = IsUnderTurned plan instance turned (orderings_of t.choice.orderings.items) (outcome_of t.outcome)
 
 -- the two, or why there are none
 abbrev pub IsTurnedOutcomeOrRefused : PlanTree → Instance → Option Turned → Result StableOutcome EvalError → Type 0

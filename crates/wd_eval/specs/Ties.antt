@@ -1,14 +1,11 @@
 -- Sorted orderings put after those that are there, node by node.
-use Rattle.std.specs.Prelude.{◌≡◌, ℕ, ◌+◌, ◌<◌, ◌≤◌, true, List, [], ◌++◌, drop, length, Option, Result, ⊤}
-use Rattle.std.specs.declared.alloc.Global.{Global}
-use Rattle.std.specs.declared.vec.Vec.{Vec}
+use Rattle.std.specs.Prelude.{◌≡◌, ℕ, ◌+◌, ◌<◌, ◌≤◌, true, List, [], ◌++◌, drop, length, Option, ⊤}
 use Rattle.wd_value.specs.Rows.{Instance}
 use Rattle.wd_plan.specs.Outcomes.{RowsOrFault, class_among, ordering_at}
 use Rattle.wd_plan.specs.Plans.{ClassRule, PlanTree, Step, step_classes, ordering_count}
-use Rattle.wd_nodes.specs.Results.{OkOr}
 use Rattle.wd_nodes.specs.Relation.{most_rows}
 use Rattle.wd_eval.specs.Nodes.{IsEvaluated}
-use Rattle.wd_eval.specs.Windows.{IsStepped, orderings_of}
+use Rattle.wd_eval.specs.Windows.{IsStepped}
 use Rattle.wd_eval.specs.Steps.{has_large_step}
 use Rattle.wd_eval.specs.Tied.{AreTied, IsSortedOver, turn_of}
 use Rattle.wd_eval.specs.declared.error.EvalError.{EvalError}
@@ -65,7 +62,3 @@ pub record IsPutEmpty (count : ℕ) (old new : List (List ℕ)) : Type 0 where
   pub grown : new ≡ old ++ own
   pub long : length own ≡ count
   pub empty : (k : ℕ) → k < count → ordering_at own k ≡ []
-
--- what a step gives under its sorted orderings, as the view of a value has it, or out of memory
-abbrev pub IsStableStepOrNoMemory : {X : Type 0} → (X → RowsOrFault) → Step → RowsOrFault → Option Turned → List (Vec ℕ Global) → List (Vec ℕ Global) → Result X EvalError → Type 0
-IsStableStepOrNoMemory view step input turned old new r = OkOr (λ x. IsStableStep step input turned (orderings_of old) (orderings_of new) (view x)) IsOutOfMemory r

@@ -1,16 +1,18 @@
 //! The partitions of a Window's classes, under the orderings of a choice and under sorted ones.
 
-ghost use Rattle.std.specs.Prelude.{◌≡◌, ◌^◌, ◌<◌, ◌≤◌, IfOk, MatchOption, Ok, length};
+ghost use Rattle.std.specs.Prelude.{◌≡◌, ◌^◌, ◌<◌, ◌≤◌, IfOk, MatchOption, Ok, OnOk, length};
 ghost use Rattle.wd_frame.specs.Laws as frames;
 ghost use Rattle.wd_partition.specs.Columns.{given_positions, sort_columns};
 ghost use Rattle.wd_plan.specs.Outcomes.{class_at};
 ghost use Rattle.wd_plan.specs.Plans.{class_of, window_of};
 ghost use Rattle.wd_sort.specs.Sorting.{IsStableSortOf};
 ghost use Rattle.wd_eval.specs.ClassIndexes as spec;
-ghost use Rattle.wd_eval.specs.ClassIndexes.{AreClassIndexesOrUnserved, IsIndexed, IsClassIndex, IsClassIndexIn};
+ghost use Rattle.wd_eval.specs.ClassIndexes.{AreClassIndexes, AreClassIndexesOrUnserved, IsIndexed, IsClassIndex, IsClassIndexIn};
+ghost use Rattle.wd_eval.specs.Ties.{AreAllPut};
 ghost use Rattle.wd_eval.specs.Windows.{HasOrdering, orderings_of};
 
 use crate::error::EvalError;
+use crate::turned::{Turned, turn_of};
 use std::alloc::Global;
 use wd_columns::RowSource;
 use wd_partition::{Partitions, SortedPartitions, Turn, partitions, sorted_partitions};
@@ -122,6 +124,33 @@ fn sorted_class_index_of(
         ordering,
         class_index,
     })
+}
+
+/// Puts the sorted ordering of each class of a Window after those made before, and gives the
+/// partitions under them.
+pub(crate) fn sorted_indexes(
+    alloc: Global,
+    window: &Window,
+    rows: &RowSource,
+    turned: Option<Turned>,
+    made: &mut Vec<Vec<u64>>,
+) -> Result<Vec<ClassIndex>, OutOfMemory>
+    requires { length rows.now < 2 ^ 32 }
+    ensures put { OnOk result (AreAllPut (window_of window.now).classes (Ok rows.now) turned (orderings_of made.old.items) (orderings_of made.new.items)) }
+    ensures indexes { IfOk result (λ v. AreClassIndexes (window_of window.now) rows.now (orderings_of made.new.items) (length (orderings_of made.old.items)) (length (window_of window.now).classes) v.items) }
+{
+    let mut indexes = Vec::new(alloc);
+    for number in 0..window.classes.len() {
+        let turn = turn_of(turned, made.len());
+        let sorted = sorted_class_index(alloc, window, number, rows, turn)?;
+        let SortedClassIndex {
+            ordering,
+            class_index,
+        } = sorted;
+        made.push(ordering)?;
+        indexes.push(class_index)?;
+    }
+    Ok(indexes)
 }
 
 /// Whether a call of the class with this number has a frame in RANGE with an offset: such a frame

@@ -3,8 +3,8 @@
 ghost use Rattle.std.specs.Prelude.{◌≡◌, ◌≤◌, true, None, IfErr, IfOk};
 ghost use Rattle.wd_eval.specs.Judged.{IsAllowedOrRefused, IsOutcome, IsOutcomeOrRefused, IsOutcomeWithin, IsOutcomeWithinOrRefused, IsRefused, IsRefusedWithin};
 ghost use Rattle.wd_eval.specs.Windows.{orderings_of};
-ghost use Rattle.wd_eval.specs.Runs.{IsRunOrRefused, IsStableOutcomeOrRefused, IsTurnedOutcomeOrRefused};
-ghost use Rattle.wd_eval.specs.Tied.{IsStableChoiceOrRefused, IsTurnedOrRefused};
+ghost use Rattle.wd_eval.specs.Runs.{IsRunOrRefused, IsStableOutcomeOrRefused, IsTurnedOutcomeOrRefused, IsUnderTurned};
+ghost use Rattle.wd_eval.specs.Tied.{IsStableChoiceOrRefused, IsTurnedOrRefused, IsTurnedRefused};
 ghost use Rattle.wd_nodes.specs.Relation.{most_rows, relation_of};
 ghost use Rattle.wd_plan.specs.Fits.{fits};
 ghost use Rattle.wd_plan.specs.Outcomes.{outcome_of};
@@ -14,12 +14,12 @@ ghost use Rattle.wd_value.specs.Rows.{instance_of};
 
 use crate::answer::{Answer, answer_of};
 use crate::error::EvalError;
-use crate::node::{Evaluated, evaluate};
+use crate::node::evaluate;
 use crate::orderings::{MOST_ROWS, Orderings};
 use crate::turned::{Turned, reversed_at};
 use std::alloc::Global;
 use wd_columns::Columns;
-use wd_nodes::{Relation, outcome_from, take_first_table};
+use wd_nodes::{MovedIn, Relation, outcome_from, take_tables};
 use wd_plan::{Choice, Outcome, Plan};
 use wd_schema::Schema;
 use wd_value::{Instance, OutOfMemory};
@@ -91,14 +91,17 @@ fn relation_within(
     ensures outcome { IfOk result (λ p. IsOutcomeWithin most (plan_of plan.now) (instance_of instance.now.items) (orderings_of choice.now.orderings.items) (relation_of (instance_of instance.now.items) p)) }
     ensures refused { IfErr result (λ e. IsRefusedWithin most (plan_of plan.now) (instance_of instance.now.items) (orderings_of choice.now.orderings.items) e) }
 {
-    let mut made = Vec::new(alloc);
-    let chosen = Orderings::Chosen(&choice.orderings, most as u64);
-    let evaluated = evaluate(alloc, plan, instance, None, chosen, 0, &mut made)?;
-    if evaluated.next < choice.orderings.len() {
-        return Err(EvalError::NotValid(evaluated.next as u64));
+    let mut chosen = Orderings::Chosen {
+        choice: &choice.orderings,
+        next: 0,
+        most: most as u64,
+    };
+    let nothing = &mut MovedIn::nothing(alloc);
+    let relation = evaluate(alloc, plan, instance, nothing, &mut chosen)?;
+    match chosen.left_over() {
+        Some(number) => Err(EvalError::NotValid(number)),
+        None => Ok(relation),
     }
-    let Evaluated { outcome, .. } = evaluated;
-    Ok(outcome)
 }
 
 /// Whether a choice is valid for a plan over an instance: one lawful ordering for each class of
@@ -147,10 +150,8 @@ fn turned_choice(
     requires { fits (schema_of schema.now) (plan_of plan.now) ≡ true }
     ensures { IsTurnedOrRefused (plan_of plan.now) (instance_of instance.now.items) turned result }
 {
-    let mut orderings = Vec::new(alloc);
-    let sorted = Orderings::Sorted(turned);
-    evaluate(alloc, plan, instance, None, sorted, 0, &mut orderings)?;
-    Ok(Choice { orderings })
+    let (choice, _) = walk_turned(alloc, plan, schema, instance, turned)?;
+    Ok(choice)
 }
 
 /// The choice that leaves all rows that tie as they are.
@@ -200,12 +201,32 @@ pub fn eval_turned(
     requires { fits (schema_of schema.now) (plan_of plan.now) ≡ true }
     ensures { IsTurnedOutcomeOrRefused (plan_of plan.now) (instance_of instance.now.items) turned result }
 {
-    let mut orderings = Vec::new(alloc);
-    let sorted = Orderings::Sorted(turned);
-    let evaluated = evaluate(alloc, plan, instance, None, sorted, 0, &mut orderings)?;
-    let outcome = outcome_from(alloc, instance, evaluated.outcome, 0)?;
-    let choice = Choice { orderings };
+    let (choice, relation) = walk_turned(alloc, plan, schema, instance, turned)?;
+    let outcome = outcome_from(alloc, instance, relation, 0)?;
     Ok(StableOutcome { choice, outcome })
+}
+
+/// The choice that leaves rows that tie as they are, but for one ordering that may take them in another turn, and what the plan's
+/// last step gives under it.
+fn walk_turned(
+    alloc: Global,
+    plan: &Plan,
+    schema: &Schema,
+    instance: &Instance,
+    turned: Option<Turned>,
+) -> Result<(Choice, Relation), EvalError>
+    requires { fits (schema_of schema.now) (plan_of plan.now) ≡ true }
+    ensures walked { IfOk result (λ r. IsUnderTurned (plan_of plan.now) (instance_of instance.now.items) turned (orderings_of r.0.orderings.items) (relation_of (instance_of instance.now.items) r.1)) }
+    ensures refused { IfErr result (λ e. IsTurnedRefused (plan_of plan.now) (instance_of instance.now.items) turned e) }
+{
+    let mut sorted = Orderings::Sorted {
+        turned,
+        made: Vec::new(alloc),
+    };
+    let nothing = &mut MovedIn::nothing(alloc);
+    let relation = evaluate(alloc, plan, instance, nothing, &mut sorted)?;
+    let orderings = sorted.into_made(alloc);
+    Ok((Choice { orderings }, relation))
 }
 
 /// The outcome of a plan over an instance under the choice that leaves rows that tie as they are.
@@ -222,9 +243,8 @@ pub fn run_plan(
     Ok(outcome)
 }
 
-/// What [`run_plan`] answers over tables that are moved in, kept column by column: the first one
-/// that the plan scans goes so into the steps above its Scan, where no other Scan reads it, and rows that
-/// are in columns at the end are answered so.
+/// What [`run_plan`] answers over tables that are moved in, kept column by column: each one that a single Scan
+/// of the plan reads goes so into the steps above it, and rows that are in columns at the end are answered so.
 pub fn run_columns(
     alloc: Global,
     plan: &Plan,
@@ -234,13 +254,10 @@ pub fn run_columns(
     requires { fits (schema_of schema.now) (plan_of plan.now) ≡ true }
     ensures { IsRunOrRefused (λ a. a) (plan_of plan.now) tables.items result }
 {
-    let mut left = tables;
-    let moved_in = take_first_table(alloc, plan, &mut left);
+    let (mut moved_in, left) = take_tables(alloc, plan, tables)?;
     let others = rows_of_all(alloc, left)?;
-    let mut orderings = Vec::new(alloc);
-    let sorted = Orderings::Sorted(None);
-    let evaluated = evaluate(alloc, plan, &others, moved_in, sorted, 0, &mut orderings)?;
-    let answer = answer_of(alloc, &others, evaluated.outcome)?;
+    let relation = evaluate(alloc, plan, &others, &mut moved_in, &mut Orderings::Stable)?;
+    let answer = answer_of(alloc, &others, relation)?;
     Ok(answer)
 }
 

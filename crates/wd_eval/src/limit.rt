@@ -6,7 +6,7 @@ ghost use Rattle.wd_eval.specs.Nodes.{IsLimitedOrUnserved, cut_over};
 ghost use Rattle.wd_nodes.specs.Relation.{relation_of, stored_rows_of, stored_or_fault_of};
 ghost use Rattle.wd_eval.specs.Tied.{IsSortedOver};
 ghost use Rattle.wd_eval.specs.Ties.{IsStableStep};
-ghost use Rattle.wd_eval.specs.Walks.{IsAt, IsStep};
+ghost use Rattle.wd_eval.specs.Walks.{GivesOrStops, IsWithin};
 ghost use Rattle.wd_plan.specs.Choices.{AtRows};
 ghost use Rattle.wd_plan.specs.Outcomes.{limited_rows};
 ghost use Rattle.wd_plan.specs.Plans as tree;
@@ -26,25 +26,31 @@ use wd_plan::{Limit, Outcome};
 use wd_steps::kept_positions;
 use wd_value::{Fault, OutOfMemory, Row};
 
-/// What the limit keeps of its input under the ordering with the number `first`, which has to be
-/// lawful, and empty where the input is a fault. A sorted one is appended to those made before.
+/// What the limit keeps of its input under the next ordering, which has to be lawful, and empty where the input is a fault.
 pub(crate) fn limit_rows(
     alloc: Global,
     instance: &[Vec<Row>],
     limit: &Limit,
     input: Relation,
-    orderings: Orderings,
-    first: usize,
-    made: &mut Vec<Vec<u64>>,
+    orderings: &mut Orderings,
 ) -> Result<Relation, EvalError>
-    requires { IsAt orderings first made.old.items }
-    ensures { IsStep (relation_of (instance_of instance.now)) (tree.Limit (limit_of limit.now)) (relation_of (instance_of instance.now) input) orderings.entry first made.old.items made.new.items result }
+    requires { IsWithin orderings.old }
+    ensures { GivesOrStops (relation_of (instance_of instance.now)) (tree.Limit (limit_of limit.now)) (relation_of (instance_of instance.now) input) orderings.old orderings.new result }
 {
     let input = store(alloc, instance, input)?;
     match orderings {
-        Orderings::Chosen(choice, _) => chosen_limit(alloc, instance, limit, input, choice, first),
-        Orderings::Sorted(turned) => {
-            let relation = sorted_limit(alloc, instance, limit, input, turned, made)?;
+        Orderings::Chosen { choice, next, .. } => {
+            let relation = chosen_limit(alloc, instance, limit, input, choice, *next)?;
+            *next += 1;
+            Ok(relation)
+        }
+        Orderings::Sorted { turned, made } => {
+            let relation = sorted_limit(alloc, instance, limit, input, *turned, made)?;
+            Ok(relation)
+        }
+        Orderings::Stable => {
+            let made = &mut Vec::new(alloc);
+            let relation = sorted_limit(alloc, instance, limit, input, None, made)?;
             Ok(relation)
         }
     }

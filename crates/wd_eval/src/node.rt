@@ -1,10 +1,11 @@
 //! A plan under the orderings of its nodes, node by node.
 
-ghost use Rattle.wd_nodes.specs.Held.{IsHeld, IsHeldForSome};
-ghost use Rattle.std.specs.Prelude.{◌≤◌};
-ghost use Rattle.wd_eval.specs.Walks.{IsAt, IsWalkedOrHalted, most_of};
-ghost use Rattle.wd_nodes.specs.Relation.{most_rows};
-ghost use Rattle.wd_plan.specs.Plans.{EachNamesClasses, plan_of};
+ghost use Rattle.std.specs.Prelude.{◌≡◌, drop, false, OnOk};
+ghost use Rattle.wd_eval.specs.Walks.{GivesOrHalts, IsWalkedOrHalted, IsWithin, most_of};
+ghost use Rattle.wd_join.specs.Joins.{has_more_rows};
+ghost use Rattle.wd_nodes.specs.Held.{IsHeld, IsHeldForSome, scan_count};
+ghost use Rattle.wd_nodes.specs.Relation.{relation_of};
+ghost use Rattle.wd_plan.specs.Plans.{EachNamesClasses, Over, PlanTree, Step, plan_of};
 ghost use Rattle.wd_value.specs.Rows.{Instance, instance_of};
 
 use crate::error::EvalError;
@@ -12,108 +13,86 @@ use crate::limit::limit_rows;
 use crate::orderings::Orderings;
 use crate::window::extend_rows;
 use std::alloc::Global;
-use wd_columns::Columns;
-use wd_nodes::{Relation, distinct, filter_input, group_input, join_inputs, map_input, scan_table};
+use wd_nodes::{
+    MovedIn, Relation, distinct, filter_input, group_input, join_inputs, map_input, scan_table,
+};
 use wd_plan::Plan;
 use wd_value::Row;
 
-/// What a node gives, and the number of the first ordering after its own.
-#[derive(Drop)]
-pub(crate) struct Evaluated {
-    pub outcome: Relation,
-    pub next: usize,
-}
-
-/// The plan's outcome under the orderings from `first` on, which are those of its nodes in
-/// postorder. Those of a choice are checked, a node's before the number of its rows; sorted ones are
-/// appended to those made before, of which there are `first`. The plan's first Scan takes the table
-/// that is moved in, where there is one; each other one reads the tables.
+/// The plan's outcome under the next orderings, which are those of its nodes in postorder. Those of a choice are checked, a node's
+/// before the number of its rows. Each Scan takes the table that is moved in for it, where there is one, and else reads the tables.
 pub(crate) fn evaluate(
     alloc: Global,
     plan: &Plan,
     tables: &[Vec<Row>],
-    moved_in: Option<Columns>,
-    orderings: Orderings,
-    first: usize,
-    made: &mut Vec<Vec<u64>>,
-) -> Result<Evaluated, EvalError>
-    requires at { IsAt orderings first made.old.items }
-    requires bounded { most_of orderings ≤ most_rows }
+    moved_in: &mut MovedIn,
+    orderings: &mut Orderings,
+) -> Result<Relation, EvalError>
+    requires within { IsWithin orderings.old }
     requires named { EachNamesClasses (plan_of plan.now) }
-    requires held { IsHeldForSome (plan_of plan.now) (instance_of tables.now) moved_in }
-    ensures { (instance : Instance) → IsHeld (plan_of plan.now) (instance_of tables.now) moved_in instance → IsWalkedOrHalted (plan_of plan.now) (instance_of tables.now) instance orderings.entry first made.old.items made.new.items result }
+    requires held { IsHeldForSome (plan_of plan.now) (instance_of tables.now) moved_in.old }
+    ensures moved { OnOk result (moved_in.new ≡ drop (scan_count (plan_of plan.now)) moved_in.old) }
+    ensures walked { (instance : Instance) → IsHeld (plan_of plan.now) (instance_of tables.now) moved_in.old instance → IsWalkedOrHalted (plan_of plan.now) (instance_of tables.now) instance orderings.old orderings.new result }
 {
-    let most = orderings.most();
     match plan {
         Plan::Scan { table, .. } => {
-            let outcome = scan_table(tables, moved_in, *table, most)?;
-            Ok(Evaluated {
-                outcome,
-                next: first,
-            })
+            let read = scan_table(tables, moved_in.next(), *table, orderings.most())?;
+            Ok(read)
         }
         Plan::Join {
             left,
             right,
             condition,
         } => {
-            let left = evaluate(alloc, left, tables, moved_in, orderings, first, made)?;
-            let right = evaluate(alloc, right, tables, None, orderings, left.next, made)?;
-            let outcome = join_inputs(alloc, tables, condition, left.outcome, right.outcome, most)?;
-            Ok(Evaluated {
-                outcome,
-                next: right.next,
-            })
+            let left = evaluate(alloc, left, tables, moved_in, orderings)?;
+            let right = evaluate(alloc, right, tables, moved_in, orderings)?;
+            let joined = join_inputs(alloc, tables, condition, left, right, orderings.most())?;
+            Ok(joined)
         }
-        Plan::Filter { input, condition } => {
-            let below = evaluate(alloc, input, tables, moved_in, orderings, first, made)?;
-            let outcome = filter_input(alloc, tables, condition, below.outcome)?;
-            Ok(Evaluated {
-                outcome,
-                next: below.next,
-            })
+        Plan::Filter { input, .. }
+        | Plan::Map { input, .. }
+        | Plan::Group { input, .. }
+        | Plan::Window { input, .. }
+        | Plan::Distinct { input }
+        | Plan::Limit { input, .. } => {
+            let below = evaluate(alloc, input, tables, moved_in, orderings)?;
+            step_over(alloc, plan, tables, below, orderings)
         }
-        Plan::Map { input, outputs } => {
-            let below = evaluate(alloc, input, tables, moved_in, orderings, first, made)?;
-            let outcome = map_input(alloc, tables, outputs, below.outcome)?;
-            Ok(Evaluated {
-                outcome,
-                next: below.next,
-            })
+    }
+}
+
+/// What the plan's last step gives over what its input gives. (A Scan and a Join are no step over one input.)
+fn step_over(
+    alloc: Global,
+    plan: &Plan,
+    tables: &[Vec<Row>],
+    input: Relation,
+    orderings: &mut Orderings,
+) -> Result<Relation, EvalError>
+    requires within { IsWithin orderings.old }
+    requires small { has_more_rows (most_of orderings.old) (relation_of (instance_of tables.now) input) ≡ false }
+    requires named { EachNamesClasses (plan_of plan.now) }
+    ensures { (step : Step) (below : PlanTree) → plan_of plan.now ≡ Over step below → GivesOrHalts (relation_of (instance_of tables.now)) step (relation_of (instance_of tables.now) input) orderings.old orderings.new result }
+{
+    match plan {
+        Plan::Scan { .. } | Plan::Join { .. } => Ok(input),
+        Plan::Filter { condition, .. } => {
+            let passing = filter_input(alloc, tables, condition, input)?;
+            Ok(passing)
         }
-        Plan::Group { input, group } => {
-            let below = evaluate(alloc, input, tables, moved_in, orderings, first, made)?;
-            let outcome = group_input(alloc, tables, group, below.outcome, most)?;
-            Ok(Evaluated {
-                outcome: Relation::Made(outcome),
-                next: below.next,
-            })
+        Plan::Map { outputs, .. } => {
+            let mapped = map_input(alloc, tables, outputs, input)?;
+            Ok(mapped)
         }
-        Plan::Window { input, window } => {
-            let below = evaluate(alloc, input, tables, moved_in, orderings, first, made)?;
-            let Evaluated { outcome, next } = below;
-            let outcome = extend_rows(alloc, tables, window, outcome, orderings, next, made)?;
-            Ok(Evaluated {
-                outcome,
-                next: next + window.classes.len(),
-            })
+        Plan::Group { group, .. } => {
+            let groups = group_input(alloc, tables, group, input, orderings.most())?;
+            Ok(Relation::Made(groups))
         }
-        Plan::Distinct { input } => {
-            let below = evaluate(alloc, input, tables, moved_in, orderings, first, made)?;
-            let outcome = distinct(alloc, tables, below.outcome)?;
-            Ok(Evaluated {
-                outcome,
-                next: below.next,
-            })
+        Plan::Window { window, .. } => extend_rows(alloc, tables, window, input, orderings),
+        Plan::Distinct { .. } => {
+            let firsts = distinct(alloc, tables, input)?;
+            Ok(firsts)
         }
-        Plan::Limit { input, limit } => {
-            let below = evaluate(alloc, input, tables, moved_in, orderings, first, made)?;
-            let Evaluated { outcome, next } = below;
-            let outcome = limit_rows(alloc, tables, limit, outcome, orderings, next, made)?;
-            Ok(Evaluated {
-                outcome,
-                next: next + 1,
-            })
-        }
+        Plan::Limit { limit, .. } => limit_rows(alloc, tables, limit, input, orderings),
     }
 }

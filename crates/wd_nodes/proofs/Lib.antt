@@ -1,3 +1,4 @@
 pub mod Held
+mod Taken
 pub mod Enough
 pub mod Selected

@@ -1,4 +1,5 @@
 pub mod Results
 pub mod Relation
 pub mod Held
+pub mod Taken
 pub mod Enough

@@ -3,7 +3,8 @@
 //! `relation` has the forms of rows between two steps, `stored` those of them that are a list of rows or columns, which a step reads where
 //! they are (`source`) and of which it keeps some by their positions (`pick_rows`). `step` has the steps, but for a Window and a Limit,
 //! which wd_eval does under its orderings: columns stay columns, but for a Group and a join whose condition is more than equalities.
-//! `pairs` leaves out pairs of rows that a condition above can't let through; `moved_in` moves a plan's first table in.
+//! `pairs` leaves out pairs of rows that a condition above can't let through; `moved_in` has the
+//! tables that are moved into an evaluation, each for the one Scan that reads it.
 #![tactic(auto)]
 
 mod moved_in;
@@ -12,7 +13,7 @@ mod relation;
 mod step;
 mod stored;
 
-pub use moved_in::take_first_table;
+pub use moved_in::{MovedIn, take_tables};
 pub use relation::{
     ListedRelation, Relation, into_own_outcome, listed_rows, make_list, outcome_from, table_in,
 };

@@ -1,47 +1,15 @@
-use Rattle.std.proofs.Common.{◌≡◌, [], subst}
+use Rattle.std.proofs.Common.{◌≡◌, ◌∙◌, subst}
 use Rattle.std.proofs.lemmas.Result.{err_from_is_err_and}
-use Rattle.wd_plan.proofs.Ranges.{names_classes}
-use Rattle.wd_schema.specs.Schemas.{schema_of}
 use Rattle.wd_value.specs.Rows.{instance_of}
-use Rattle.wd_plan.specs.Plans.{plan_of}
 use Rattle.wd_plan.specs.Outcomes.{outcome_of}
-use Rattle.wd_eval.specs.Windows.{orderings_of}
 use Rattle.wd_nodes.specs.Relation.{relation_of}
-use Rattle.wd_eval.specs.Ties.{IsUnderStable, IsUntied}
-use Rattle.wd_nodes.proofs.Held.{same_for_some, same_held}
-use Rattle.wd_eval.proofs.SomeTied.{refused_from}
-use Rattle.wd_eval.proofs.Tying.{stable_outcome, tied_valid}
-use Rattle.wd_eval.proofs.Walks.{to_untied}
 use Rattle.wd_eval.proofs.eval.eval_turned.Goals as goal
 
-pub evaluate-requires-clause-named : goal.evaluate-requires-clause-named
-evaluate-requires-clause-named c = names_classes (schema_of c.args.schema.now) (plan_of c.args.plan.now) c.requires
-
-pub evaluate-requires-clause-held : goal.evaluate-requires-clause-held
-evaluate-requires-clause-held c = same_for_some (plan_of c.args.plan.now) (instance_of c.deref.result.now)
-
-pub returns-in_err-evaluated : goal.returns-in_err-evaluated
-returns-in_err-evaluated c =
-    let p = err_from_is_err_and c.from_residual.result c.from_residual.ensures.1 in
-    let e = c.in_err-evaluated.field-0.0 in
-    let plan = plan_of c.args.plan.now in
-    let untied = to_untied plan (instance_of c.deref.result.now) 0 c.args.turned e (c.in_err-evaluated.ensures (instance_of c.deref.result.now) (same_held plan (instance_of c.deref.result.now))).refused in
-    let h = subst (λ is. IsUntied plan (instance_of is) c.args.turned 0 e) c.deref.ensures.value untied in
-    rw (p.1, p.2) (record { ok = tt; refused = refused_from plan (instance_of c.args.instance.now.items) c.args.turned e h })
+pub returns-in_err-choice : goal.returns-in_err-choice
+returns-in_err-choice c = let p = err_from_is_err_and c.from_residual.result c.from_residual.ensures.1 in rw (p.1, p.2) (record { ok = tt; refused = c.in_err-choice.ensures.refused })
 
 pub returns : goal.returns
 returns c =
-    let plan = plan_of c.args.plan.now in
-    let instance = instance_of c.args.instance.now.items in
-    let own = instance_of c.deref.result.now in
-    let e = c.in_ok-evaluated.evaluated in
-    let new = orderings_of c.evaluate.new.made.items in
-    let o = c.in_ok-outcome.outcome in
-    let walked = (c.in_ok-evaluated.ensures own (same_held plan own)).ok in
-    let tied = subst (λ old. IsUnderStable plan own own c.args.turned (orderings_of old) new e.outcome) c.new-orderings.ensures.items walked.1 in
-    let here = subst (λ is. IsUnderStable plan (instance_of is) (instance_of is) c.args.turned [] new e.outcome) c.deref.ensures.value tied in
-    let is = subst (λ is. outcome_of o ≡ relation_of (instance_of is) e.outcome) c.deref-2.ensures.value c.in_ok-outcome.ensures in
-    record {
-      ok = record { choice = tied_valid plan instance instance c.args.turned new e.outcome here; is = (stable_outcome plan instance instance c.args.turned new e.outcome here (outcome_of o) is).is };
-      refused = tt;
-    }
+    let walked = c.in_ok-choice.ensures.walked in
+    let is = subst (λ is. outcome_of c.in_ok-outcome.outcome ≡ relation_of (instance_of is) c.in_ok-choice.relation) c.deref.ensures.value c.in_ok-outcome.ensures in
+    record { ok = record { choice = walked.choice; is = is ∙ walked.is }; refused = tt }

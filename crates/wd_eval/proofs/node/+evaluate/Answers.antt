@@ -1,213 +1,274 @@
-use Rattle.std.proofs.Common.{◌≡◌, ◌+◌, ◌∙◌, refl, sym, ap, subst, map, length, rules, arith, Ok, Err}
+use Rattle.std.proofs.Common.{◌≡◌, ◌∙◌, sym, ap, subst, map, drop, drop-drop, ⊎_elim, arith, Ok}
 use Rattle.std.specs.Prelude.{option_map}
-use Rattle.std.proofs.lemmas.List.{length-map}
 use Rattle.std.proofs.lemmas.Result.{err_from_is_err_and}
-use Rattle.wd_value.specs.Rows.{instance_of}
+use Rattle.wd_value.specs.Rows.{instance_of, table_at}
 use Rattle.wd_plan.specs.Expressions.{expression_of}
-use Rattle.wd_plan.specs.Faults.{and_then}
-use Rattle.wd_plan.specs.Outcomes.{distinct, filter_outcome, map_outcome, outcome_of}
-use Rattle.wd_plan.specs.Plans.{EachNamesClasses, Filter, Map, Group, Window, Distinct, Limit, Join, class_of, grouping_of, limit_of, plan_of, window_of}
-use Rattle.wd_join.specs.Joins.{has_more_rows}
-use Rattle.wd_nodes.specs.Held.{IsHeld}
-use Rattle.wd_nodes.specs.Relation.{IsLarge, IsSmall, group_over, join_over, relation_of}
-use Rattle.wd_nodes.specs.declared.relation.Relation.TheVariants.{Made}
-use Rattle.wd_eval.proofs.Walking.{bare_answered, below_stopped, group_stopped, join_answered, join_stopped, left_stopped, over_reached, right_stopped, step_answered, step_stopped}
-use Rattle.wd_eval.proofs.Walks.{small_below}
+use Rattle.wd_plan.specs.Plans.{EachNamesClasses, Filter, Map, Group, Window, Distinct, Limit, Join, Over, grouping_of, limit_of, plan_of, window_of}
+use Rattle.wd_nodes.specs.Held.{IsHeld, read_at, scan_count}
+use Rattle.wd_nodes.specs.Relation.{IsLarge, IsSmall, join_over, relation_of}
+use Rattle.wd_eval.specs.Errors.{error_of}
+use Rattle.wd_eval.specs.Walks.{IsHalted, IsWalked, IsWalkedOrHalted, most_of}
+use Rattle.wd_eval.proofs.Walking.{IsStepOver, height, on_ok}
+use Rattle.wd_eval.proofs.Walks.{join_halted, join_halted_left, join_halted_right, join_walked, scan_halted, scan_walked, small_below, step_answered, step_halted_below, within_next}
 use Rattle.wd_eval.proofs.node.+evaluate.Goals as goal
 
-pub returns-in_ok-outcome-in-Filter : goal.returns-in_ok-outcome-in-Filter
-returns-in_ok-outcome-in-Filter t c =
-    let step = Filter (expression_of c.in-Filter.condition) in
-    let is = over_reached step (plan_of c.args.plan.now) c.in-Filter.input.value c.deref-in-Filter.result.now (ap plan_of c.in-Filter.is) c.deref-in-Filter.ensures in
+-- ---- Scan
+
+pub returns-in_ok-read-in-Scan-clause-moved : goal.returns-in_ok-read-in-Scan-clause-moved
+returns-in_ok-read-in-Scan-clause-moved t c = c.next.ensures.left ∙ ap (λ n. drop n c.args.moved_in.now) (sym (ap scan_count (ap plan_of c.in-Scan.is)))
+
+pub returns-in_ok-read-in-Scan-clause-walked : goal.returns-in_ok-read-in-Scan-clause-walked
+returns-in_ok-read-in-Scan-clause-walked t c = λ instance held. (
     let tables = instance_of c.args.tables.now in
-    let below = c.in_ok-below-in-Filter.below in
-    let o = c.in_ok-outcome-in-Filter.outcome in
-    let found : relation_of tables o ≡ and_then (relation_of tables below.outcome) (filter_outcome (expression_of c.in-Filter.condition)) = search rules in
-    bare_answered (instance_of c.args.tables.now) c.args.moved_in c.args.orderings c.args.first c.args.made.now.items (plan_of c.args.plan.now) step (plan_of c.deref-in-Filter.result.now) is c.requires.at c.evaluate-in-Filter.new.made.items below c.in_ok-below-in-Filter.ensures o refl tt found
+    let old = c.args.orderings.now in
+    let table = c.in-Scan.table in
+    let columns = c.in-Scan.columns in
+    let o = c.in_ok-read-in-Scan.read in
+    let here = subst (λ p. IsHeld p tables c.args.moved_in.now instance) (ap plan_of c.in-Scan.is) held in
+    let is : read_at tables c.next.result table ≡ table_at instance table = ap (λ m. read_at tables m table) c.next.ensures.value ∙ here in
+    let small = subst (λ rows. IsSmall (most_of old) (Ok rows) (relation_of tables o)) is (subst (λ m. IsSmall m (Ok (read_at tables c.next.result table)) (relation_of tables o)) c.most.ensures c.in_ok-read-in-Scan.ensures.ok) in
+    record {
+      ok = subst (λ p. IsWalked p tables instance old old o) (sym (ap plan_of c.in-Scan.is)) (scan_walked tables instance old table columns o small);
+      refused = tt;
+    })
 
-pub returns-in_err-below-in-Filter : goal.returns-in_err-below-in-Filter
-returns-in_err-below-in-Filter t c =
-    let step = Filter (expression_of c.in-Filter.condition) in
-    let is = over_reached step (plan_of c.args.plan.now) c.in-Filter.input.value c.deref-in-Filter.result.now (ap plan_of c.in-Filter.is) c.deref-in-Filter.ensures in
-    let e = c.in_err-below-in-Filter.field-0.0 in
-    let err = err_from_is_err_and c.from_residual-in_err-below-in-Filter.result c.from_residual-in_err-below-in-Filter.ensures.1 in
-    below_stopped (instance_of c.args.tables.now) c.args.moved_in c.args.orderings c.args.first c.args.made.now.items (plan_of c.args.plan.now) step (plan_of c.deref-in-Filter.result.now) is c.requires.at c.evaluate-in-Filter.new.made.items e c.from_residual-in_err-below-in-Filter.result c.in_err-below-in-Filter.ensures (err.1 ∙ ap Err err.2)
-
-pub returns-in_ok-outcome-in-Map : goal.returns-in_ok-outcome-in-Map
-returns-in_ok-outcome-in-Map t c =
-    let step = Map (map expression_of c.in-Map.outputs.items) in
-    let is = over_reached step (plan_of c.args.plan.now) c.in-Map.input.value c.deref-in-Map.result.now (ap plan_of c.in-Map.is) c.deref-in-Map.ensures in
+pub returns-in_err-read-in-Scan-clause-walked : goal.returns-in_err-read-in-Scan-clause-walked
+returns-in_err-read-in-Scan-clause-walked t c = λ instance held. (
     let tables = instance_of c.args.tables.now in
-    let below = c.in_ok-below-in-Map.below in
-    let o = c.in_ok-outcome-in-Map.outcome in
-    let found : relation_of tables o ≡ and_then (relation_of tables below.outcome) (map_outcome (map expression_of c.in-Map.outputs.items)) = search rules in
-    bare_answered (instance_of c.args.tables.now) c.args.moved_in c.args.orderings c.args.first c.args.made.now.items (plan_of c.args.plan.now) step (plan_of c.deref-in-Map.result.now) is c.requires.at c.evaluate-in-Map.new.made.items below c.in_ok-below-in-Map.ensures o refl tt found
+    let old = c.args.orderings.now in
+    let table = c.in-Scan.table in
+    let columns = c.in-Scan.columns in
+    let e = c.in_err-read-in-Scan.field-0.0 in
+    let err = err_from_is_err_and c.from_residual.result c.from_residual.ensures.1 in
+    let here = subst (λ p. IsHeld p tables c.args.moved_in.now instance) (ap plan_of c.in-Scan.is) held in
+    let is : read_at tables c.next.result table ≡ table_at instance table = ap (λ m. read_at tables m table) c.next.ensures.value ∙ here in
+    let large = subst (λ rows. IsLarge (most_of old) (Ok rows) e) is (subst (λ m. IsLarge m (Ok (read_at tables c.next.result table)) e) c.most.ensures c.in_err-read-in-Scan.ensures.refused) in
+    let halted = scan_halted tables instance old table columns e large in
+    rw (err.1, err.2) (record { ok = tt; refused = subst (λ p. IsHalted p instance old (error_of e)) (sym (ap plan_of c.in-Scan.is)) halted }))
 
-pub returns-in_err-below-in-Map : goal.returns-in_err-below-in-Map
-returns-in_err-below-in-Map t c =
-    let step = Map (map expression_of c.in-Map.outputs.items) in
-    let is = over_reached step (plan_of c.args.plan.now) c.in-Map.input.value c.deref-in-Map.result.now (ap plan_of c.in-Map.is) c.deref-in-Map.ensures in
-    let e = c.in_err-below-in-Map.field-0.0 in
-    let err = err_from_is_err_and c.from_residual-in_err-below-in-Map.result c.from_residual-in_err-below-in-Map.ensures.1 in
-    below_stopped (instance_of c.args.tables.now) c.args.moved_in c.args.orderings c.args.first c.args.made.now.items (plan_of c.args.plan.now) step (plan_of c.deref-in-Map.result.now) is c.requires.at c.evaluate-in-Map.new.made.items e c.from_residual-in_err-below-in-Map.result c.in_err-below-in-Map.ensures (err.1 ∙ ap Err err.2)
+-- ---- Join
 
-pub returns-in_ok-outcome-in-Distinct : goal.returns-in_ok-outcome-in-Distinct
-returns-in_ok-outcome-in-Distinct t c =
-    let step = Distinct in
-    let is = over_reached step (plan_of c.args.plan.now) c.in-Distinct.input.value c.deref-in-Distinct.result.now (ap plan_of c.in-Distinct.is) c.deref-in-Distinct.ensures in
+pub evaluate-requires : goal.evaluate-requires
+evaluate-requires t c =
     let tables = instance_of c.args.tables.now in
-    let below = c.in_ok-below-in-Distinct.below in
-    let o = c.in_ok-outcome-in-Distinct.outcome in
-    let found : relation_of tables o ≡ and_then (relation_of tables below.outcome) (λ rows. Ok (distinct rows)) = search rules in
-    bare_answered (instance_of c.args.tables.now) c.args.moved_in c.args.orderings c.args.first c.args.made.now.items (plan_of c.args.plan.now) step (plan_of c.deref-in-Distinct.result.now) is c.requires.at c.evaluate-in-Distinct.new.made.items below c.in_ok-below-in-Distinct.ensures o refl tt found
+    let right = plan_of c.in-Join.right.value in
+    let condition = option_map expression_of c.in-Join.condition in
+    let is = ap plan_of c.in-Join.is ∙ ap (λ p. Join condition (plan_of p) right) (sym c.deref.ensures) in
+    let some = c.requires.held in
+    let held = subst (λ p. IsHeld p tables c.args.moved_in.now some.instance) is some.held in
+    let named = subst EachNamesClasses is c.requires.named in
+    let lower = ap height is in
+    (omega arith, (c.requires.within, (named.0, record { instance = some.instance; held = held.0 })))
 
-pub returns-in_err-below-in-Distinct : goal.returns-in_err-below-in-Distinct
-returns-in_err-below-in-Distinct t c =
-    let step = Distinct in
-    let is = over_reached step (plan_of c.args.plan.now) c.in-Distinct.input.value c.deref-in-Distinct.result.now (ap plan_of c.in-Distinct.is) c.deref-in-Distinct.ensures in
-    let e = c.in_err-below-in-Distinct.field-0.0 in
-    let err = err_from_is_err_and c.from_residual-in_err-below-in-Distinct.result c.from_residual-in_err-below-in-Distinct.ensures.1 in
-    below_stopped (instance_of c.args.tables.now) c.args.moved_in c.args.orderings c.args.first c.args.made.now.items (plan_of c.args.plan.now) step (plan_of c.deref-in-Distinct.result.now) is c.requires.at c.evaluate-in-Distinct.new.made.items e c.from_residual-in_err-below-in-Distinct.result c.in_err-below-in-Distinct.ensures (err.1 ∙ ap Err err.2)
+pub evaluate-requires-in-Join : goal.evaluate-requires-in-Join
+evaluate-requires-in-Join t c =
+    let tables = instance_of c.args.tables.now in
+    let left = plan_of c.deref.result.now in
+    let right = plan_of c.in-Join.right.value in
+    let condition = option_map expression_of c.in-Join.condition in
+    let is = ap plan_of c.in-Join.is ∙ ap (λ p. Join condition (plan_of p) right) (sym c.deref.ensures) in
+    let some = c.requires.held in
+    let held = subst (λ p. IsHeld p tables c.args.moved_in.now some.instance) is some.held in
+    let named = subst EachNamesClasses is c.requires.named in
+    let walked = (c.in_ok-left-in-Join.ensures.walked some.instance held.0).ok in
+    let moved = c.in_ok-left-in-Join.ensures.moved in
+    let there = subst (λ p. IsHeld (plan_of p) tables c.evaluate.new.moved_in some.instance) (sym c.deref-in-Join.ensures) (subst (λ m. IsHeld right tables m some.instance) (sym moved) held.1) in (
+      (let lower = ap height is in let here = ap (λ p. height (plan_of p)) c.deref-in-Join.ensures in omega arith),
+      (
+        within_next tables some.instance left c.evaluate.new.orderings c.in_ok-left-in-Join.left c.args.orderings.now c.requires.within walked,
+        (subst (λ p. EachNamesClasses (plan_of p)) (sym c.deref-in-Join.ensures) named.1, record { instance = some.instance; held = there }),
+      ),
+    )
 
-pub returns-in_ok-outcome-in-Window : goal.returns-in_ok-outcome-in-Window
-returns-in_ok-outcome-in-Window t c =
-    let step = Window (window_of c.in-Window.window) in
-    let is = over_reached step (plan_of c.args.plan.now) c.in-Window.input.value c.deref-in-Window.result.now (ap plan_of c.in-Window.is) c.deref-in-Window.ensures in
-    let below = c.in_ok-below-in-Window.below in
-    let long : c.len.result ≡ length c.in-Window.window.classes.items = search rules in
-    let after = ap (λ n. below.next + n) (long ∙ sym (length-map c.in-Window.window.classes.items class_of)) in
-    step_answered (instance_of c.args.tables.now) c.args.moved_in c.args.orderings c.args.first c.args.made.now.items (plan_of c.args.plan.now) step (plan_of c.deref-in-Window.result.now) is c.requires.at c.evaluate-in-Window.new.made.items below c.in_ok-below-in-Window.ensures c.extend_rows.new.made.items c.in_ok-outcome-in-Window.outcome (below.next + c.len.result) tt c.in_ok-outcome-in-Window.ensures after
-
-pub returns-in_err-below-in-Window : goal.returns-in_err-below-in-Window
-returns-in_err-below-in-Window t c =
-    let step = Window (window_of c.in-Window.window) in
-    let is = over_reached step (plan_of c.args.plan.now) c.in-Window.input.value c.deref-in-Window.result.now (ap plan_of c.in-Window.is) c.deref-in-Window.ensures in
-    let e = c.in_err-below-in-Window.field-0.0 in
-    let err = err_from_is_err_and c.from_residual-in_err-below-in-Window.result c.from_residual-in_err-below-in-Window.ensures.1 in
-    below_stopped (instance_of c.args.tables.now) c.args.moved_in c.args.orderings c.args.first c.args.made.now.items (plan_of c.args.plan.now) step (plan_of c.deref-in-Window.result.now) is c.requires.at c.evaluate-in-Window.new.made.items e c.from_residual-in_err-below-in-Window.result c.in_err-below-in-Window.ensures (err.1 ∙ ap Err err.2)
-
-pub returns-in_err-outcome-in-Window : goal.returns-in_err-outcome-in-Window
-returns-in_err-outcome-in-Window t c =
-    let step = Window (window_of c.in-Window.window) in
-    let is = over_reached step (plan_of c.args.plan.now) c.in-Window.input.value c.deref-in-Window.result.now (ap plan_of c.in-Window.is) c.deref-in-Window.ensures in
-    let e = c.in_err-outcome-in-Window.field-0.0 in
-    let err = err_from_is_err_and c.from_residual-in_err-outcome-in-Window.result c.from_residual-in_err-outcome-in-Window.ensures.1 in
-    step_stopped (instance_of c.args.tables.now) c.args.moved_in c.args.orderings c.args.first c.args.made.now.items (plan_of c.args.plan.now) step (plan_of c.deref-in-Window.result.now) is c.requires.at c.evaluate-in-Window.new.made.items c.in_ok-below-in-Window.below c.in_ok-below-in-Window.ensures c.extend_rows.new.made.items e c.from_residual-in_err-outcome-in-Window.result c.in_err-outcome-in-Window.ensures (err.1 ∙ ap Err err.2)
-
-pub returns-in_ok-outcome-in-Limit : goal.returns-in_ok-outcome-in-Limit
-returns-in_ok-outcome-in-Limit t c =
-    let step = Limit (limit_of c.in-Limit.limit) in
-    let is = over_reached step (plan_of c.args.plan.now) c.in-Limit.input.value c.deref-in-Limit.result.now (ap plan_of c.in-Limit.is) c.deref-in-Limit.ensures in
-    let below = c.in_ok-below-in-Limit.below in
-    step_answered (instance_of c.args.tables.now) c.args.moved_in c.args.orderings c.args.first c.args.made.now.items (plan_of c.args.plan.now) step (plan_of c.deref-in-Limit.result.now) is c.requires.at c.evaluate-in-Limit.new.made.items below c.in_ok-below-in-Limit.ensures c.limit_rows.new.made.items c.in_ok-outcome-in-Limit.outcome (below.next + 1) tt c.in_ok-outcome-in-Limit.ensures refl
-
-pub returns-in_err-below-in-Limit : goal.returns-in_err-below-in-Limit
-returns-in_err-below-in-Limit t c =
-    let step = Limit (limit_of c.in-Limit.limit) in
-    let is = over_reached step (plan_of c.args.plan.now) c.in-Limit.input.value c.deref-in-Limit.result.now (ap plan_of c.in-Limit.is) c.deref-in-Limit.ensures in
-    let e = c.in_err-below-in-Limit.field-0.0 in
-    let err = err_from_is_err_and c.from_residual-in_err-below-in-Limit.result c.from_residual-in_err-below-in-Limit.ensures.1 in
-    below_stopped (instance_of c.args.tables.now) c.args.moved_in c.args.orderings c.args.first c.args.made.now.items (plan_of c.args.plan.now) step (plan_of c.deref-in-Limit.result.now) is c.requires.at c.evaluate-in-Limit.new.made.items e c.from_residual-in_err-below-in-Limit.result c.in_err-below-in-Limit.ensures (err.1 ∙ ap Err err.2)
-
-pub returns-in_err-outcome-in-Limit : goal.returns-in_err-outcome-in-Limit
-returns-in_err-outcome-in-Limit t c =
-    let step = Limit (limit_of c.in-Limit.limit) in
-    let is = over_reached step (plan_of c.args.plan.now) c.in-Limit.input.value c.deref-in-Limit.result.now (ap plan_of c.in-Limit.is) c.deref-in-Limit.ensures in
-    let e = c.in_err-outcome-in-Limit.field-0.0 in
-    let err = err_from_is_err_and c.from_residual-in_err-outcome-in-Limit.result c.from_residual-in_err-outcome-in-Limit.ensures.1 in
-    step_stopped (instance_of c.args.tables.now) c.args.moved_in c.args.orderings c.args.first c.args.made.now.items (plan_of c.args.plan.now) step (plan_of c.deref-in-Limit.result.now) is c.requires.at c.evaluate-in-Limit.new.made.items c.in_ok-below-in-Limit.below c.in_ok-below-in-Limit.ensures c.limit_rows.new.made.items e c.from_residual-in_err-outcome-in-Limit.result c.in_err-outcome-in-Limit.ensures (err.1 ∙ ap Err err.2)
-
-pub returns-in_err-left-in-Join : goal.returns-in_err-left-in-Join
-returns-in_err-left-in-Join t c =
+pub returns-in_err-left-in-Join-clause-walked : goal.returns-in_err-left-in-Join-clause-walked
+returns-in_err-left-in-Join-clause-walked t c = λ instance held. (
+    let tables = instance_of c.args.tables.now in
+    let old = c.args.orderings.now in
     let left = plan_of c.deref.result.now in
     let right = plan_of c.in-Join.right.value in
     let condition = option_map expression_of c.in-Join.condition in
     let is = ap plan_of c.in-Join.is ∙ ap (λ p. Join condition (plan_of p) right) (sym c.deref.ensures) in
     let e = c.in_err-left-in-Join.field-0.0 in
     let err = err_from_is_err_and c.from_residual-in_err-left-in-Join.result c.from_residual-in_err-left-in-Join.ensures.1 in
-    left_stopped (instance_of c.args.tables.now) c.args.moved_in c.args.orderings c.args.first c.args.made.now.items (plan_of c.args.plan.now) condition left right is c.requires.at c.evaluate.new.made.items e c.from_residual-in_err-left-in-Join.result c.in_err-left-in-Join.ensures (err.1 ∙ ap Err err.2)
+    let here = subst (λ p. IsHeld p tables c.args.moved_in.now instance) is held in
+    let halted = join_halted_left tables instance old condition left right e (c.in_err-left-in-Join.ensures.walked instance here.0).refused in
+    rw (err.1, err.2) (record { ok = tt; refused = subst (λ p. IsHalted p instance old e) (sym is) halted }))
 
-pub returns-in_err-right-in-Join : goal.returns-in_err-right-in-Join
-returns-in_err-right-in-Join t c =
+pub returns-in_err-right-in-Join-clause-walked : goal.returns-in_err-right-in-Join-clause-walked
+returns-in_err-right-in-Join-clause-walked t c = λ instance held. (
+    let tables = instance_of c.args.tables.now in
+    let old = c.args.orderings.now in
     let left = plan_of c.deref.result.now in
     let right = plan_of c.deref-in-Join.result.now in
     let condition = option_map expression_of c.in-Join.condition in
     let is = ap plan_of c.in-Join.is ∙ (λ i. Join condition (plan_of (sym c.deref.ensures i)) (plan_of (sym c.deref-in-Join.ensures i))) in
     let e = c.in_err-right-in-Join.field-0.0 in
     let err = err_from_is_err_and c.from_residual-in_err-right-in-Join.result c.from_residual-in_err-right-in-Join.ensures.1 in
-    right_stopped (instance_of c.args.tables.now) c.args.moved_in c.args.orderings c.args.first c.args.made.now.items (plan_of c.args.plan.now) condition left right is c.requires.at c.evaluate.new.made.items c.in_ok-left-in-Join.left c.in_ok-left-in-Join.ensures c.evaluate-in-Join.new.made.items e c.from_residual-in_err-right-in-Join.result c.in_err-right-in-Join.ensures (err.1 ∙ ap Err err.2)
+    let here = subst (λ p. IsHeld p tables c.args.moved_in.now instance) is held in
+    let l = c.in_ok-left-in-Join.left in
+    let mid = c.evaluate.new.orderings in
+    let on_left = (c.in_ok-left-in-Join.ensures.walked instance here.0).ok in
+    let there = subst (λ m. IsHeld right tables m instance) (sym c.in_ok-left-in-Join.ensures.moved) here.1 in
+    let halted = join_halted_right tables instance old condition left right mid l on_left e (c.in_err-right-in-Join.ensures.walked instance there).refused in
+    rw (err.1, err.2) (record { ok = tt; refused = subst (λ p. IsHalted p instance old e) (sym is) halted }))
 
-pub returns-in_ok-outcome-in-Join : goal.returns-in_ok-outcome-in-Join
-returns-in_ok-outcome-in-Join t c =
+pub returns-in_ok-joined-in-Join-clause-moved : goal.returns-in_ok-joined-in-Join-clause-moved
+returns-in_ok-joined-in-Join-clause-moved t c =
     let left = plan_of c.deref.result.now in
     let right = plan_of c.deref-in-Join.result.now in
     let condition = option_map expression_of c.in-Join.condition in
     let is = ap plan_of c.in-Join.is ∙ (λ i. Join condition (plan_of (sym c.deref.ensures i)) (plan_of (sym c.deref-in-Join.ensures i))) in
-    let tables = instance_of c.args.tables.now in
-    let l = c.in_ok-left-in-Join.left in
-    let r = c.in_ok-right-in-Join.right in
-    let joined = join_over condition (relation_of tables l.outcome) (relation_of tables r.outcome) in
-    let o = c.in_ok-outcome-in-Join.outcome in
-    let small = subst (λ m. IsSmall m joined (relation_of tables o)) c.most-most.ensures c.in_ok-outcome-in-Join.ensures.ok in
-    join_answered (instance_of c.args.tables.now) c.args.moved_in c.args.orderings c.args.first c.args.made.now.items (plan_of c.args.plan.now) condition left right is c.requires.at c.evaluate.new.made.items c.in_ok-left-in-Join.left c.in_ok-left-in-Join.ensures c.evaluate-in-Join.new.made.items r c.in_ok-right-in-Join.ensures o small
+    c.in_ok-right-in-Join.ensures.moved
+    ∙ ap (drop (scan_count right)) c.in_ok-left-in-Join.ensures.moved
+    ∙ drop-drop (scan_count right) (scan_count left) c.args.moved_in.now
+    ∙ ap (λ n. drop n c.args.moved_in.now) (sym (ap scan_count is))
 
-pub returns-in_err-outcome-in-Join : goal.returns-in_err-outcome-in-Join
-returns-in_err-outcome-in-Join t c =
+pub returns-in_ok-joined-in-Join-clause-walked : goal.returns-in_ok-joined-in-Join-clause-walked
+returns-in_ok-joined-in-Join-clause-walked t c = λ instance held. (
+    let tables = instance_of c.args.tables.now in
+    let old = c.args.orderings.now in
     let left = plan_of c.deref.result.now in
     let right = plan_of c.deref-in-Join.result.now in
     let condition = option_map expression_of c.in-Join.condition in
     let is = ap plan_of c.in-Join.is ∙ (λ i. Join condition (plan_of (sym c.deref.ensures i)) (plan_of (sym c.deref-in-Join.ensures i))) in
-    let tables = instance_of c.args.tables.now in
+    let here = subst (λ p. IsHeld p tables c.args.moved_in.now instance) is held in
     let l = c.in_ok-left-in-Join.left in
     let r = c.in_ok-right-in-Join.right in
-    let joined = join_over condition (relation_of tables l.outcome) (relation_of tables r.outcome) in
-    let e = c.in_err-outcome-in-Join.field-0.0 in
-    let err = err_from_is_err_and c.from_residual-in_err-outcome-in-Join.result c.from_residual-in_err-outcome-in-Join.ensures.1 in
-    let large = subst (λ m. IsLarge m joined e) c.most-most.ensures c.in_err-outcome-in-Join.ensures.refused in
-    join_stopped (instance_of c.args.tables.now) c.args.moved_in c.args.orderings c.args.first c.args.made.now.items (plan_of c.args.plan.now) condition left right is c.requires.at c.evaluate.new.made.items c.in_ok-left-in-Join.left c.in_ok-left-in-Join.ensures c.evaluate-in-Join.new.made.items r c.in_ok-right-in-Join.ensures e c.from_residual-in_err-outcome-in-Join.result large (err.1 ∙ ap Err err.2)
-
-pub group_input-requires : goal.group_input-requires
-group_input-requires t c =
-    let tables = instance_of c.args.tables.now in
-    let below = c.in_ok-below-in-Group.below in
-    let some = c.requires.held in
-    let here = subst (λ p. IsHeld p tables c.args.moved_in some.instance) (ap plan_of c.in-Group.is) some.held in
-    let below_held = subst (λ p. IsHeld (plan_of p) tables c.args.moved_in some.instance) (sym c.deref-in-Group.ensures) here in
-    let b = (c.in_ok-below-in-Group.ensures some.instance below_held).ok in
-    let named = subst EachNamesClasses (ap plan_of c.in-Group.is) c.requires.named in
+    let o = c.in_ok-joined-in-Join.joined in
+    let mid = c.evaluate.new.orderings in
+    let new = c.evaluate-in-Join.new.orderings in
+    let on_left = (c.in_ok-left-in-Join.ensures.walked instance here.0).ok in
+    let there = subst (λ m. IsHeld right tables m instance) (sym c.in_ok-left-in-Join.ensures.moved) here.1 in
+    let on_right = (c.in_ok-right-in-Join.ensures.walked instance there).ok in
+    let joined = join_over condition (relation_of tables l) (relation_of tables r) in
+    let small = subst (λ m. IsSmall m joined (relation_of tables o)) c.most-in-Join.ensures c.in_ok-joined-in-Join.ensures.ok in
     record {
-      few = (let is = c.most-most.ensures in let bound = c.requires.bounded in omega arith);
-      small = ap (λ m. has_more_rows m (relation_of tables below.outcome)) c.most-most.ensures ∙ small_below tables some.instance c.args.first c.args.made.now.items c.evaluate-in-Group.new.made.items c.args.orderings (plan_of c.deref-in-Group.result.now) below b;
-      masks = named.1;
-    }
+      ok = subst (λ p. IsWalked p tables instance old new o) (sym is) (join_walked tables instance old condition left right mid l on_left new r on_right o small);
+      refused = tt;
+    })
 
-pub returns-in_ok-outcome-in-Group : goal.returns-in_ok-outcome-in-Group
-returns-in_ok-outcome-in-Group t c =
-    let step = Group (grouping_of c.in-Group.group) in
-    let is = over_reached step (plan_of c.args.plan.now) c.in-Group.input.value c.deref-in-Group.result.now (ap plan_of c.in-Group.is) c.deref-in-Group.ensures in
+pub returns-in_err-joined-in-Join-clause-walked : goal.returns-in_err-joined-in-Join-clause-walked
+returns-in_err-joined-in-Join-clause-walked t c = λ instance held. (
     let tables = instance_of c.args.tables.now in
-    let below = c.in_ok-below-in-Group.below in
-    let grouped = group_over (grouping_of c.in-Group.group) (relation_of tables below.outcome) in
-    let o = c.in_ok-outcome-in-Group.outcome in
-    let small = subst (λ m. IsSmall m grouped (outcome_of o)) c.most-most.ensures c.in_ok-outcome-in-Group.ensures.ok in
-    bare_answered (instance_of c.args.tables.now) c.args.moved_in c.args.orderings c.args.first c.args.made.now.items (plan_of c.args.plan.now) step (plan_of c.deref-in-Group.result.now) is c.requires.at c.evaluate-in-Group.new.made.items below c.in_ok-below-in-Group.ensures (Made o) refl small.small small.is
+    let old = c.args.orderings.now in
+    let left = plan_of c.deref.result.now in
+    let right = plan_of c.deref-in-Join.result.now in
+    let condition = option_map expression_of c.in-Join.condition in
+    let is = ap plan_of c.in-Join.is ∙ (λ i. Join condition (plan_of (sym c.deref.ensures i)) (plan_of (sym c.deref-in-Join.ensures i))) in
+    let here = subst (λ p. IsHeld p tables c.args.moved_in.now instance) is held in
+    let l = c.in_ok-left-in-Join.left in
+    let r = c.in_ok-right-in-Join.right in
+    let mid = c.evaluate.new.orderings in
+    let new = c.evaluate-in-Join.new.orderings in
+    let on_left = (c.in_ok-left-in-Join.ensures.walked instance here.0).ok in
+    let there = subst (λ m. IsHeld right tables m instance) (sym c.in_ok-left-in-Join.ensures.moved) here.1 in
+    let on_right = (c.in_ok-right-in-Join.ensures.walked instance there).ok in
+    let e = c.in_err-joined-in-Join.field-0.0 in
+    let err = err_from_is_err_and c.from_residual-in_err-joined-in-Join.result c.from_residual-in_err-joined-in-Join.ensures.1 in
+    let joined = join_over condition (relation_of tables l) (relation_of tables r) in
+    let large = subst (λ m. IsLarge m joined e) c.most-in-Join.ensures c.in_err-joined-in-Join.ensures.refused in
+    let halted = join_halted tables instance old condition left right mid l on_left new r on_right e large in
+    rw (err.1, err.2) (record { ok = tt; refused = subst (λ p. IsHalted p instance old (error_of e)) (sym is) halted }))
 
-pub returns-in_err-below-in-Group : goal.returns-in_err-below-in-Group
-returns-in_err-below-in-Group t c =
-    let step = Group (grouping_of c.in-Group.group) in
-    let is = over_reached step (plan_of c.args.plan.now) c.in-Group.input.value c.deref-in-Group.result.now (ap plan_of c.in-Group.is) c.deref-in-Group.ensures in
-    let e = c.in_err-below-in-Group.field-0.0 in
-    let err = err_from_is_err_and c.from_residual-in_err-below-in-Group.result c.from_residual-in_err-below-in-Group.ensures.1 in
-    below_stopped (instance_of c.args.tables.now) c.args.moved_in c.args.orderings c.args.first c.args.made.now.items (plan_of c.args.plan.now) step (plan_of c.deref-in-Group.result.now) is c.requires.at c.evaluate-in-Group.new.made.items e c.from_residual-in_err-below-in-Group.result c.in_err-below-in-Group.ensures (err.1 ∙ ap Err err.2)
+-- ---- a step
 
-pub returns-in_err-outcome-in-Group : goal.returns-in_err-outcome-in-Group
-returns-in_err-outcome-in-Group t c =
-    let step = Group (grouping_of c.in-Group.group) in
-    let is = over_reached step (plan_of c.args.plan.now) c.in-Group.input.value c.deref-in-Group.result.now (ap plan_of c.in-Group.is) c.deref-in-Group.ensures in
+pub evaluate-requires-in-Filter : goal.evaluate-requires-in-Filter
+evaluate-requires-in-Filter t c =
     let tables = instance_of c.args.tables.now in
-    let below = c.in_ok-below-in-Group.below in
-    let grouped = group_over (grouping_of c.in-Group.group) (relation_of tables below.outcome) in
-    let e = c.in_err-outcome-in-Group.field-0.0 in
-    let err = err_from_is_err_and c.from_residual-in_err-outcome-in-Group.result c.from_residual-in_err-outcome-in-Group.ensures.1 in
-    let large = subst (λ m. IsLarge m grouped e) c.most-most.ensures c.in_err-outcome-in-Group.ensures.refused in
-    group_stopped (instance_of c.args.tables.now) c.args.moved_in c.args.orderings c.args.first c.args.made.now.items (plan_of c.args.plan.now) (grouping_of c.in-Group.group) (plan_of c.deref-in-Group.result.now) is c.requires.at c.evaluate-in-Group.new.made.items below c.in_ok-below-in-Group.ensures e c.from_residual-in_err-outcome-in-Group.result large (err.1 ∙ ap Err err.2)
+    let input = plan_of c.in-Filter.input.value in
+    let over : IsStepOver (plan_of c.args.plan.now) input =
+    ⊎_elim (λ h. (Filter (expression_of h.0), ap plan_of h.1))
+    (λ r. ⊎_elim (λ h. (Map (map expression_of h.0.items), ap plan_of h.1))
+    (λ r. ⊎_elim (λ h. (Group (grouping_of h.0), ap plan_of h.1))
+    (λ r. ⊎_elim (λ h. (Window (window_of h.0), ap plan_of h.1))
+    (λ r. ⊎_elim (λ h. (Distinct, ap plan_of h))
+    (λ h. (Limit (limit_of h.0), ap plan_of h.1)) r) r) r) r) c.in-Filter.is in
+    let some = c.requires.held in
+    let held = subst (λ p. IsHeld p tables c.args.moved_in.now some.instance) over.1 some.held in
+    let named = subst EachNamesClasses over.1 c.requires.named in
+    let there = subst (λ p. IsHeld (plan_of p) tables c.args.moved_in.now some.instance) (sym c.deref-in-Filter.ensures) held in
+    let lower = ap height over.1 in
+    let below = ap (λ p. height (plan_of p)) c.deref-in-Filter.ensures in
+    (omega arith, (c.requires.within, (subst (λ p. EachNamesClasses (plan_of p)) (sym c.deref-in-Filter.ensures) named.0, record { instance = some.instance; held = there })))
+
+pub step_over-requires-clause-within : goal.step_over-requires-clause-within
+step_over-requires-clause-within t c =
+    let tables = instance_of c.args.tables.now in
+    let input = plan_of c.deref-in-Filter.result.now in
+    let over : IsStepOver (plan_of c.args.plan.now) (plan_of c.in-Filter.input.value) =
+    ⊎_elim (λ h. (Filter (expression_of h.0), ap plan_of h.1))
+    (λ r. ⊎_elim (λ h. (Map (map expression_of h.0.items), ap plan_of h.1))
+    (λ r. ⊎_elim (λ h. (Group (grouping_of h.0), ap plan_of h.1))
+    (λ r. ⊎_elim (λ h. (Window (window_of h.0), ap plan_of h.1))
+    (λ r. ⊎_elim (λ h. (Distinct, ap plan_of h))
+    (λ h. (Limit (limit_of h.0), ap plan_of h.1)) r) r) r) r) c.in-Filter.is in
+    let some = c.requires.held in
+    let held = subst (λ p. IsHeld (plan_of p) tables c.args.moved_in.now some.instance) (sym c.deref-in-Filter.ensures) (subst (λ p. IsHeld p tables c.args.moved_in.now some.instance) over.1 some.held) in
+    within_next tables some.instance input c.evaluate-in-Filter.new.orderings c.in_ok-below-in-Filter.below c.args.orderings.now c.requires.within (c.in_ok-below-in-Filter.ensures.walked some.instance held).ok
+
+pub step_over-requires-clause-small : goal.step_over-requires-clause-small
+step_over-requires-clause-small t c =
+    let tables = instance_of c.args.tables.now in
+    let input = plan_of c.deref-in-Filter.result.now in
+    let over : IsStepOver (plan_of c.args.plan.now) (plan_of c.in-Filter.input.value) =
+    ⊎_elim (λ h. (Filter (expression_of h.0), ap plan_of h.1))
+    (λ r. ⊎_elim (λ h. (Map (map expression_of h.0.items), ap plan_of h.1))
+    (λ r. ⊎_elim (λ h. (Group (grouping_of h.0), ap plan_of h.1))
+    (λ r. ⊎_elim (λ h. (Window (window_of h.0), ap plan_of h.1))
+    (λ r. ⊎_elim (λ h. (Distinct, ap plan_of h))
+    (λ h. (Limit (limit_of h.0), ap plan_of h.1)) r) r) r) r) c.in-Filter.is in
+    let some = c.requires.held in
+    let held = subst (λ p. IsHeld (plan_of p) tables c.args.moved_in.now some.instance) (sym c.deref-in-Filter.ensures) (subst (λ p. IsHeld p tables c.args.moved_in.now some.instance) over.1 some.held) in
+    small_below tables some.instance input c.evaluate-in-Filter.new.orderings c.in_ok-below-in-Filter.below c.args.orderings.now (c.in_ok-below-in-Filter.ensures.walked some.instance held).ok
+
+pub returns-in_err-below-in-Filter-clause-walked : goal.returns-in_err-below-in-Filter-clause-walked
+returns-in_err-below-in-Filter-clause-walked t c = λ instance held. (
+    let tables = instance_of c.args.tables.now in
+    let old = c.args.orderings.now in
+    let input = plan_of c.deref-in-Filter.result.now in
+    let over : IsStepOver (plan_of c.args.plan.now) (plan_of c.in-Filter.input.value) =
+    ⊎_elim (λ h. (Filter (expression_of h.0), ap plan_of h.1))
+    (λ r. ⊎_elim (λ h. (Map (map expression_of h.0.items), ap plan_of h.1))
+    (λ r. ⊎_elim (λ h. (Group (grouping_of h.0), ap plan_of h.1))
+    (λ r. ⊎_elim (λ h. (Window (window_of h.0), ap plan_of h.1))
+    (λ r. ⊎_elim (λ h. (Distinct, ap plan_of h))
+    (λ h. (Limit (limit_of h.0), ap plan_of h.1)) r) r) r) r) c.in-Filter.is in
+    let is = over.1 ∙ ap (λ p. Over over.0 (plan_of p)) (sym c.deref-in-Filter.ensures) in
+    let here = subst (λ p. IsHeld p tables c.args.moved_in.now instance) is held in
+    let e = c.in_err-below-in-Filter.field-0.0 in
+    let err = err_from_is_err_and c.from_residual-in_err-below-in-Filter.result c.from_residual-in_err-below-in-Filter.ensures.1 in
+    let halted = step_halted_below tables instance old over.0 input e (c.in_err-below-in-Filter.ensures.walked instance here).refused in
+    rw (err.1, err.2) (record { ok = tt; refused = subst (λ p. IsHalted p instance old e) (sym is) halted }))
+
+pub returns-in_ok-below-in-Filter-clause-walked : goal.returns-in_ok-below-in-Filter-clause-walked
+returns-in_ok-below-in-Filter-clause-walked t c = λ instance held. (
+    let tables = instance_of c.args.tables.now in
+    let old = c.args.orderings.now in
+    let input = plan_of c.deref-in-Filter.result.now in
+    let over : IsStepOver (plan_of c.args.plan.now) (plan_of c.in-Filter.input.value) =
+    ⊎_elim (λ h. (Filter (expression_of h.0), ap plan_of h.1))
+    (λ r. ⊎_elim (λ h. (Map (map expression_of h.0.items), ap plan_of h.1))
+    (λ r. ⊎_elim (λ h. (Group (grouping_of h.0), ap plan_of h.1))
+    (λ r. ⊎_elim (λ h. (Window (window_of h.0), ap plan_of h.1))
+    (λ r. ⊎_elim (λ h. (Distinct, ap plan_of h))
+    (λ h. (Limit (limit_of h.0), ap plan_of h.1)) r) r) r) r) c.in-Filter.is in
+    let is = over.1 ∙ ap (λ p. Over over.0 (plan_of p)) (sym c.deref-in-Filter.ensures) in
+    let here = subst (λ p. IsHeld p tables c.args.moved_in.now instance) is held in
+    let mid = c.evaluate-in-Filter.new.orderings in
+    let new = c.step_over.new.orderings in
+    let below = c.in_ok-below-in-Filter.below in
+    let b = (c.in_ok-below-in-Filter.ensures.walked instance here).ok in
+    subst (λ p. IsWalkedOrHalted p tables instance old new c.step_over.result) (sym is)
+    (step_answered tables instance old over.0 input mid below b new c.step_over.result c.requires.within (c.step_over.ensures over.0 input is)))
+
+pub returns-in_ok-below-in-Filter-clause-moved : goal.returns-in_ok-below-in-Filter-clause-moved
+returns-in_ok-below-in-Filter-clause-moved t c =
+    let over : IsStepOver (plan_of c.args.plan.now) (plan_of c.in-Filter.input.value) =
+    ⊎_elim (λ h. (Filter (expression_of h.0), ap plan_of h.1))
+    (λ r. ⊎_elim (λ h. (Map (map expression_of h.0.items), ap plan_of h.1))
+    (λ r. ⊎_elim (λ h. (Group (grouping_of h.0), ap plan_of h.1))
+    (λ r. ⊎_elim (λ h. (Window (window_of h.0), ap plan_of h.1))
+    (λ r. ⊎_elim (λ h. (Distinct, ap plan_of h))
+    (λ h. (Limit (limit_of h.0), ap plan_of h.1)) r) r) r) r) c.in-Filter.is in
+    let is = over.1 ∙ ap (λ p. Over over.0 (plan_of p)) (sym c.deref-in-Filter.ensures) in
+    on_ok c.step_over.result (c.in_ok-below-in-Filter.ensures.moved ∙ ap (λ n. drop n c.args.moved_in.now) (sym (ap scan_count is)))

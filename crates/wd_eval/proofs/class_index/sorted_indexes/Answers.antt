@@ -7,7 +7,7 @@ use Rattle.wd_eval.specs.ClassIndexes.{AreClassIndexes}
 use Rattle.wd_eval.specs.Tied.{IsSortedOver}
 use Rattle.wd_eval.specs.Ties.{ArePut}
 use Rattle.wd_eval.proofs.Putting.{none_listed, none_put, one_listed, one_put}
-use Rattle.wd_eval.proofs.window.put_sorted.Goals as goal
+use Rattle.wd_eval.proofs.class_index.sorted_indexes.Goals as goal
 
 pub loop-number-init : goal.loop-number-init
 loop-number-init c = record {

@@ -2,7 +2,7 @@ use Rattle.std.proofs.Common.{◌≡◌, ◌++◌, [], ◌∷◌, ◌∙◌, ap}
 use Rattle.std.proofs.lemmas.List.{map_push}
 use Rattle.wd_eval.specs.Windows.{orderings_of}
 use Rattle.wd_eval.proofs.Putting.{none_empty, one_empty}
-use Rattle.wd_eval.proofs.window.put_empty.Goals as goal
+use Rattle.wd_eval.proofs.orderings.put_empty.Goals as goal
 
 pub loop-init : goal.loop-init
 loop-init c = none_empty (orderings_of c.args.made.now.items)

@@ -3,7 +3,7 @@ use Rattle.wd_plan.specs.Plans.{window_of}
 use Rattle.wd_eval.specs.Windows.{orderings_of}
 use Rattle.wd_eval.specs.ClassIndexes.{AreClassIndexes}
 use Rattle.wd_eval.specs.Ties.{ArePut}
-use Rattle.wd_eval.proofs.window.put_sorted.Given as goal
+use Rattle.wd_eval.proofs.class_index.sorted_indexes.Given as goal
 
 abbrev pub invariant-loop-number : goal.invariant-loop-number
 invariant-loop-number l = record {
