@@ -22,7 +22,7 @@ use Rattle.wd_step_facts.specs.declared.facts.Member.{Member}
 use Rattle.wd_step_facts.specs.declared.facts.Member.TheVariants as member
 use Rattle.wd_step_facts.specs.Facts.{Fact, FactList, columns_named, is_plain, key_fact, moved, moved_facts}
 use Rattle.wd_facts.specs.Given.{full_keys, given, gives_row, is_not_null, keys_facts, names_columns, nullable_keys, row_keys, table_rule}
-use Rattle.wd_step_facts.specs.Steps.{Side, Plain, Fixed, Other, all_columns, are_told_apart, call_facts, cut_fact, facts_of_group, group_key, group_key_facts, grouping_arguments, grouping_columns, calls_facts, comparison_facts, conjunct_facts, conjuncts, conjuncts_of, copy_facts, equality_facts, facts_of_conjuncts, goes_by_key, null_facts, output_facts, outputs_facts, over_frame, side_of, used, value_fact, rank_fact}
+use Rattle.wd_step_facts.specs.Steps.{Side, Plain, Fixed, Other, all_columns, are_told_apart, call_facts, restrict_fact, facts_of_group, group_key, group_key_facts, grouping_arguments, grouping_columns, calls_facts, comparison_facts, conjunct_facts, conjuncts, conjuncts_of, copy_facts, equality_facts, facts_of_conjuncts, goes_by_key, null_facts, output_facts, outputs_facts, over_frame, side_of, used, value_fact, rank_fact}
 use Rattle.wd_facts.specs.Laws.{AreOfChildren, ArePlain}
 use Rattle.wd_facts.proofs.Embeds.{same_facts}
 use Rattle.wd_facts.proofs.Groupings.{cut_named}
@@ -288,8 +288,8 @@ group_given g kept facts is =
     of_key true = (key_given facts member.Row refl (group_key g) (subst (λ n. AreBelow n (group_key g)) (sym is) (group_key_below g)), tt)
     of_key false = tt
 
-    of_one_set : (b : Bool) → AreGiven facts (cond b (flat_map (cut_fact g.columns) kept) [])
-    of_one_set true = kept_given facts g.columns (omega (arith, is)) (flat_map (cut_fact g.columns) kept) (cut_named g.columns kept)
+    of_one_set : (b : Bool) → AreGiven facts (cond b (flat_map (restrict_fact g.columns) kept) [])
+    of_one_set true = kept_given facts g.columns (omega (arith, is)) (flat_map (restrict_fact g.columns) kept) (cut_named g.columns kept)
     of_one_set false = tt
 
 module _ (tables : List TableRule) where

@@ -207,7 +207,7 @@ fn add_unions_at(
 {
     match plan {
         Plan::Join { left, .. } => {
-            let (first, second) = (kept_of(kept, 0), kept_of(kept, 1));
+            let (first, second) = (facts_of_child(kept, 0), facts_of_child(kept, 1));
             add_unions(alloc, first, width(left), second, list)
         }
         _ => Ok(()),
@@ -215,7 +215,7 @@ fn add_unions_at(
 }
 
 /// The facts that the child with this number keeps; none past the last child.
-fn kept_of<'a>(kept: &[&'a [Given]], child: usize) -> &'a [Given]
+fn facts_of_child<'a>(kept: &[&'a [Given]], child: usize) -> &'a [Given]
     ensures { map fact_of result.now ≡ kept_by kept.now child }
 {
     match kept.get(child) {

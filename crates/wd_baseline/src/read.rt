@@ -68,7 +68,7 @@ fn finding_in(value: &Value) -> Result<Finding, Misread>
 }
 
 /// The finding that a JSON value is.
-fn known_in(value: &Value) -> Result<Known<'_, '_>, Misread>
+fn read_known(value: &Value) -> Result<Known<'_, '_>, Misread>
     ensures ok { IfOk result (λ k. view value.now ≡ finding_json (said k)) }
     ensures refused { IfErr result (λ e. (f : FindingRecord) → view value.now ≢ finding_json f) }
 {
@@ -89,7 +89,7 @@ pub(crate) fn line_of(alloc: Global, line: &[u8]) -> Result<String, Misread>
     ensures refused { IfErr result (λ e. e ≡ misread.Shape → (f : FindingRecord) → ¬ IsJsonOf (finding_json f) line.now) }
 {
     let value = value_of(alloc, line)?;
-    let known = known_in(&value)?;
+    let known = read_known(&value)?;
     Ok(known.line(alloc)?)
 }
 

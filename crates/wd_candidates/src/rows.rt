@@ -128,7 +128,7 @@ fn candidate_row(
         let is_keyed = is_marked(keyed, c);
         let value = cell(
             alloc,
-            fixed_at(fixed, c),
+            value_if_fixed(fixed, c),
             style,
             is_tied,
             is_keyed,
@@ -141,7 +141,7 @@ fn candidate_row(
 }
 
 /// What the column with this number is fixed to, where it is.
-pub fn fixed_at(fixed: &[Option<Value>], column: usize) -> Option<&Value>
+pub fn value_if_fixed(fixed: &[Option<Value>], column: usize) -> Option<&Value>
     ensures { option_map (λ v. v.now) result ≡ slice_index_or fixed.now column None }
 {
     match fixed.get(column) {

@@ -46,7 +46,7 @@ pub fn tied_columns(
     ensures { IfOk result (AreTiedBy (schema_of schema.now) (ordered_by (plan_of plan.now) node call)) }
 {
     match find_node(plan, node) {
-        Ok(found) => tied_at(alloc, schema, found, call),
+        Ok(found) => ties_at(alloc, schema, found, call),
         Err(_) => Ok(None),
     }
 }
@@ -82,7 +82,7 @@ fn or_own<'a>(plan: &'a Plan, below: Result<&'a Plan, u64>) -> Result<&'a Plan, 
 }
 
 /// The tied columns of a node's call or limit.
-fn tied_at(
+fn ties_at(
     alloc: Global,
     schema: &Schema,
     plan: &Plan,
@@ -93,10 +93,10 @@ fn tied_at(
 {
     match (plan, call) {
         (Plan::Window { input, window }, Some(number)) => {
-            tied_by_call(alloc, schema, input, window, number)
+            ties_of_call(alloc, schema, input, window, number)
         }
         (Plan::Limit { input, limit }, None) => {
-            let tied = tied_by_keys(alloc, schema, input, &limit.keys)?;
+            let tied = ties_of_keys(alloc, schema, input, &limit.keys)?;
             Ok(Some(tied))
         }
         _ => Ok(None),
@@ -104,7 +104,7 @@ fn tied_at(
 }
 
 /// The tied columns of a Window's call with this number.
-fn tied_by_call(
+fn ties_of_call(
     alloc: Global,
     schema: &Schema,
     input: &Plan,
@@ -116,7 +116,7 @@ fn tied_by_call(
 {
     match window.calls.get(number as usize) {
         Some(call) => {
-            let tied = tied_by_class(alloc, schema, input, window, call)?;
+            let tied = ties_of_class(alloc, schema, input, window, call)?;
             Ok(Some(tied))
         }
         None => Ok(None),
@@ -124,7 +124,7 @@ fn tied_by_call(
 }
 
 /// The table columns from which the columns of a call's class are computed.
-fn tied_by_class(
+fn ties_of_class(
     alloc: Global,
     schema: &Schema,
     input: &Plan,
@@ -136,12 +136,12 @@ fn tied_by_class(
 {
     let mut wanted = no_marks(alloc, input.width() as usize)?;
     mark_class_of(&mut wanted, window, call);
-    let tied = tied_by(alloc, schema, input, &wanted)?;
+    let tied = ties_of(alloc, schema, input, &wanted)?;
     Ok(tied)
 }
 
 /// The table columns from which the columns of sort keys are computed.
-fn tied_by_keys(
+fn ties_of_keys(
     alloc: Global,
     schema: &Schema,
     input: &Plan,
@@ -152,12 +152,12 @@ fn tied_by_keys(
 {
     let mut wanted = no_marks(alloc, input.width() as usize)?;
     mark_keys(&mut wanted, keys);
-    let tied = tied_by(alloc, schema, input, &wanted)?;
+    let tied = ties_of(alloc, schema, input, &wanted)?;
     Ok(tied)
 }
 
 /// The table columns from which the wanted columns of a node are computed.
-fn tied_by(
+fn ties_of(
     alloc: Global,
     schema: &Schema,
     plan: &Plan,
@@ -199,17 +199,17 @@ fn mark_sources(
             Ok(())
         }
         Plan::Map { input, outputs } => {
-            let used = used_by_outputs(alloc, input, outputs, wanted)?;
+            let used = uses_of_outputs(alloc, input, outputs, wanted)?;
             mark_sources(alloc, input, &used, tables)?;
             Ok(())
         }
         Plan::Group { input, group } => {
-            let used = used_by_groups(alloc, input, group, wanted)?;
+            let used = uses_of_groups(alloc, input, group, wanted)?;
             mark_sources(alloc, input, &used, tables)?;
             Ok(())
         }
         Plan::Window { input, window } => {
-            let used = used_by_calls(alloc, input, window, wanted)?;
+            let used = uses_of_calls(alloc, input, window, wanted)?;
             mark_sources(alloc, input, &used, tables)?;
             Ok(())
         }
@@ -235,7 +235,7 @@ fn split_wanted<'a>(input: &Plan, wanted: &'a [bool]) -> (&'a [bool], &'a [bool]
 }
 
 /// The columns of a Map's input that its wanted outputs use.
-fn used_by_outputs(
+fn uses_of_outputs(
     alloc: Global,
     input: &Plan,
     outputs: &[Expr],
@@ -262,7 +262,7 @@ fn mark_outputs(marks: &mut [bool], outputs: &[Expr], wanted: &[bool])
 }
 
 /// The columns of a Group's input from which its wanted columns are computed.
-fn used_by_groups(
+fn uses_of_groups(
     alloc: Global,
     input: &Plan,
     group: &Group,
@@ -316,7 +316,7 @@ fn argument_of(call: &GroupCall) -> Option<u16>
 }
 
 /// The columns of a Window's input that are wanted, or that its wanted calls are computed from.
-fn used_by_calls(
+fn uses_of_calls(
     alloc: Global,
     input: &Plan,
     window: &Window,

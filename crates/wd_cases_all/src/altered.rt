@@ -28,11 +28,11 @@ enum Alteration {
 /// answered under the word, or refused by a number from the least to the greatest. Gives how many texts there were, or the first that
 /// is not.
 pub fn try_altered<C: Cases>(alloc: Global, cases: &mut C, text: &str) -> Result<String, Failure> {
-    let (asked, text) = asked_of(text).ok_or(Failure::NoCase)?;
+    let (asked, text) = request_of(text).ok_or(Failure::NoCase)?;
     let text = unescape(alloc, text)?;
     let mut count = 0u64;
     for place in 0..text.len() {
-        if let Some(found) = altered_at(alloc, cases, asked, &text, place)? {
+        if let Some(found) = alter_at(alloc, cases, asked, &text, place)? {
             return Ok(found);
         }
         count = count.saturating_add(1 + CHANGES.len() as u64);
@@ -41,7 +41,7 @@ pub fn try_altered<C: Cases>(alloc: Global, cases: &mut C, text: &str) -> Result
 }
 
 /// What is asked, and the text.
-fn asked_of(text: &str) -> Option<(Asked<'_>, &str)> {
+fn request_of(text: &str) -> Option<(Asked<'_>, &str)> {
     let (head, text) = text.split_once(" : ")?;
     let (least, head) = head.split_once(' ')?;
     let (greatest, head) = head.split_once(' ')?;
@@ -56,7 +56,7 @@ fn asked_of(text: &str) -> Option<(Asked<'_>, &str)> {
 }
 
 /// The first of the texts altered at a place that is not answered as it may be, with what it gives.
-fn altered_at<C: Cases>(
+fn alter_at<C: Cases>(
     alloc: Global,
     cases: &mut C,
     asked: Asked<'_>,

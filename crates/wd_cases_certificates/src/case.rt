@@ -36,7 +36,7 @@ impl Cases for CertificateCases {
             "verify" => verdict::verify_text(alloc, self, text),
             "why" => verdict::why(alloc, self, text),
             "verdict" => verdict::verdict(alloc, self, text),
-            "given" => facts::given_at(alloc, self, text),
+            "given" => facts::facts_at(alloc, self, text),
             "set" => sets::set(alloc, text),
             "closure" => closures::close_case(alloc, text),
             "refusal" => refusal::refusal(alloc, text),

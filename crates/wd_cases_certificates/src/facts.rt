@@ -19,15 +19,15 @@ use wd_plan::Plan;
 use wd_schema::Schema;
 
 /// `given NODE FACTS`: the given facts of the node with a number, whose child keeps these; at a Join `FACTS | FACTS`.
-pub fn given_at(alloc: Global, texts: &CertificateCases, text: &str) -> Result<String, Failure> {
+pub fn facts_at(alloc: Global, texts: &CertificateCases, text: &str) -> Result<String, Failure> {
     let (number, text) = text.split_once(' ').unwrap_or((text, ""));
     let (first, second) = text.split_once('|').unwrap_or((text, ""));
     let first = facts_of(alloc, first)?;
     let second = facts_of(alloc, second)?;
-    given_of_node(alloc, texts, number.parse()?, &first, &second)
+    facts_of_node(alloc, texts, number.parse()?, &first, &second)
 }
 
-fn given_of_node(
+fn facts_of_node(
     alloc: Global,
     texts: &CertificateCases,
     number: u32,
@@ -36,7 +36,7 @@ fn given_of_node(
 ) -> Result<String, Failure> {
     let planned = plan_of_query(alloc, texts)?;
     match node_at(&planned.resolved.plan, number) {
-        Some(plan) => given_of(alloc, plan, &planned.schema, first, second),
+        Some(plan) => facts_shown(alloc, plan, &planned.schema, first, second),
         None => Err(Failure::NoCase),
     }
 }
@@ -65,7 +65,7 @@ fn node_at(plan: &Plan, number: u32) -> Option<&Plan> {
     }
 }
 
-fn given_of(
+fn facts_shown(
     alloc: Global,
     plan: &Plan,
     schema: &Schema,

@@ -30,7 +30,7 @@ fn rows_shown(alloc: Global, table: &Table, rows: &[Row]) -> Result<String, Fail
     answer_line(alloc, &names, rows)
 }
 
-fn loaded_into(alloc: Global, table: &Table, text: &str) -> Result<String, Failure> {
+fn load_into(alloc: Global, table: &Table, text: &str) -> Result<String, Failure> {
     let text = unescape(alloc, text)?;
     match load(alloc, table, &text) {
         Ok(rows) => rows_shown(alloc, table, &rows),
@@ -43,7 +43,7 @@ pub fn load_case(alloc: Global, schema: &SchemaText, text: &str) -> Result<Strin
     let (name, text) = text.split_once(' ').unwrap_or((text, ""));
     let schema = schema.tables(alloc)?;
     match schema.table(name) {
-        Some(table) => loaded_into(alloc, table, text),
+        Some(table) => load_into(alloc, table, text),
         None => Err(Failure::NoCase),
     }
 }

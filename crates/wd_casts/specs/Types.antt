@@ -40,12 +40,12 @@ abbrev pub word_at : TokenKind → List Token → Option Named
 word_at (t.Word word) tokens = kind_of_word word >>= λ kind. Some (kind, tokens)
 word_at _ tokens = None
 
-unfoldable pub named_at : Token → List Token → Option Named
-named_at first tokens =
+unfoldable pub type_from_word : Token → List Token → Option Named
+type_from_word first tokens =
     if is_word (codes "character") first.kind then varying_at tokens
     else (if is_word (codes "timestamp") first.kind then Some (k.Timestamp, past_zone tokens) else word_at first.kind tokens)
 
 -- a type that has no length and no number of places
 unfoldable pub type_at : List Token → Option Named
 type_at [] = None
-type_at (first ∷ tokens) = named_at first tokens >>= λ found. if begins_bracket found.1 then None else Some found
+type_at (first ∷ tokens) = type_from_word first tokens >>= λ found. if begins_bracket found.1 then None else Some found

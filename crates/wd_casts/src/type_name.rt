@@ -69,9 +69,9 @@ fn word_at<'t>(kind: &TokenKind, tokens: &'t [Token]) -> Option<(Kind, &'t [Toke
 }
 
 /// A type, of which this is the first word.
-#[tactic(auto, unfolding(crate::specs::Types::named_at))]
-fn named_at<'t>(first: &Token, tokens: &'t [Token]) -> Option<(Kind, &'t [Token])>
-    ensures { Finds found_rest result (spec.named_at first.now tokens.now) }
+#[tactic(auto, unfolding(crate::specs::Types::type_from_word))]
+fn type_from_word<'t>(first: &Token, tokens: &'t [Token]) -> Option<(Kind, &'t [Token])>
+    ensures { Finds found_rest result (spec.type_from_word first.now tokens.now) }
 {
     if is_word(&first.kind, "character") {
         varying_at(tokens)
@@ -90,7 +90,7 @@ pub fn type_at(tokens: &[Token]) -> Option<(Kind, &[Token])>
     let [first, rest @ ..] = tokens else {
         return None;
     };
-    let Some((kind, after)) = named_at(first, rest) else {
+    let Some((kind, after)) = type_from_word(first, rest) else {
         return None;
     };
     if begins_bracket(after) {

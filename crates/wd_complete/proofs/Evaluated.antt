@@ -22,7 +22,7 @@ use Rattle.wd_plan.specs.Plans.{ClassRule, PlanTree, Over, Scan, Window}
 use Rattle.wd_plan.specs.Sorting.{class_columns, order_columns, same_partition}
 use Rattle.wd_nodes.proofs.Selected.{columns_outcome}
 use Rattle.wd_eval.specs.Steps.{has_large_step}
-use Rattle.wd_eval.specs.Tied.{IsSortedOver, IsStableChoice, reversed_at, turn_of}
+use Rattle.wd_eval.specs.Tied.{IsSortedOver, IsStableChoice, reverse_at, turn_of}
 use Rattle.wd_eval.proofs.Stable.{one_stable_sort}
 use Rattle.wd_complete.specs.Plain.{PlainPlan, input_of, plan_by, window_rule}
 use Rattle.wd_complete.proofs.Lists.{Among, among_front}
@@ -168,10 +168,10 @@ module _ (p : PlainPlan) (instance : Instance) (r q : Row) (rows : table_at inst
       small = λ i. ((ap (has_more_rows most_rows) (scan_outcome (o ∷ [])) i || ap (has_more_rows most_rows) (input_outcome (o ∷ [])) i) || ap (has_more_rows most_rows) window_is i) || ap (has_more_rows most_rows) plan_is i
 
     -- the stable choice, and the one that turns its ordering
-    the_choice : (flipped : Option ℕ) (choice : List (List ℕ)) → IsStableChoice (plan_by p) instance flipped choice → (o : List ℕ) × (choice ≡ o ∷ []) × IsStableSortOf (sort_columns p.class) (a ∷ b ∷ []) (given_positions (turn_of (reversed_at flipped) 0) 2) o
+    the_choice : (flipped : Option ℕ) (choice : List (List ℕ)) → IsStableChoice (plan_by p) instance flipped choice → (o : List ℕ) × (choice ≡ o ∷ []) × IsStableSortOf (sort_columns p.class) (a ∷ b ∷ []) (given_positions (turn_of (reverse_at flipped) 0) 2) o
     the_choice flipped [] t = absurd (let e : 0 ≡ 1 = t.number in omega (arith, e))
     the_choice flipped (o ∷ u ∷ choice) t = absurd (let e : length (o ∷ u ∷ choice) ≡ 1 = t.number in omega (arith, e))
-    the_choice flipped (o ∷ []) t = (o, refl, subst (λ (x : RowsOrFault). IsSortedOver p.class (turn_of (reversed_at flipped) 0) x o) (input_outcome (o ∷ [])) (t.tied.0.1 0 (omega arith)))
+    the_choice flipped (o ∷ []) t = (o, refl, subst (λ (x : RowsOrFault). IsSortedOver p.class (turn_of (reverse_at flipped) 0) x o) (input_outcome (o ∷ [])) (t.tied.0.1 0 (omega arith)))
 
     pub first_choice : (choice : List (List ℕ)) → IsStableChoice (plan_by p) instance None choice → choice ≡ (0 ∷ 1 ∷ []) ∷ []
     first_choice choice t = let c = the_choice None choice t in c.1 ∙ ap (λ o. o ∷ []) (the_sort p.class a b tie c.0 c.2)

@@ -120,8 +120,8 @@ module _ (tables : List TableRule) (p : PlainPlan) (f g h : Finding) (scan_is : 
             lacking = record { at_scan = f; at_map = g; scan_is = scan_is; map_is = map_is; closing = c; is = are.0; from = from; row = o.row; column = m.column; within = m.within; missing = m.missing };
           }
 
-  opened_at : IsOfWindow facts (window_rule p) (input_of p) 2 h → h.reasons ≢ [] → IsLeftOpen tables p h.reasons
-  opened_at w some = opened_by w.classes w.closings w.columns w.reasons some
+  open_at : IsOfWindow facts (window_rule p) (input_of p) 2 h → h.reasons ≢ [] → IsLeftOpen tables p h.reasons
+  open_at w some = opened_by w.classes w.closings w.columns w.reasons some
 
 pub left_open : (tables : List TableRule) (p : PlainPlan) (found : PlanFindings) → AreFindings tables (plan_by p) 0 found → reasons_in (in_postorder found) ≢ [] → IsLeftOpen tables p (reasons_in (in_postorder found))
 left_open tables p found over some =
@@ -143,4 +143,4 @@ left_open tables p found over some =
     let all : reasons_in (in_postorder found) ≡ at_window.reasons = ap (λ l. reasons_in (l ++ top ∷ [])) d3 ∙ (λ i. b1 i ++ (b2 i ++ (at_window.reasons ++ (b3 i ++ [])))) ∙ append-nil at_window.reasons in
     let map_is = subst (λ n. IsFinding tables (input_of p) (facts_kept (scan tables p) at_scan) [] n at_map) n1 a1.2.finding in
     let said = subst (λ n. IsOfWindow (window_facts tables p at_map) (window_rule p) (input_of p) n at_window) n2 a2.2.finding.said in
-    subst (IsLeftOpen tables p) (sym all) (opened_at tables p at_scan at_map at_window a0.1 map_is said (λ e. some (all ∙ e)))
+    subst (IsLeftOpen tables p) (sym all) (open_at tables p at_scan at_map at_window a0.1 map_is said (λ e. some (all ∙ e)))

@@ -6,11 +6,11 @@ use Rattle.wd_distinct_on.specs.Selects.{respelled_below}
 use Rattle.wd_using.specs.Pieces.{pieces_at}
 use Rattle.wd_using.specs.Reach as level
 use Rattle.wd_distinct_counts.specs.Examples.{CountsComeOut}
-use Rattle.wd_distinct_counts.specs.Respelled.{respelled_at}
+use Rattle.wd_distinct_counts.specs.Respelled.{respell_at}
 use Rattle.wd_distinct_counts.specs.Written.{opening}
 
 pub counts_come_out : CountsComeOut
-unfolding parts_at closing_from reach_from respelled_below pieces_at level.reach_from respelled_at opening
+unfolding parts_at closing_from reach_from respelled_below pieces_at level.reach_from respell_at opening
 counts_come_out = record {
   by_a_key = λ at. refl;
   of_all = λ at. refl;

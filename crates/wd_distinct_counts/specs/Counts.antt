@@ -47,9 +47,9 @@ abbrev pub column_at : List Token → Option (List Token)
 column_at tokens = or_else (closed_after 3 tokens) (closed_after 1 tokens)
 
 -- the column of COUNT( DISTINCT c ), by the tokens after its bracket; `before` is the token before the bracket
-abbrev pub counted_at : TokenKind → List Token → Option (List Token)
-counted_at before [] = None
-counted_at before (distinct ∷ tokens) = if is_count before && is_distinct distinct.kind then column_at tokens else None
+abbrev pub counted_column : TokenKind → List Token → Option (List Token)
+counted_column before [] = None
+counted_column before (distinct ∷ tokens) = if is_count before && is_distinct distinct.kind then column_at tokens else None
 
 -- whether a bracket is that of an aggregate, or DISTINCT follows it
 abbrev pub begins_call : TokenKind → Token → List Token → Bool
@@ -74,7 +74,7 @@ joined (Some first) (Some column) = if is_same_column first column then Some fir
 abbrev pub column_in : Option (List Token) → TokenKind → List Token → Option (Option (List Token))
 column_in so_far before [] = Some so_far
 column_in so_far before (token ∷ tokens) =
-    if begins_call before token tokens then (joined so_far (counted_at before tokens) >>= λ column. column_in (Some column) token.kind tokens)
+    if begins_call before token tokens then (joined so_far (counted_column before tokens) >>= λ column. column_in (Some column) token.kind tokens)
     else column_in so_far token.kind tokens
 
 -- tokens without DISTINCT in such calls; where one table replaces several, it also replaces their names before columns

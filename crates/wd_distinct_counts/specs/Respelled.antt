@@ -6,7 +6,7 @@ use Rattle.wd_lex.specs.declared.token.Token.{Token}
 use Rattle.wd_clauses.specs.declared.error.RespellError.{RespellError}
 use Rattle.wd_distinct_on.specs.Kinds.{begins, is_select}
 use Rattle.wd_distinct_on.specs.Respelled.{◌>>=◌, parts_in}
-use Rattle.wd_distinct_on.specs.Selects.{respelled_backwards}
+use Rattle.wd_distinct_on.specs.Selects.{respell_backwards}
 use Rattle.wd_using.specs.Pieces.{Pieces, select_at}
 use Rattle.wd_grouping.specs.Keys.{is_column}
 use Rattle.wd_grouping.specs.Pieces.{OneTable, grouped_tables, one_table}
@@ -54,8 +54,8 @@ abbrev pub respelled_select : List Token → Pieces → Option (List Token)
 respelled_select front select = with_grouping front select (grouping_of select.clauses)
 
 -- a query in which the select that begins at a place is respelled
-unfoldable pub respelled_at : ℕ → List Token → Option (List Token)
-respelled_at place tokens = select_at (drop place tokens) >>= respelled_select (take place tokens)
+unfoldable pub respell_at : ℕ → List Token → Option (List Token)
+respell_at place tokens = select_at (drop place tokens) >>= respelled_select (take place tokens)
 
 -- the most selects that are looked at (this project's choice)
 abbrev pub most_selects : ℕ
@@ -63,4 +63,4 @@ most_selects = 128
 
 -- a query without COUNT( DISTINCT c )
 abbrev pub respelled : List Token → Result (List Token) RespellError
-respelled tokens = respelled_backwards (begins is_select) respelled_at most_selects tokens
+respelled tokens = respell_backwards (begins is_select) respell_at most_selects tokens

@@ -101,8 +101,8 @@ fn column_at(tokens: &[Token]) -> Option<&[Token]>
 }
 
 /// The column of `COUNT( DISTINCT c )`, by the tokens after its bracket; `before` is the token before the bracket.
-fn counted_at<'t>(before: &TokenKind, tokens: &'t [Token]) -> Option<&'t [Token]>
-    ensures { Finds (λ column. column.now) result (spec.counted_at before.now tokens.now) }
+fn counted_column<'t>(before: &TokenKind, tokens: &'t [Token]) -> Option<&'t [Token]>
+    ensures { Finds (λ column. column.now) result (spec.counted_column before.now tokens.now) }
 {
     match tokens {
         [distinct, rest @ ..] if is_count(before) && is_distinct(&distinct.kind) => column_at(rest),
@@ -153,7 +153,7 @@ pub fn column_in<'t>(
     let mut rest = tokens;
     while let [first, after @ ..] = rest {
         if begins_call(last, first, after) {
-            match common_column(column, counted_at(last, after)) {
+            match common_column(column, counted_column(last, after)) {
                 Some(one) => column = Some(one),
                 None => return None,
             }

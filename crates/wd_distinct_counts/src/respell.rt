@@ -14,7 +14,7 @@ use crate::write::write_select;
 use std::alloc::{AllocError, Global};
 use wd_clauses::{RespellError, parts};
 use wd_distinct_on::{
-    Selects, added_name, respelled_backwards, split_at_place, starts_with_select,
+    Selects, added_name, respell_backwards, split_at_place, starts_with_select,
 };
 use wd_grouping::{is_column, one_table, tables_called};
 use wd_lex::Token;
@@ -147,13 +147,13 @@ fn respelled_select(
 }
 
 /// The query in which the select that begins at a place is respelled.
-#[tactic(auto, unfolding(crate::specs::Respelled::respelled_at))]
-fn respelled_at(
+#[tactic(auto, unfolding(crate::specs::Respelled::respell_at))]
+fn respell_at(
     alloc: Global,
     place: usize,
     tokens: &[Token],
 ) -> Result<Option<Vec<Token>>, RespellError>
-    ensures { MayWrite (λ x. x.items) result (spec.respelled_at place tokens.now) }
+    ensures { MayWrite (λ x. x.items) result (spec.respell_at place tokens.now) }
 {
     let (front, rest) = split_at_place(place, tokens);
     match select_at(rest) {
@@ -175,19 +175,19 @@ impl Selects for DistinctCounts {
 
     ghost starts = { λ _. begins is_select };
 
-    ghost respelled = { λ _. spec.respelled_at };
+    ghost respelled = { λ _. spec.respell_at };
 
     fn begins(&self, tokens: &[Token]) -> bool {
         starts_with_select(tokens)
     }
 
-    fn respelled_at(
+    fn respell_at(
         &self,
         alloc: Global,
         place: usize,
         tokens: &[Token],
     ) -> Result<Option<Vec<Token>>, RespellError> {
-        respelled_at(alloc, place, tokens)
+        respell_at(alloc, place, tokens)
     }
 }
 
@@ -196,5 +196,5 @@ impl Selects for DistinctCounts {
 pub fn without_distinct_counts(alloc: Global, tokens: &[Token]) -> Result<Vec<Token>, RespellError>
     ensures { Gives (λ x. x.items) result (spec.respelled tokens.now) }
 {
-    respelled_backwards(alloc, &DistinctCounts, MOST_SELECTS, tokens)
+    respell_backwards(alloc, &DistinctCounts, MOST_SELECTS, tokens)
 }

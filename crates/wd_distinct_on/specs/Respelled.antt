@@ -8,7 +8,7 @@ use Rattle.wd_clauses.specs.Parts.{parts}
 use Rattle.wd_distinct_on.specs.Items.{NamedItem, are_distinct, items_of}
 use Rattle.wd_distinct_on.specs.Keys.{SortKey, fits, keys_of}
 use Rattle.wd_distinct_on.specs.Pieces.{Pieces, begins_select, select_at}
-use Rattle.wd_distinct_on.specs.Selects.{respelled_backwards}
+use Rattle.wd_distinct_on.specs.Selects.{respell_backwards}
 use Rattle.wd_distinct_on.specs.Written.{written}
 
 -- the parts of a list that may be empty
@@ -44,8 +44,8 @@ unfoldable pub respelled_select : List Token → Pieces → Option (List Token)
 respelled_select front select = items_in select.items >>= λ items. with_keys front select items
 
 -- a query in which the select that begins at a place is respelled
-unfoldable pub respelled_at : ℕ → List Token → Option (List Token)
-respelled_at place tokens = select_at (drop place tokens) >>= λ select. respelled_select (take place tokens) select
+unfoldable pub respell_at : ℕ → List Token → Option (List Token)
+respell_at place tokens = select_at (drop place tokens) >>= λ select. respelled_select (take place tokens) select
 
 -- the most selects with DISTINCT ON that are looked at (this project's choice)
 abbrev pub most_selects : ℕ
@@ -53,7 +53,7 @@ most_selects = 64
 
 -- a query without DISTINCT ON
 abbrev pub respelled : List Token → Result (List Token) RespellError
-respelled tokens = respelled_backwards begins_select respelled_at most_selects tokens
+respelled tokens = respell_backwards begins_select respell_at most_selects tokens
 
 -- What a function returned is what is respelled, unless memory ran out.
 abbrev pub Gives : {X : Type 0} → (X → List Token) → Result X RespellError → Result (List Token) RespellError → Type 0

@@ -16,11 +16,11 @@ turned go tokens (Some new) = if nat_lt most_tokens (length new) then Err TooLon
 
 -- a query in which selects are respelled that begin at the first N places, from the last to the first, at most the given number of them
 unfoldable pub respelled_below : (List Token → Bool) → (ℕ → List Token → Option (List Token)) → ℕ → ℕ → List Token → Result (List Token) RespellError
-respelled_below begins respelled_at left zero tokens = Ok tokens
-respelled_below begins respelled_at left (suc place) tokens =
+respelled_below begins respell_at left zero tokens = Ok tokens
+respelled_below begins respell_at left (suc place) tokens =
     if left == 0 then Ok tokens
-    else turned (λ query. respelled_below begins respelled_at (fewer begins left (drop place tokens)) place query) tokens (respelled_at place tokens)
+    else turned (λ query. respelled_below begins respell_at (fewer begins left (drop place tokens)) place query) tokens (respell_at place tokens)
 
 -- a query in which at most the given number of selects are looked at, and each is respelled at its place if it can be
-abbrev pub respelled_backwards : (List Token → Bool) → (ℕ → List Token → Option (List Token)) → ℕ → List Token → Result (List Token) RespellError
-respelled_backwards begins respelled_at most tokens = if nat_lt most_tokens (length tokens) then Err TooLong else respelled_below begins respelled_at most (length tokens) tokens
+abbrev pub respell_backwards : (List Token → Bool) → (ℕ → List Token → Option (List Token)) → ℕ → List Token → Result (List Token) RespellError
+respell_backwards begins respell_at most tokens = if nat_lt most_tokens (length tokens) then Err TooLong else respelled_below begins respell_at most (length tokens) tokens

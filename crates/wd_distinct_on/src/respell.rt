@@ -8,7 +8,7 @@ ghost use Rattle.wd_distinct_on.specs.Respelled as spec;
 use crate::item::{Item, are_distinct, items_of};
 use crate::key::{Key, fits, keys_of};
 use crate::select::{Select, begins_select, select_at};
-use crate::selects::{Selects, respelled_backwards, split_at_place};
+use crate::selects::{Selects, respell_backwards, split_at_place};
 use crate::write::write_select;
 use std::alloc::{AllocError, Global};
 use wd_clauses::{RespellError, parts};
@@ -124,13 +124,13 @@ fn respelled_select(
 }
 
 /// The query in which the select that begins at a place is respelled.
-#[tactic(auto, unfolding(crate::specs::Respelled::respelled_at))]
-fn respelled_at(
+#[tactic(auto, unfolding(crate::specs::Respelled::respell_at))]
+fn respell_at(
     alloc: Global,
     place: usize,
     tokens: &[Token],
 ) -> Result<Option<Vec<Token>>, RespellError>
-    ensures { spec.MayWrite (λ x. x.items) result (spec.respelled_at place tokens.now) }
+    ensures { spec.MayWrite (λ x. x.items) result (spec.respell_at place tokens.now) }
 {
     let (front, rest) = split_at_place(place, tokens);
     match select_at(rest) {
@@ -152,19 +152,19 @@ impl Selects for DistinctOn {
 
     ghost starts = { λ _. begins_select };
 
-    ghost respelled = { λ _. spec.respelled_at };
+    ghost respelled = { λ _. spec.respell_at };
 
     fn begins(&self, tokens: &[Token]) -> bool {
         begins_select(tokens)
     }
 
-    fn respelled_at(
+    fn respell_at(
         &self,
         alloc: Global,
         place: usize,
         tokens: &[Token],
     ) -> Result<Option<Vec<Token>>, RespellError> {
-        respelled_at(alloc, place, tokens)
+        respell_at(alloc, place, tokens)
     }
 }
 
@@ -173,5 +173,5 @@ impl Selects for DistinctOn {
 pub fn without_distinct_on(alloc: Global, tokens: &[Token]) -> Result<Vec<Token>, RespellError>
     ensures { spec.Gives (λ x. x.items) result (spec.respelled tokens.now) }
 {
-    respelled_backwards(alloc, &DistinctOn, MOST_SELECTS, tokens)
+    respell_backwards(alloc, &DistinctOn, MOST_SELECTS, tokens)
 }

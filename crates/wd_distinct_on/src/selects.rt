@@ -25,7 +25,7 @@ pub trait Selects {
         ensures { result ≡ starts self.now tokens.now };
 
     /// The query in which the select that begins at a place is respelled, if it is.
-    fn respelled_at(
+    fn respell_at(
         &self,
         alloc: Global,
         place: usize,
@@ -57,13 +57,13 @@ fn fewer<S: Selects>(selects: &S, left: usize, place: usize, tokens: &[Token]) -
 /// The query in which at most `most` selects are looked at, and each of these is respelled if it can be. The error is `TooLong` where
 /// the query, or what is written, has more than 65,536 tokens.
 #[tactic(auto, unfolding(crate::specs::Selects::respelled_below))]
-pub fn respelled_backwards<S: Selects>(
+pub fn respell_backwards<S: Selects>(
     alloc: Global,
     selects: &S,
     most: usize,
     tokens: &[Token],
 ) -> Result<Vec<Token>, RespellError>
-    ensures { Gives (λ x. x.items) result (spec.respelled_backwards (S.starts selects.now) (S.respelled selects.now) most tokens.now) }
+    ensures { Gives (λ x. x.items) result (spec.respell_backwards (S.starts selects.now) (S.respelled selects.now) most tokens.now) }
 {
     if tokens.len() > MOST_TOKENS {
         return Err(RespellError::TooLong);
@@ -77,7 +77,7 @@ pub fn respelled_backwards<S: Selects>(
         }
         place -= 1;
         left = fewer(selects, left, place, &query);
-        match selects.respelled_at(alloc, place, &query)? {
+        match selects.respell_at(alloc, place, &query)? {
             Some(next) => {
                 if next.len() > MOST_TOKENS {
                     return Err(RespellError::TooLong);

@@ -8,7 +8,7 @@ use Rattle.wd_nodes.specs.Results.{OkOr}
 use Rattle.wd_eval.specs.Windows.{orderings_of}
 use Rattle.wd_eval.specs.Steps.{has_large_step}
 use Rattle.wd_eval.specs.Judged.{IsOutcome}
-use Rattle.wd_eval.specs.Tied.{IsStableChoice, IsStableRefused, IsTurnedRefused, IsValidTurnedChoice, reversed_at}
+use Rattle.wd_eval.specs.Tied.{IsStableChoice, IsStableRefused, IsTurnedRefused, IsValidTurnedChoice, reverse_at}
 use Rattle.wd_eval.specs.declared.error.EvalError.{EvalError}
 use Rattle.wd_eval.specs.declared.eval.StableOutcome.{StableOutcome}
 use Rattle.wd_eval.specs.declared.turned.Turned.{Turned}
@@ -27,10 +27,10 @@ IsTurnedOutcomeOrRefused plan instance turned r = OkOr (λ t. IsTurnedOutcome pl
 
 -- where that ordering is flipped
 abbrev pub IsStableOutcome : PlanTree → Instance → Option ℕ → StableOutcome → Type 0
-IsStableOutcome plan instance flipped t = IsTurnedOutcome plan instance (reversed_at flipped) t
+IsStableOutcome plan instance flipped t = IsTurnedOutcome plan instance (reverse_at flipped) t
 
 abbrev pub IsStableOutcomeOrRefused : PlanTree → Instance → Option ℕ → Result StableOutcome EvalError → Type 0
-IsStableOutcomeOrRefused plan instance flipped r = IsTurnedOutcomeOrRefused plan instance (reversed_at flipped) r
+IsStableOutcomeOrRefused plan instance flipped r = IsTurnedOutcomeOrRefused plan instance (reverse_at flipped) r
 
 -- the outcome under a valid choice that leaves rows that tie as they are, and under which no step is too large
 pub record IsRun (plan : PlanTree) (instance : Instance) (o : RowsOrFault) : Type 0 where

@@ -71,20 +71,20 @@ IsTurnedOrRefused plan instance turned r = OkOr (λ c. IsValidTurnedChoice plan 
 abbrev pub reversed : ℕ → Turned
 reversed number = record { number = number; turn = Reversed }
 
-abbrev pub reversed_at : Option ℕ → Option Turned
-reversed_at flipped = option_map reversed flipped
+abbrev pub reverse_at : Option ℕ → Option Turned
+reverse_at flipped = option_map reversed flipped
 
 abbrev pub IsStableChoice : PlanTree → Instance → Option ℕ → List (List ℕ) → Type 0
-IsStableChoice plan instance flipped choice = IsTurnedChoice plan instance (reversed_at flipped) choice
+IsStableChoice plan instance flipped choice = IsTurnedChoice plan instance (reverse_at flipped) choice
 
 abbrev pub IsValidStableChoice : PlanTree → Instance → Option ℕ → List (List ℕ) → Type 0
-IsValidStableChoice plan instance flipped choice = IsValidTurnedChoice plan instance (reversed_at flipped) choice
+IsValidStableChoice plan instance flipped choice = IsValidTurnedChoice plan instance (reverse_at flipped) choice
 
 abbrev pub IsStableTooLarge : PlanTree → Instance → Option ℕ → Type 0
-IsStableTooLarge plan instance flipped = IsTurnedTooLarge plan instance (reversed_at flipped)
+IsStableTooLarge plan instance flipped = IsTurnedTooLarge plan instance (reverse_at flipped)
 
 abbrev pub IsStableRefused : PlanTree → Instance → Option ℕ → EvalError → Type 0
-IsStableRefused plan instance flipped e = IsTurnedRefused plan instance (reversed_at flipped) e
+IsStableRefused plan instance flipped e = IsTurnedRefused plan instance (reverse_at flipped) e
 
 abbrev pub IsStableChoiceOrRefused : PlanTree → Instance → Option ℕ → Result Choice EvalError → Type 0
-IsStableChoiceOrRefused plan instance flipped r = IsTurnedOrRefused plan instance (reversed_at flipped) r
+IsStableChoiceOrRefused plan instance flipped r = IsTurnedOrRefused plan instance (reverse_at flipped) r

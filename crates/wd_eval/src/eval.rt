@@ -16,7 +16,7 @@ use crate::answer::{Answer, answer_of};
 use crate::error::EvalError;
 use crate::node::evaluate;
 use crate::orderings::{MOST_ROWS, Orderings};
-use crate::turned::{Turned, reversed_at};
+use crate::turned::{Turned, reverse_at};
 use std::alloc::Global;
 use wd_columns::Columns;
 use wd_nodes::{MovedIn, Relation, outcome_from, take_tables};
@@ -135,7 +135,7 @@ pub fn tied_choice(
     requires { fits (schema_of schema.now) (plan_of plan.now) ≡ true }
     ensures { IsStableChoiceOrRefused (plan_of plan.now) (instance_of instance.now.items) flipped result }
 {
-    turned_choice(alloc, plan, schema, instance, reversed_at(flipped))
+    turned_choice(alloc, plan, schema, instance, reverse_at(flipped))
 }
 
 /// The choice that leaves rows that tie as they are, but for one ordering that may take them in
@@ -185,7 +185,7 @@ pub fn eval_stable(
     requires { fits (schema_of schema.now) (plan_of plan.now) ≡ true }
     ensures { IsStableOutcomeOrRefused (plan_of plan.now) (instance_of instance.now.items) flipped result }
 {
-    eval_turned(alloc, plan, schema, instance, reversed_at(flipped))
+    eval_turned(alloc, plan, schema, instance, reverse_at(flipped))
 }
 
 /// The choice that leaves rows that tie as they are, but for the ordering with the number of

@@ -141,14 +141,14 @@ fn sorted_limit(
     ensures { IfOk result (λ o. IsStableStep (tree.Limit (limit_of limit.now)) (stored_or_fault_of (instance_of instance.now) input) turned (orderings_of made.old.items) (orderings_of made.new.items) (relation_of (instance_of instance.now) o)) }
 {
     let turn = turn_of(turned, made.len());
-    let ordering = sorted_over(alloc, instance, &input, limit, turn)?;
+    let ordering = sort_over(alloc, instance, &input, limit, turn)?;
     let relation = limit_input(alloc, instance, limit, input, &ordering)?;
     made.push(ordering)?;
     Ok(relation)
 }
 
 /// The sorted ordering of a limit over its input, and the empty list where that is a fault.
-fn sorted_over(
+fn sort_over(
     alloc: Global,
     instance: &[Vec<Row>],
     input: &Result<StoredRows, Fault>,

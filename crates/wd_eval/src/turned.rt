@@ -29,8 +29,8 @@ pub(crate) fn turn_of(turned: Option<Turned>, number: usize) -> Turn
 }
 
 /// Where the ordering with this number is flipped, it takes the positions last to first.
-pub(crate) fn reversed_at(flipped: Option<u32>) -> Option<Turned>
-    ensures { result ≡ spec.reversed_at flipped }
+pub(crate) fn reverse_at(flipped: Option<u32>) -> Option<Turned>
+    ensures { result ≡ spec.reverse_at flipped }
 {
     match flipped {
         None => None,

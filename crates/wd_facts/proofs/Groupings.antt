@@ -27,7 +27,7 @@ use Rattle.wd_laws.proofs.Widths.{all_distinct}
 use Rattle.wd_step_facts.specs.declared.facts.Member.{Member}
 use Rattle.wd_step_facts.specs.declared.facts.Member.TheVariants as member
 use Rattle.wd_step_facts.specs.Facts.{Fact, Holds, Same, columns_named, is_column, is_plain, key_fact, unpaired}
-use Rattle.wd_step_facts.specs.Steps.{all_columns, are_told_apart, cut_fact, differ_in, facts_of_group, group_key, group_key_facts, grouping_arguments, grouping_columns, is_group_call_not_null}
+use Rattle.wd_step_facts.specs.Steps.{all_columns, are_told_apart, restrict_fact, differ_in, facts_of_group, group_key, group_key_facts, grouping_arguments, grouping_columns, is_group_call_not_null}
 use Rattle.wd_facts.specs.Laws.{ArePlain}
 use Rattle.wd_facts.proofs.Embeds.{Carries, HasWidth-from, hold_moved, same_facts}
 use Rattle.wd_facts.proofs.Keys.{all_map}
@@ -439,20 +439,20 @@ cut_holds : (columns : ℕ) (rows : List RowValues) (fact : Fact) → Holds (unp
 cut_holds columns rows fact h p q k l a = all_filter (is_plain columns) (Same (unpaired rows) p q) (Same (unpaired rows) p q) (λ x s e. s) fact.to (h p q k l a)
 
 -- the facts that one set keeps name columns and the row alone
-pub cut_named : (columns : ℕ) (kept : List Fact) → ArePlain columns (flat_map (cut_fact columns) kept)
+pub cut_named : (columns : ℕ) (kept : List Fact) → ArePlain columns (flat_map (restrict_fact columns) kept)
 cut_named columns [] = tt
 cut_named columns (fact ∷ kept) = by (list_all (is_column columns) fact.from) refl (cut_named columns kept)
   where
-    by : (b : Bool) → list_all (is_column columns) fact.from ≡ b → ArePlain columns (flat_map (cut_fact columns) kept) → ArePlain columns (cond b (record { from = fact.from; to = filter (is_plain columns) fact.to } ∷ []) [] ++ flat_map (cut_fact columns) kept)
+    by : (b : Bool) → list_all (is_column columns) fact.from ≡ b → ArePlain columns (flat_map (restrict_fact columns) kept) → ArePlain columns (cond b (record { from = fact.from; to = filter (is_plain columns) fact.to } ∷ []) [] ++ flat_map (restrict_fact columns) kept)
     by true e rest = ((λ i. columns_plain columns fact.from e i && cut_plain columns fact.to i), rest)
     by false e rest = rest
 
 -- and they hold
-cut_hold : (columns : ℕ) (rows : List RowValues) (kept : List Fact) → AllByRecursion (Holds (unpaired rows)) kept → AllByRecursion (Holds (unpaired rows)) (flat_map (cut_fact columns) kept)
+cut_hold : (columns : ℕ) (rows : List RowValues) (kept : List Fact) → AllByRecursion (Holds (unpaired rows)) kept → AllByRecursion (Holds (unpaired rows)) (flat_map (restrict_fact columns) kept)
 cut_hold columns rows [] h = tt
 cut_hold columns rows (fact ∷ kept) h = by (list_all (is_column columns) fact.from) (cut_hold columns rows kept h.1)
   where
-    by : (b : Bool) → AllByRecursion (Holds (unpaired rows)) (flat_map (cut_fact columns) kept) → AllByRecursion (Holds (unpaired rows)) (cond b (record { from = fact.from; to = filter (is_plain columns) fact.to } ∷ []) [] ++ flat_map (cut_fact columns) kept)
+    by : (b : Bool) → AllByRecursion (Holds (unpaired rows)) (flat_map (restrict_fact columns) kept) → AllByRecursion (Holds (unpaired rows)) (cond b (record { from = fact.from; to = filter (is_plain columns) fact.to } ∷ []) [] ++ flat_map (restrict_fact columns) kept)
     by true rest = (cut_holds columns rows fact h.0, rest)
     by false rest = rest
 
@@ -506,9 +506,9 @@ module _ (columns : ℕ) (calls : List GroupCall) (set : List ℕ) (all : (c : �
     down = λ p q k l e. ap origin e;
   }
 
-  pub one_set_holds : (kept : List Fact) → AllByRecursion (Holds (unpaired xs)) kept → AllByRecursion (Holds (unpaired ys)) (flat_map (cut_fact columns) kept)
+  pub one_set_holds : (kept : List Fact) → AllByRecursion (Holds (unpaired xs)) kept → AllByRecursion (Holds (unpaired ys)) (flat_map (restrict_fact columns) kept)
   one_set_holds kept h =
-      subst (AllByRecursion (Holds (unpaired ys))) (same_facts (flat_map (cut_fact columns) kept)) (hold_moved xs (unpaired ys) (λ c. c) member.Row columns carries (flat_map (cut_fact columns) kept) (cut_named columns kept) (cut_hold columns xs kept h))
+      subst (AllByRecursion (Holds (unpaired ys))) (same_facts (flat_map (restrict_fact columns) kept)) (hold_moved xs (unpaired ys) (λ c. c) member.Row columns carries (flat_map (restrict_fact columns) kept) (cut_named columns kept) (cut_hold columns xs kept h))
 
 -- the sets of a Group that has one
 pub group_kept_hold : (g : GroupRule) (xs ys : List RowValues) → group_outcome g xs ≡ Ok ys → list_all (λ c. list_any (λ set. has set c) g.sets) (positions g.columns) ≡ true → (kept : List Fact) → AllByRecursion (Holds (unpaired xs)) kept → AllByRecursion (Holds (unpaired ys)) (facts_of_group g kept)
@@ -518,14 +518,14 @@ group_kept_hold g xs ys is each kept h = by (nat_eq (length g.sets) 1) refl
     or_nothing true e = refl
     or_nothing false e = e
 
-    with_set : (columns : ℕ) (calls : List GroupCall) (sets : List (List ℕ)) → length sets ≡ 1 → group_outcome (record { columns = columns; sets = sets; calls = calls }) xs ≡ Ok ys → list_all (λ c. list_any (λ set. has set c) sets) (positions columns) ≡ true → AllByRecursion (Holds (unpaired ys)) (flat_map (cut_fact columns) kept)
+    with_set : (columns : ℕ) (calls : List GroupCall) (sets : List (List ℕ)) → length sets ≡ 1 → group_outcome (record { columns = columns; sets = sets; calls = calls }) xs ≡ Ok ys → list_all (λ c. list_any (λ set. has set c) sets) (positions columns) ≡ true → AllByRecursion (Holds (unpaired ys)) (flat_map (restrict_fact columns) kept)
     with_set columns calls [] l e a = absurd (omega arith)
     with_set columns calls ([] ∷ []) l e a =
         let long = (all_made (record { columns = columns; sets = [] ∷ []; calls = calls }) xs ys e).long in
-        one_at_most ys (omega (arith, long)) (flat_map (cut_fact columns) kept)
+        one_at_most ys (omega (arith, long)) (flat_map (restrict_fact columns) kept)
     with_set columns calls ((c ∷ set) ∷ []) l e a = one_set_holds columns calls (c ∷ set) (λ d k. or_nothing (has (c ∷ set) d) (range_all (λ x. list_any (λ s. has s x) ((c ∷ set) ∷ [])) 0 columns d a (omega arith) (omega arith))) (omega arith) xs ys e kept h
     with_set columns calls (set ∷ other ∷ sets) l e a = absurd (omega arith)
 
-    by : (b : Bool) → nat_eq (length g.sets) 1 ≡ b → AllByRecursion (Holds (unpaired ys)) (cond b (flat_map (cut_fact g.columns) kept) [])
+    by : (b : Bool) → nat_eq (length g.sets) 1 ≡ b → AllByRecursion (Holds (unpaired ys)) (cond b (flat_map (restrict_fact g.columns) kept) [])
     by true e = with_set g.columns g.calls g.sets (eqb-true (length g.sets) 1 e) is each
     by false e = tt

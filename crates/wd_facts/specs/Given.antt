@@ -26,7 +26,7 @@ use Rattle.wd_plan.specs.Sorting.{class_columns, order_columns}
 use Rattle.wd_step_facts.specs.declared.facts.Member.{Member}
 use Rattle.wd_step_facts.specs.declared.facts.Member.TheVariants as member
 use Rattle.wd_step_facts.specs.Facts.{Fact, FactList, columns_named, is_column, is_plain, key_fact, moved_facts}
-use Rattle.wd_step_facts.specs.Steps.{Fixed, Other, Plain, Side, all_columns, are_told_apart, both_copied, call_facts, calls_facts, column_fact, comparison_facts, conjunct_facts, conjuncts, conjuncts_of, copied_keys, copies, copy_facts, copy_from, cut_fact, differ_in, equality_facts, facts_of_conjuncts, facts_of_equal, facts_of_fixed, facts_of_group, fixed_fact, frame_facts, goes_by_key, group_key, group_key_facts, grouping_arguments, grouping_arguments_of, grouping_columns, if_copied, is_call_not_null, is_group_call_not_null, is_output_not_null, is_side, is_side_not_null, keeps_peers_whole, null_facts, output_facts, outputs_facts, over_frame, rank_fact, ranking_facts, rules_out_null, side_of, some_rules_out_null, used, used_fact, value_fact}
+use Rattle.wd_step_facts.specs.Steps.{Fixed, Other, Plain, Side, all_columns, are_told_apart, both_copied, call_facts, calls_facts, column_fact, comparison_facts, conjunct_facts, conjuncts, conjuncts_of, copied_keys, copies, copy_facts, copy_from, restrict_fact, differ_in, equality_facts, facts_of_conjuncts, facts_of_equal, facts_of_fixed, facts_of_group, fixed_fact, frame_facts, goes_by_key, group_key, group_key_facts, grouping_arguments, grouping_arguments_of, grouping_columns, if_copied, is_call_not_null, is_group_call_not_null, is_output_not_null, is_side, is_side_not_null, keeps_peers_whole, null_facts, output_facts, outputs_facts, over_frame, rank_fact, ranking_facts, rules_out_null, side_of, some_rules_out_null, used, used_fact, value_fact}
 
 -- ---- tables
 

@@ -37,7 +37,7 @@ pub fn given(
     requires named { AreOfChildren (plan_of plan.now) (kept_by kept.now 0) (kept_by kept.now 1) }
     ensures { IfOk result (λ f. facts_of f ≡ spec.given (schema_of schema.now) (plan_of plan.now) (kept_by kept.now 0) (kept_by kept.now 1)) }
 {
-    let (first, second) = (kept_of(kept, 0), kept_of(kept, 1));
+    let (first, second) = (facts_of_child(kept, 0), facts_of_child(kept, 1));
     match plan {
         Plan::Scan { table, columns } => {
             let list = table_facts(alloc, schema, *table)?;
@@ -80,7 +80,7 @@ pub fn given(
 }
 
 /// The facts that the child with this number keeps; none past the last child.
-fn kept_of<'a>(kept: &[&'a [Given]], child: usize) -> &'a [Given]
+fn facts_of_child<'a>(kept: &[&'a [Given]], child: usize) -> &'a [Given]
     ensures { map fact_of result.now ≡ kept_by kept.now child }
 {
     match kept.get(child) {

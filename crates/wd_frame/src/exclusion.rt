@@ -45,7 +45,7 @@ pub fn frame_ranges(
     match frame.exclusion {
         Exclusion::NoOthers => only(alloc, bounds),
         exclusion => {
-            let left_out = left_out(alloc, part, exclusion)?;
+            let left_out = excluded_ranges(alloc, part, exclusion)?;
             in_zones(alloc, zones_of(exclusion), &bounds, &left_out)
         }
     }
@@ -61,7 +61,7 @@ fn only(alloc: Global, ranges: Vec<IndexRange>) -> Result<Vec<Vec<IndexRange>>, 
 }
 
 /// For each place the range that the exclusion leaves out; under TIES it includes the row itself.
-fn left_out(
+fn excluded_ranges(
     alloc: Global,
     part: &Part,
     exclusion: Exclusion,

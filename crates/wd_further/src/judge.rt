@@ -39,7 +39,7 @@ pub fn seek_further(
     ensures sought { IfOk result (IsSoughtFurther schema.now query.now) }
 {
     match read_texts(alloc, schema, query) {
-        Ok(planned) => found_in(alloc, schema, query, &planned),
+        Ok(planned) => find_in(alloc, schema, query, &planned),
         Err(error) => match error.number() {
             Some(_) => Ok(None),
             None => Err(OutOfMemory),
@@ -48,7 +48,7 @@ pub fn seek_further(
 }
 
 /// What the search finds for a plan, with its text.
-fn found_in(
+fn find_in(
     alloc: Global,
     schema: &[u8],
     query: &[u8],

@@ -23,7 +23,7 @@ use wd_plan::Plan;
 use wd_schema::Schema;
 use wd_seek::try_candidate;
 use wd_value::OutOfMemory;
-use wd_varied::{Suggested, pair_count, row_work, sizes, suggested_by, vary};
+use wd_varied::{Suggested, pair_count, row_work, sizes, collect_suggested, vary};
 use wd_witness_text::Witness;
 
 /// The most tries of all sizes together in one turn.
@@ -55,7 +55,7 @@ pub(crate) fn search(
     ensures shown { IfOk result (λ o. IfSome o (λ w. IsShown (schema_of schema.now) (plan_of plan.now) (witness_of w))) }
 {
     let outline = outline_of(alloc, schema, plan)?;
-    let suggested = suggested_by(alloc, plan)?;
+    let suggested = collect_suggested(alloc, plan)?;
     let sizes = sizes(alloc, plan)?;
     search_sizes(alloc, schema, plan, &outline, &suggested, &sizes)
 }

@@ -19,7 +19,7 @@ pub(crate) fn pair_numbers(
     requires { length first.now ≡ length second.now }
     ensures { IfOk result (λ c. ArePairNumbers first.now second.now c.bound c.codes.items) }
 {
-    let mut met = HashMap::with_hasher(alloc, seeded_by(first, second));
+    let mut met = HashMap::with_hasher(alloc, seed_from(first, second));
     let mut codes = Vec::with_capacity(alloc, first.len())?;
     for k in 0..first.len() {
         let number = pair_number(&mut met, (first[k], second[k]))?;
@@ -30,7 +30,7 @@ pub(crate) fn pair_numbers(
 }
 
 /// A seed for the hashes of the pairs, made of them.
-fn seeded_by(first: &[u64], second: &[u64]) -> Seeded
+fn seed_from(first: &[u64], second: &[u64]) -> Seeded
     requires { length first.now ≡ length second.now }
 {
     let mut all = DefaultHasher::new();

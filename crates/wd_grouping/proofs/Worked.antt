@@ -7,11 +7,11 @@ use Rattle.wd_using.specs.Pieces.{pieces_at}
 use Rattle.wd_using.specs.Reach as level
 use Rattle.wd_grouping.specs.Examples.{ExpressionsComeOut}
 use Rattle.wd_grouping.specs.Replaced.{replaced}
-use Rattle.wd_grouping.specs.Respelled.{respelled_at}
+use Rattle.wd_grouping.specs.Respelled.{respell_at}
 use Rattle.wd_grouping.specs.Written.{opening}
 
 pub expressions_come_out : ExpressionsComeOut
-unfolding parts_at closing_from reach_from respelled_below pieces_at level.reach_from replaced respelled_at opening
+unfolding parts_at closing_from reach_from respelled_below pieces_at level.reach_from replaced respell_at opening
 expressions_come_out = record {
   number_of_a_column = λ at. refl;
   number_of_an_expression = λ at. refl;

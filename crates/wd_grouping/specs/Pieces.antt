@@ -27,8 +27,8 @@ with_keys select condition (group ∷ by ∷ tokens) =
 with_keys select condition tokens = None
 
 -- a select with GROUP BY
-abbrev pub grouped_of : Pieces → Option GroupedPieces
-grouped_of select = with_keys select (take (reach Later select.clauses) select.clauses) (drop (reach Later select.clauses) select.clauses)
+abbrev pub grouping_of : Pieces → Option GroupedPieces
+grouping_of select = with_keys select (take (reach Later select.clauses) select.clauses) (drop (reach Later select.clauses) select.clauses)
 
 -- FROM, the name under which the columns of its one table are known, and that name again where the table replaces several tables
 pub record OneTable : Type 0 where

@@ -56,16 +56,16 @@ abbrev pub written_at : Option Token → Token → List Token → Option Operand
 written_at table token after None = its_table table token after ∷ []
 written_at table token after (Some operand) = added_name operand.name token ∷ []
 
-abbrev pub passed_by : Option Operand → ℕ
-passed_by None = 0
-passed_by (Some operand) = operand.count - 1
+abbrev pub further_tokens : Option Operand → ℕ
+further_tokens None = 0
+further_tokens (Some operand) = operand.count - 1
 
 -- what is written for the tokens after this one, of which the given number are passed over
 unfoldable pub replaced : List GroupKey → Option Token → ℕ → TokenKind → List Token → List Token
 replaced keys table passed before [] = []
 replaced keys table passed before (token ∷ tokens) =
     if passed == 0
-    then written_at table token tokens (operand_at keys before (token ∷ tokens)) ++ replaced keys table (passed_by (operand_at keys before (token ∷ tokens))) token.kind tokens
+    then written_at table token tokens (operand_at keys before (token ∷ tokens)) ++ replaced keys table (further_tokens (operand_at keys before (token ∷ tokens))) token.kind tokens
     else replaced keys table (passed - 1) token.kind tokens
 
 -- the column that replaces an item, if the item is nothing but an expression

@@ -6,10 +6,10 @@ use Rattle.wd_clauses.specs.declared.error.RespellError.{RespellError}
 use Rattle.wd_clauses.specs.Parts.{parts}
 use Rattle.wd_distinct_on.specs.Kinds.{begins, is_select}
 use Rattle.wd_distinct_on.specs.Respelled.{◌>>=◌}
-use Rattle.wd_distinct_on.specs.Selects.{respelled_backwards}
+use Rattle.wd_distinct_on.specs.Selects.{respell_backwards}
 use Rattle.wd_using.specs.Pieces.{select_at}
 use Rattle.wd_grouping.specs.Keys.{GroupKey, all_stay, have_names, keys_of}
-use Rattle.wd_grouping.specs.Pieces.{GroupedPieces, OneTable, grouped_of, grouped_tables, one_table}
+use Rattle.wd_grouping.specs.Pieces.{GroupedPieces, OneTable, grouping_of, grouped_tables, one_table}
 use Rattle.wd_grouping.specs.Replaced.{are_clear, have_star}
 use Rattle.wd_grouping.specs.Written.{written, written_over}
 
@@ -41,12 +41,12 @@ abbrev pub respelled_select : List Token → GroupedPieces → Option (List Toke
 respelled_select front select = parts select.select.items >>= with_items front select
 
 -- the select with GROUP BY that begins with the tokens
-abbrev pub grouped_at : List Token → Option GroupedPieces
-grouped_at tokens = select_at tokens >>= grouped_of
+abbrev pub grouping_at : List Token → Option GroupedPieces
+grouping_at tokens = select_at tokens >>= grouping_of
 
 -- a query in which the select that begins at a place is respelled
-unfoldable pub respelled_at : ℕ → List Token → Option (List Token)
-respelled_at place tokens = grouped_at (drop place tokens) >>= respelled_select (take place tokens)
+unfoldable pub respell_at : ℕ → List Token → Option (List Token)
+respell_at place tokens = grouping_at (drop place tokens) >>= respelled_select (take place tokens)
 
 -- the most selects that are looked at (this project's choice)
 abbrev pub most_selects : ℕ
@@ -54,4 +54,4 @@ most_selects = 128
 
 -- a query whose keys of GROUP BY are columns
 abbrev pub respelled : List Token → Result (List Token) RespellError
-respelled tokens = respelled_backwards (begins is_select) respelled_at most_selects tokens
+respelled tokens = respell_backwards (begins is_select) respell_at most_selects tokens

@@ -155,8 +155,8 @@ fn add_at(
 }
 
 /// How many further tokens belong to an operand.
-fn passed_by(operand: Option<Operand>) -> usize
-    ensures { result ≡ spec.passed_by (option_map named.operand operand) }
+fn further_tokens(operand: Option<Operand>) -> usize
+    ensures { result ≡ spec.further_tokens (option_map named.operand operand) }
 {
     match operand {
         Some(operand) => operand.count.saturating_sub(1),
@@ -183,7 +183,7 @@ pub fn add_replaced(
         if passed == 0 {
             let operand = operand_at(keys, last, rest);
             add_at(alloc, written, table, first, after, operand)?;
-            passed = passed_by(operand);
+            passed = further_tokens(operand);
         } else {
             passed -= 1;
         }

@@ -8,13 +8,13 @@ ghost use Rattle.wd_grouping.specs.Respelled as spec;
 
 use crate::key::{Key, all_stay, have_names, keys_of};
 use crate::replace::{are_clear, have_star};
-use crate::select::{Grouped, grouped_of};
+use crate::select::{Grouped, grouping_of};
 use crate::source::{OneTable, one_table, tables_called};
 use crate::write::{write_over_tables, write_select};
 use std::alloc::Global;
 use wd_clauses::{RespellError, parts};
 use wd_distinct_on::{
-    Selects, added_name, respelled_backwards, split_at_place, starts_with_select,
+    Selects, added_name, respell_backwards, split_at_place, starts_with_select,
 };
 use wd_lex::Token;
 use wd_using::select_at;
@@ -145,26 +145,26 @@ fn respelled_select(
 }
 
 /// The select with GROUP BY that begins with the tokens.
-fn grouped_at(tokens: &[Token]) -> Option<Grouped<'_>>
-    ensures { Finds grouped_pieces result (spec.grouped_at tokens.now) }
+fn grouping_at(tokens: &[Token]) -> Option<Grouped<'_>>
+    ensures { Finds grouped_pieces result (spec.grouping_at tokens.now) }
 {
     match select_at(tokens) {
-        Some(select) => grouped_of(select),
+        Some(select) => grouping_of(select),
         None => None,
     }
 }
 
 /// The query in which the select that begins at a place is respelled.
-#[tactic(auto, unfolding(crate::specs::Respelled::respelled_at))]
-fn respelled_at(
+#[tactic(auto, unfolding(crate::specs::Respelled::respell_at))]
+fn respell_at(
     alloc: Global,
     place: usize,
     tokens: &[Token],
 ) -> Result<Option<Vec<Token>>, RespellError>
-    ensures { MayWrite (λ x. x.items) result (spec.respelled_at place tokens.now) }
+    ensures { MayWrite (λ x. x.items) result (spec.respell_at place tokens.now) }
 {
     let (front, rest) = split_at_place(place, tokens);
-    match grouped_at(rest) {
+    match grouping_at(rest) {
         Some(select) => {
             let tokens = respelled_select(alloc, front, &select)?;
             Ok(tokens)
@@ -183,19 +183,19 @@ impl Selects for ExpressionKeys {
 
     ghost starts = { λ _. begins is_select };
 
-    ghost respelled = { λ _. spec.respelled_at };
+    ghost respelled = { λ _. spec.respell_at };
 
     fn begins(&self, tokens: &[Token]) -> bool {
         starts_with_select(tokens)
     }
 
-    fn respelled_at(
+    fn respell_at(
         &self,
         alloc: Global,
         place: usize,
         tokens: &[Token],
     ) -> Result<Option<Vec<Token>>, RespellError> {
-        respelled_at(alloc, place, tokens)
+        respell_at(alloc, place, tokens)
     }
 }
 
@@ -204,5 +204,5 @@ impl Selects for ExpressionKeys {
 pub fn without_expression_keys(alloc: Global, tokens: &[Token]) -> Result<Vec<Token>, RespellError>
     ensures { Gives (λ x. x.items) result (spec.respelled tokens.now) }
 {
-    respelled_backwards(alloc, &ExpressionKeys, MOST_SELECTS, tokens)
+    respell_backwards(alloc, &ExpressionKeys, MOST_SELECTS, tokens)
 }

@@ -24,8 +24,8 @@ pub struct Grouped<'t> {
 }
 
 /// A select with GROUP BY.
-pub fn grouped_of(select: Select<'_>) -> Option<Grouped<'_>>
-    ensures { Finds grouped_pieces result (spec.grouped_of (pieces select.entry)) }
+pub fn grouping_of(select: Select<'_>) -> Option<Grouped<'_>>
+    ensures { Finds grouped_pieces result (spec.grouping_of (pieces select.entry)) }
 {
     let (condition, after) = split(Stop::Later, select.clauses);
     match after {

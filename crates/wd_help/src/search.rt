@@ -141,7 +141,7 @@ impl Search<'_> {
             if places.is_empty() {
                 continue;
             }
-            if let Some(found) = self.closed_at(&step.changes, &places, tried)? {
+            if let Some(found) = self.close_at(&step.changes, &places, tried)? {
                 return Ok(Some(found));
             }
         }
@@ -149,7 +149,7 @@ impl Search<'_> {
     }
 
     /// The first further change that closes these places.
-    fn closed_at(
+    fn close_at(
         self,
         changes: &[Change],
         places: &[KeyPlace],

@@ -28,8 +28,8 @@ opened front [] = None
 opened front (bracket ∷ tokens) = if begins_inner (bracket ∷ tokens) then up_to front bracket tokens (closing tokens) else None
 
 -- a query without the WITH clause in the bracket at a place, and the names that are read more than once there
-unfoldable pub opened_at : ℕ → List Token → Option Said
-opened_at place tokens = opened (take place tokens) (drop place tokens)
+unfoldable pub open_at : ℕ → List Token → Option Said
+open_at place tokens = opened (take place tokens) (drop place tokens)
 
 -- the most WITH clauses within brackets that are looked at (this project's choice)
 abbrev pub most_inner : ℕ
@@ -50,7 +50,7 @@ turned go query (Some new) = if nat_lt most_tokens (length new.tokens) then Err 
 unfoldable pub opened_below : ℕ → ℕ → Said → Result Said RespellError
 opened_below left zero query = Ok query
 opened_below left (suc place) query =
-    if left == 0 then Ok query else turned (opened_below (fewer left (drop place query.tokens)) place) query (opened_at place query.tokens)
+    if left == 0 then Ok query else turned (opened_below (fewer left (drop place query.tokens)) place) query (open_at place query.tokens)
 
 -- a query without WITH clauses within brackets, and the names that are read more than once there, those of the last clause first
 abbrev pub without_inner : List Token → Result Said RespellError

@@ -65,13 +65,13 @@ fn up_to(
 }
 
 /// The query without the WITH clause in the bracket at a place.
-#[tactic(auto, unfolding(crate::specs::Inner::opened_at))]
-pub fn opened_at(
+#[tactic(auto, unfolding(crate::specs::Inner::open_at))]
+pub fn open_at(
     alloc: Global,
     place: usize,
     tokens: &[Token],
 ) -> Result<Option<Expanded>, RespellError>
-    ensures { spec.MaySay members.said result (spec.opened_at place tokens.now) }
+    ensures { spec.MaySay members.said result (spec.open_at place tokens.now) }
 {
     let (front, rest) = split_at_place(place, tokens);
     match rest {

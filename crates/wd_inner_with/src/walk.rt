@@ -5,7 +5,7 @@ ghost use Rattle.wd_inner_with.specs.Inner as spec;
 ghost use Rattle.wd_with.specs.Expanded as members;
 ghost use Rattle.std.specs.Prelude.{drop};
 
-use crate::opened::{begins_inner, opened_at};
+use crate::opened::{begins_inner, open_at};
 use std::alloc::{AllocError, Global};
 use wd_clauses::{RespellError, copy_token, copy_tokens};
 use wd_distinct_on::split_at_place;
@@ -62,7 +62,7 @@ pub fn without_inner_with(alloc: Global, tokens: &[Token]) -> Result<Expanded, R
         }
         place -= 1;
         left = fewer(left, place, &query);
-        match opened_at(alloc, place, &query)? {
+        match open_at(alloc, place, &query)? {
             Some(next) => {
                 if next.tokens.len() > MOST_TOKENS {
                     return Err(RespellError::TooLong);

@@ -65,7 +65,7 @@ fn sorted_left(
     for column in columns {
         keys.push(key(column.left))?;
     }
-    sorted_by(alloc, rows, &keys)
+    sort_numbers(alloc, rows, &keys)
 }
 
 /// The positions of the right rows, sorted by their columns.
@@ -80,7 +80,7 @@ fn sorted_right(
     for column in columns {
         keys.push(key(column.right))?;
     }
-    sorted_by(alloc, rows, &keys)
+    sort_numbers(alloc, rows, &keys)
 }
 
 fn key(column: u16) -> SortColumn
@@ -97,7 +97,7 @@ const ASCENDING: SortKey = SortKey {
     nulls_first: false,
 };
 
-fn sorted_by(alloc: Global, rows: &RowSource, keys: &[SortColumn]) -> Result<Vec<u64>, OutOfMemory>
+fn sort_numbers(alloc: Global, rows: &RowSource, keys: &[SortColumn]) -> Result<Vec<u64>, OutOfMemory>
     ensures { IfOk result (λ v. IsSortedBy keys.now rows.now v.items) }
 {
     let all = all_positions(alloc, rows.len())?;

@@ -83,7 +83,7 @@ fn fetch_with_ties(
     ensures { IfOk result (λ found. IfSome found (IsAlike tokens.now)) }
 {
     for number in 0..tokens.len() {
-        if let Some(change) = fetched_at(alloc, tokens, number, span)? {
+        if let Some(change) = fetch_with_ties_at(alloc, tokens, number, span)? {
             return Ok(Some(change));
         }
     }
@@ -91,7 +91,7 @@ fn fetch_with_ties(
 }
 
 /// FETCH FIRST with ties in place of LIMIT, which is the token of this number.
-fn fetched_at(
+fn fetch_with_ties_at(
     alloc: Global,
     tokens: &[Token],
     number: usize,

@@ -11,10 +11,10 @@ use Rattle.wd_membership.specs.Conjuncts.{conjuncts_at}
 use Rattle.wd_membership.specs.Examples.{MembershipComesOut}
 use Rattle.wd_membership.specs.Memberships.{membership_at}
 use Rattle.wd_membership.specs.Queries.{query_in}
-use Rattle.wd_membership.specs.Respelled.{respelled_at}
+use Rattle.wd_membership.specs.Respelled.{respell_at}
 
 pub membership_comes_out : MembershipComesOut
-unfolding digits clauses.closing_from clauses.reach_from nest_length nest_from operands.brackets_length operands.filter_length operands.window_length operands.over_length operands.call_tail_length operands.call_length operands.name_length operands.constant_length operands.primary_length operands.signs_from operands.factor_length operands.link_length operands.links_from operands.operand_length pieces_at level.reach_from respelled_below conjuncts_at membership_at query_in respelled_at
+unfolding digits clauses.closing_from clauses.reach_from nest_length nest_from operands.brackets_length operands.filter_length operands.window_length operands.over_length operands.call_tail_length operands.call_length operands.name_length operands.constant_length operands.primary_length operands.signs_from operands.factor_length operands.link_length operands.links_from operands.operand_length pieces_at level.reach_from respelled_below conjuncts_at membership_at query_in respell_at
 membership_comes_out = record {
   one = λ at. refl;
   exists = λ at. refl;

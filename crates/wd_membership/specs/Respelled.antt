@@ -7,7 +7,7 @@ use Rattle.wd_lex.specs.declared.token.Token.{Token}
 use Rattle.wd_clauses.specs.declared.error.RespellError.{RespellError}
 use Rattle.wd_distinct_on.specs.Kinds.{begins, is_select}
 use Rattle.wd_distinct_on.specs.Respelled.{◌>>=◌}
-use Rattle.wd_distinct_on.specs.Selects.{respelled_backwards}
+use Rattle.wd_distinct_on.specs.Selects.{respell_backwards}
 use Rattle.wd_using.specs.Kinds.{has}
 use Rattle.wd_using.specs.Pieces.{Pieces}
 use Rattle.wd_using.specs.Respelled.{most_selects}
@@ -27,8 +27,8 @@ respelled_select front select =
     if has_all select.select.kind select.items then None else conjuncts (conditions select) >>= if_any front select
 
 -- a query in which the select that begins at a place is respelled
-unfoldable pub respelled_at : ℕ → List Token → Option (List Token)
-respelled_at place tokens = select_at (drop place tokens) >>= respelled_select (take place tokens)
+unfoldable pub respell_at : ℕ → List Token → Option (List Token)
+respell_at place tokens = select_at (drop place tokens) >>= respelled_select (take place tokens)
 
 -- the most selects of a query that are looked at: none, where it has a name like those that are added
 abbrev pub selects_of : List Token → ℕ
@@ -36,4 +36,4 @@ selects_of tokens = if has is_ours tokens then 0 else most_selects
 
 -- a query without memberships
 abbrev pub respelled : List Token → Result (List Token) RespellError
-respelled tokens = respelled_backwards (begins is_select) respelled_at (selects_of tokens) tokens
+respelled tokens = respell_backwards (begins is_select) respell_at (selects_of tokens) tokens

@@ -13,7 +13,7 @@ use crate::query::select_at;
 use crate::write::write_select;
 use std::alloc::Global;
 use wd_clauses::{RespellError, Stop, split};
-use wd_distinct_on::{Selects, respelled_backwards, split_at_place, starts_with_select};
+use wd_distinct_on::{Selects, respell_backwards, split_at_place, starts_with_select};
 use wd_lex::Token;
 use wd_using::Select;
 
@@ -60,13 +60,13 @@ fn respelled_select(
 }
 
 /// The query in which the select that begins at a place is respelled.
-#[tactic(auto, unfolding(crate::specs::Respelled::respelled_at))]
-fn respelled_at(
+#[tactic(auto, unfolding(crate::specs::Respelled::respell_at))]
+fn respell_at(
     alloc: Global,
     place: usize,
     tokens: &[Token],
 ) -> Result<Option<Vec<Token>>, RespellError>
-    ensures { MayWrite (λ x. x.items) result (spec.respelled_at place tokens.now) }
+    ensures { MayWrite (λ x. x.items) result (spec.respell_at place tokens.now) }
 {
     let (front, rest) = split_at_place(place, tokens);
     match select_at(rest) {
@@ -95,19 +95,19 @@ impl Selects for Memberships {
 
     ghost starts = { λ _. begins is_select };
 
-    ghost respelled = { λ _. spec.respelled_at };
+    ghost respelled = { λ _. spec.respell_at };
 
     fn begins(&self, tokens: &[Token]) -> bool {
         starts_with_select(tokens)
     }
 
-    fn respelled_at(
+    fn respell_at(
         &self,
         alloc: Global,
         place: usize,
         tokens: &[Token],
     ) -> Result<Option<Vec<Token>>, RespellError> {
-        respelled_at(alloc, place, tokens)
+        respell_at(alloc, place, tokens)
     }
 }
 
@@ -115,5 +115,5 @@ impl Selects for Memberships {
 pub fn without_membership(alloc: Global, tokens: &[Token]) -> Result<Vec<Token>, RespellError>
     ensures { Gives (λ x. x.items) result (spec.respelled tokens.now) }
 {
-    respelled_backwards(alloc, &Memberships, selects_of(tokens), tokens)
+    respell_backwards(alloc, &Memberships, selects_of(tokens), tokens)
 }

@@ -10,10 +10,10 @@ use Rattle.wd_using.specs.Respelled as using
 use Rattle.wd_using.specs.Written.{qualified}
 use Rattle.wd_natural.specs.Examples.{NaturalComesOut}
 use Rattle.wd_natural.specs.Naturals.{joined_tables, table_at}
-use Rattle.wd_natural.specs.Respelled.{respelled_at}
+use Rattle.wd_natural.specs.Respelled.{respell_at}
 
 pub natural_comes_out : NaturalComesOut
-unfolding parts_at closing_from reach_from joined_tables joins.joined_tables joins.source_at table_at joins.table_at pieces_at level.reach_from respelled_at using.respelled_at respelled_below qualified
+unfolding parts_at closing_from reach_from joined_tables joins.joined_tables joins.source_at table_at joins.table_at pieces_at level.reach_from respell_at using.respell_at respelled_below qualified
 natural_comes_out = record {
   one = λ at. refl;
   two = λ at. refl;

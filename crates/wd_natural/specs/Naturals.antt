@@ -68,15 +68,15 @@ with_source head tokens source = record {
 }
 
 -- a table, its alias, and the tokens after it
-abbrev pub joined_at : List TableRule → Head → List Token → Option NaturalTable
-joined_at schema head tokens = source_at schema tokens >>= λ source. if_read (with_source head tokens source)
+abbrev pub join_at : List TableRule → Head → List Token → Option NaturalTable
+join_at schema head tokens = source_at schema tokens >>= λ source. if_read (with_source head tokens source)
 
 abbrev pub with_after : List Token → NaturalTable → Option (NaturalTable × List Token)
 with_after after table = Some (table, after)
 
 -- a table with the words that join it, and the tokens after it
 abbrev pub after_head : List TableRule → Head → Option (NaturalTable × List Token)
-after_head schema head = joined_at schema head (take (reach Table head.after) head.after) >>= with_after (drop (reach Table head.after) head.after)
+after_head schema head = join_at schema head (take (reach Table head.after) head.after) >>= with_after (drop (reach Table head.after) head.after)
 
 unfoldable pub table_at : List TableRule → List Token → Option (NaturalTable × List Token)
 table_at schema tokens = head_at tokens >>= after_head schema

@@ -8,7 +8,7 @@ use Rattle.wd_clauses.specs.declared.level.Stop.TheVariants.{Clause}
 use Rattle.wd_clauses.specs.Reach.{reach}
 use Rattle.wd_distinct_on.specs.Kinds.{begins, is_from}
 use Rattle.wd_distinct_on.specs.Respelled.{◌>>=◌}
-use Rattle.wd_distinct_on.specs.Selects.{respelled_backwards}
+use Rattle.wd_distinct_on.specs.Selects.{respell_backwards}
 use Rattle.wd_using.specs.Kinds.{has}
 use Rattle.wd_natural.specs.Kinds.{is_natural}
 use Rattle.wd_natural.specs.Naturals.{NaturalTable, joined_tables, most_tables}
@@ -30,8 +30,8 @@ respelled_after schema front tokens =
     if begins is_from tokens then respelled_clause schema front (take (reach Clause tokens) tokens) (drop (reach Clause tokens) tokens) else None
 
 -- a query in which the FROM clause that begins at a place is respelled
-unfoldable pub respelled_at : List TableRule → ℕ → List Token → Option (List Token)
-respelled_at schema place tokens = respelled_after schema (take place tokens) (drop place tokens)
+unfoldable pub respell_at : List TableRule → ℕ → List Token → Option (List Token)
+respell_at schema place tokens = respelled_after schema (take place tokens) (drop place tokens)
 
 -- the most FROM clauses that are looked at (this project's choice)
 abbrev pub most_clauses : ℕ
@@ -39,4 +39,4 @@ most_clauses = 128
 
 -- a query without NATURAL JOIN
 abbrev pub respelled : List TableRule → List Token → Result (List Token) RespellError
-respelled schema tokens = respelled_backwards (begins is_from) (respelled_at schema) most_clauses tokens
+respelled schema tokens = respell_backwards (begins is_from) (respell_at schema) most_clauses tokens

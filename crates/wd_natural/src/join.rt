@@ -105,13 +105,13 @@ fn fits(natural: Option<&Token>, rest: &[Token]) -> bool
 const MOST_COLUMNS: usize = 128;
 
 /// A table, its alias, and the tokens after it.
-fn joined_at<'t>(
+fn join_at<'t>(
     alloc: Global,
     schema: &'t Schema,
     head: &Head<'t>,
     tokens: &'t [Token],
 ) -> Result<Option<Joined<'t>>, AllocError>
-    ensures { IfOk result (λ found. Finds named.natural_table found (spec.joined_at (schema_of schema.now) (named.join_head head.now) tokens.now)) }
+    ensures { IfOk result (λ found. Finds named.natural_table found (spec.join_at (schema_of schema.now) (named.join_head head.now) tokens.now)) }
 {
     let Some(Source { columns, alias }) = source_at(alloc, schema, tokens)? else {
         return Ok(None);
@@ -142,7 +142,7 @@ fn table_at<'t>(
         return Ok(None);
     };
     let (part, after) = split_at(Extent::Table, head.after);
-    match joined_at(alloc, schema, &head, part)? {
+    match join_at(alloc, schema, &head, part)? {
         Some(table) => Ok(Some((table, after))),
         None => Ok(None),
     }

@@ -12,7 +12,7 @@ use crate::kind::{has_natural, starts_with_from};
 use crate::write::write_clause;
 use std::alloc::{AllocError, Global};
 use wd_clauses::{RespellError, Stop, split};
-use wd_distinct_on::{Selects, respelled_backwards, split_at_place};
+use wd_distinct_on::{Selects, respell_backwards, split_at_place};
 use wd_lex::Token;
 use wd_schema::Schema;
 
@@ -54,14 +54,14 @@ fn respelled_clause(
 }
 
 /// The query in which the FROM clause that begins at a place is respelled.
-#[tactic(auto, unfolding(crate::specs::Respelled::respelled_at))]
-fn respelled_at(
+#[tactic(auto, unfolding(crate::specs::Respelled::respell_at))]
+fn respell_at(
     alloc: Global,
     schema: &Schema,
     place: usize,
     tokens: &[Token],
 ) -> Result<Option<Vec<Token>>, RespellError>
-    ensures { MayWrite (λ x. x.items) result (spec.respelled_at (schema_of schema.now) place tokens.now) }
+    ensures { MayWrite (λ x. x.items) result (spec.respell_at (schema_of schema.now) place tokens.now) }
 {
     let (front, rest) = split_at_place(place, tokens);
     if starts_with_from(rest) {
@@ -85,19 +85,19 @@ impl<'s> Selects for Naturals<'s> {
 
     ghost starts = { λ _. begins is_from };
 
-    ghost respelled = { λ naturals. spec.respelled_at (schema_of naturals.schema.now) };
+    ghost respelled = { λ naturals. spec.respell_at (schema_of naturals.schema.now) };
 
     fn begins(&self, tokens: &[Token]) -> bool {
         starts_with_from(tokens)
     }
 
-    fn respelled_at(
+    fn respell_at(
         &self,
         alloc: Global,
         place: usize,
         tokens: &[Token],
     ) -> Result<Option<Vec<Token>>, RespellError> {
-        respelled_at(alloc, self.schema, place, tokens)
+        respell_at(alloc, self.schema, place, tokens)
     }
 }
 
@@ -110,5 +110,5 @@ pub fn without_natural(
 ) -> Result<Vec<Token>, RespellError>
     ensures { Gives (λ x. x.items) result (spec.respelled (schema_of schema.now) tokens.now) }
 {
-    respelled_backwards(alloc, &Naturals { schema }, MOST_CLAUSES, tokens)
+    respell_backwards(alloc, &Naturals { schema }, MOST_CLAUSES, tokens)
 }

@@ -10,7 +10,7 @@ use Rattle.wd_plan.specs.Plans.{PlanTree, Scan, Join, Over, Filter, Map, Group, 
 use Rattle.wd_step_facts.specs.declared.facts.Member.{Member}
 use Rattle.wd_step_facts.specs.declared.facts.Member.TheVariants as member
 use Rattle.wd_step_facts.specs.Facts.{Fact, FactList, columns_named, is_column, is_plain, is_plain_fact, moved, moved_facts}
-use Rattle.wd_step_facts.specs.Steps.{cut_fact, facts_of_group, group_key_facts}
+use Rattle.wd_step_facts.specs.Steps.{restrict_fact, facts_of_group, group_key_facts}
 use Rattle.wd_facts.specs.Given.{given}
 use Rattle.wd_facts.specs.Laws.{AreOfChildren, ArePlain}
 use Rattle.wd_facts.proofs.Asked.{input_kept, left_kept, right_kept}
@@ -36,14 +36,14 @@ get_right (x ∷ xs) ys (suc n) h = let e : n - length xs ≡ suc n - length (x 
 pub columns_are : (n : ℕ) (columns : List ℕ) → list_all (is_column n) (columns_named columns) ≡ list_all (λ c. nat_lt c n) columns
 columns_are n columns = list_all-map (is_column n) (λ c. member.Column c) columns
 
-pub cut_next : (columns : ℕ) (before : List Fact) (fact : Fact) (facts : List Fact) → (before ++ cut_fact columns fact) ++ flat_map (cut_fact columns) facts ≡ before ++ flat_map (cut_fact columns) (fact ∷ facts)
-cut_next columns before fact facts = append_assoc before (cut_fact columns fact) (flat_map (cut_fact columns) facts)
+pub cut_next : (columns : ℕ) (before : List Fact) (fact : Fact) (facts : List Fact) → (before ++ restrict_fact columns fact) ++ flat_map (restrict_fact columns) facts ≡ before ++ flat_map (restrict_fact columns) (fact ∷ facts)
+cut_next columns before fact facts = append_assoc before (restrict_fact columns fact) (flat_map (restrict_fact columns) facts)
 
 -- a fact that begins with some of so many columns is cut to these, another one is left out
-pub cut_in : (n : ℕ) (columns : List ℕ) (to : List Member) → list_all (λ c. nat_lt c n) columns ≡ true → cut_fact n (record { from = columns_named columns; to = to }) ≡ record { from = columns_named columns; to = filter (is_plain n) to } ∷ []
+pub cut_in : (n : ℕ) (columns : List ℕ) (to : List Member) → list_all (λ c. nat_lt c n) columns ≡ true → restrict_fact n (record { from = columns_named columns; to = to }) ≡ record { from = columns_named columns; to = filter (is_plain n) to } ∷ []
 cut_in n columns to e = ap (λ b. cond b (record { from = columns_named columns; to = filter (is_plain n) to } ∷ []) []) (columns_are n columns ∙ e)
 
-pub cut_out : (n : ℕ) (columns : List ℕ) (to : List Member) → list_all (λ c. nat_lt c n) columns ≡ false → cut_fact n (record { from = columns_named columns; to = to }) ≡ []
+pub cut_out : (n : ℕ) (columns : List ℕ) (to : List Member) → list_all (λ c. nat_lt c n) columns ≡ false → restrict_fact n (record { from = columns_named columns; to = to }) ≡ []
 cut_out n columns to e = ap (λ b. cond b (record { from = columns_named columns; to = filter (is_plain n) to } ∷ []) []) (columns_are n columns ∙ e)
 
 -- ---- renumbered by none
@@ -92,7 +92,7 @@ five a b c d e =
 of_none : (g : GroupRule) → facts_of_group g [] ≡ []
 of_none g = by (nat_eq (length g.sets) 1)
   where
-    by : (b : Bool) → cond b (flat_map (cut_fact g.columns) []) [] ≡ []
+    by : (b : Bool) → cond b (flat_map (restrict_fact g.columns) []) [] ≡ []
     by true = refl
     by false = refl
 
@@ -130,14 +130,14 @@ given_seen tables plan kept more group own by beside row through h g o b r t e =
 
 -- what is cut is appended, or nothing
 pub cut_after : (f : KeptFact → Fact) (before after : List KeptFact) (one kept : KeptFact) (n : ℕ) (X : List ℕ) → after ≡ before ++ one ∷ [] → f kept ≡ record { from = columns_named X; to = kept.to.items } → f one ≡ record { from = columns_named X; to = one.to.items } → one.to.items ≡ filter (is_plain n) kept.to.items → list_all (λ c. nat_lt c n) X ≡ true
-    → map f after ≡ map f before ++ cut_fact n (f kept)
+    → map f after ≡ map f before ++ restrict_fact n (f kept)
 cut_after f before after one kept n X e k o to inside =
     ap (map f) e ∙ map-append f before (one ∷ [])
     ∙ (λ i. map f before ++ ((o ∙ (λ j. record { from = columns_named X; to = to j })) i ∷ []))
-    ∙ (λ i. map f before ++ sym (ap (cut_fact n) k ∙ cut_in n X kept.to.items inside) i)
+    ∙ (λ i. map f before ++ sym (ap (restrict_fact n) k ∙ cut_in n X kept.to.items inside) i)
 
-pub none_after : (f : KeptFact → Fact) (before : List KeptFact) (kept : KeptFact) (n : ℕ) (X : List ℕ) → f kept ≡ record { from = columns_named X; to = kept.to.items } → list_all (λ c. nat_lt c n) X ≡ false → map f before ≡ map f before ++ cut_fact n (f kept)
-none_after f before kept n X k outside = sym (append-nil (map f before)) ∙ (λ i. map f before ++ sym (ap (cut_fact n) k ∙ cut_out n X kept.to.items outside) i)
+pub none_after : (f : KeptFact → Fact) (before : List KeptFact) (kept : KeptFact) (n : ℕ) (X : List ℕ) → f kept ≡ record { from = columns_named X; to = kept.to.items } → list_all (λ c. nat_lt c n) X ≡ false → map f before ≡ map f before ++ restrict_fact n (f kept)
+none_after f before kept n X k outside = sym (append-nil (map f before)) ∙ (λ i. map f before ++ sym (ap (restrict_fact n) k ∙ cut_out n X kept.to.items outside) i)
 
 -- ---- columns that can be renumbered
 
@@ -149,21 +149,21 @@ filter_all t q (x ∷ X) e = let parts = and_parts (t x) (list_all t X) e in by 
     by true own rest = λ i. own i && rest i
     by false own rest = rest
 
-cut_plain : (columns n : ℕ) (kept : List Fact) → list_all (is_plain_fact n) kept ≡ true → list_all (is_plain_fact n) (flat_map (cut_fact columns) kept) ≡ true
+cut_plain : (columns n : ℕ) (kept : List Fact) → list_all (is_plain_fact n) kept ≡ true → list_all (is_plain_fact n) (flat_map (restrict_fact columns) kept) ≡ true
 cut_plain columns n [] e = refl
 cut_plain columns n (fact ∷ kept) e =
     let parts = and_parts (is_plain_fact n fact) (list_all (is_plain_fact n) kept) e in
     by (list_all (is_column columns) fact.from) (and_parts (list_all (is_plain n) fact.from) (list_all (is_plain n) fact.to) parts.0) (cut_plain columns n kept parts.1)
   where
-    by : (b : Bool) → (list_all (is_plain n) fact.from ≡ true) × (list_all (is_plain n) fact.to ≡ true) → list_all (is_plain_fact n) (flat_map (cut_fact columns) kept) ≡ true
-        → list_all (is_plain_fact n) (cond b (record { from = fact.from; to = filter (is_plain columns) fact.to } ∷ []) [] ++ flat_map (cut_fact columns) kept) ≡ true
+    by : (b : Bool) → (list_all (is_plain n) fact.from ≡ true) × (list_all (is_plain n) fact.to ≡ true) → list_all (is_plain_fact n) (flat_map (restrict_fact columns) kept) ≡ true
+        → list_all (is_plain_fact n) (cond b (record { from = fact.from; to = filter (is_plain columns) fact.to } ∷ []) [] ++ flat_map (restrict_fact columns) kept) ≡ true
     by true own rest = λ i. (own.0 i && filter_all (is_plain n) (is_plain columns) fact.to own.1 i) && rest i
     by false own rest = rest
 
 group_plain : (g : GroupRule) (n : ℕ) (kept : List Fact) → list_all (is_plain_fact n) kept ≡ true → list_all (is_plain_fact n) (facts_of_group g kept) ≡ true
 group_plain g n kept e = by (nat_eq (length g.sets) 1)
   where
-    by : (b : Bool) → list_all (is_plain_fact n) (cond b (flat_map (cut_fact g.columns) kept) []) ≡ true
+    by : (b : Bool) → list_all (is_plain_fact n) (cond b (flat_map (restrict_fact g.columns) kept) []) ≡ true
     by true = cut_plain g.columns n kept e
     by false = refl
 

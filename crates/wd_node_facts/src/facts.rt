@@ -20,7 +20,7 @@ use wd_facts::{Facts, Given, Member, given};
 use wd_plan::{Group, Plan};
 use wd_schema::Schema;
 use wd_sets::Set;
-use wd_step_facts::cut_members;
+use wd_step_facts::restrict_members;
 use wd_value::OutOfMemory;
 
 /// A trace's columns, each once, and the members after its uses; what follows from these is reached.
@@ -100,13 +100,13 @@ pub fn are_columns(columns: u16, from: &[u16]) -> bool
 }
 
 /// A kept fact with those of its targets that are one of the first `columns` columns or the row.
-fn cut_fact(alloc: Global, columns: u16, kept: &KeptFact) -> Result<KeptFact, OutOfMemory>
+fn restrict_fact(alloc: Global, columns: u16, kept: &KeptFact) -> Result<KeptFact, OutOfMemory>
     ensures trace { IfOk result (λ k. k.trace ≡ kept.now.trace) }
     ensures to { IfOk result (λ k. k.to.items ≡ filter (facts_spec.is_plain columns) kept.now.to.items) }
 {
     Ok(KeptFact {
         trace: kept.trace,
-        to: cut_members(alloc, columns, &kept.to)?,
+        to: restrict_members(alloc, columns, &kept.to)?,
     })
 }
 
@@ -126,10 +126,10 @@ fn add_cut(
     kept: &KeptFact,
     list: &mut Vec<KeptFact>,
 ) -> Result<(), OutOfMemory>
-    ensures { IfOk result (λ _. map (spec.fact_by (map traced_of traces.now)) list.new.items ≡ map (spec.fact_by (map traced_of traces.now)) list.old.items ++ steps.cut_fact columns (spec.fact_by (map traced_of traces.now) kept.now)) }
+    ensures { IfOk result (λ _. map (spec.fact_by (map traced_of traces.now)) list.new.items ≡ map (spec.fact_by (map traced_of traces.now)) list.old.items ++ steps.restrict_fact columns (spec.fact_by (map traced_of traces.now) kept.now)) }
 {
     if are_columns(columns, columns_of(traces, kept.trace)) {
-        let cut = cut_fact(alloc, columns, kept)?;
+        let cut = restrict_fact(alloc, columns, kept)?;
         push_kept(list, cut)
     } else {
         Ok(())
@@ -138,13 +138,13 @@ fn add_cut(
 
 /// Kept facts, restricted to the first `columns` columns.
 #[tactic(auto, using(crate::proofs::Sides::cut_next))]
-fn cut_list(
+fn restrict_facts(
     alloc: Global,
     columns: u16,
     traces: &[Followed],
     kept: &[KeptFact],
 ) -> Result<Vec<KeptFact>, OutOfMemory>
-    ensures { IfOk result (λ v. map (spec.fact_by (map traced_of traces.now)) v.items ≡ flat_map (steps.cut_fact columns) (map (spec.fact_by (map traced_of traces.now)) kept.now)) }
+    ensures { IfOk result (λ v. map (spec.fact_by (map traced_of traces.now)) v.items ≡ flat_map (steps.restrict_fact columns) (map (spec.fact_by (map traced_of traces.now)) kept.now)) }
 {
     let mut list = Vec::new(alloc);
     for fact in kept {
@@ -161,7 +161,7 @@ fn group_keeps(alloc: Global, group: &Group, keeps: Keeps) -> Result<Keeps, OutO
         return Ok(Keeps::none(alloc));
     }
     let Keeps { traces, list } = keeps;
-    let list = cut_list(alloc, group.columns, &traces, &list)?;
+    let list = restrict_facts(alloc, group.columns, &traces, &list)?;
     Ok(Keeps { traces, list })
 }
 

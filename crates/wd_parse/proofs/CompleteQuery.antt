@@ -23,7 +23,7 @@ use Rattle.wd_read_expression.proofs.Fitting.{Below, Fits, WindowFits, KeysFit}
 use Rattle.wd_parse.proofs.Fitting.{ItemFits, OptionFits, GroupingFits, TableFits, JoinFits, JoinsFit, SelectFits, QueryFits}
 use Rattle.wd_read_cursor.specs.Cursor.{Fault, Unexpected, Limit, ◌>>=◌, Reads, Parser, Chance, choose, eat, expect, eat_name, many, after, list_at}
 use Rattle.wd_read_expression.specs.Reading.{order_at, window_at, enter, deeper_of}
-use Rattle.wd_parse.specs.Reading.{given_at, alias_at, star_at, item_at, filter_at, grouping_at, named_window_at, windows_at, limits_at, Inner, table_at, inner_at, join_at, from_at, select_at, selects, inside_of, if_last, whole}
+use Rattle.wd_parse.specs.Reading.{required_alias_at, alias_at, star_at, item_at, filter_at, grouping_at, named_window_at, windows_at, limits_at, Inner, table_at, inner_at, join_at, from_at, select_at, selects, inside_of, if_last, whole}
 use Rattle.wd_read_cursor.proofs.Eaten.{eat_same, expect_same, eat_name_same, name_at_same, eat_name_kind}
 use Rattle.wd_read_expression.proofs.TerminalFacts.{grips, grips_name, grip_stops, operator_grip, operator_bounds, clauses, clause_stops, clause_grips}
 use Rattle.wd_parse.proofs.Pieces.{quantifier_same, given_same, alias_same, star_same, limits_same, limits_clause}
@@ -301,7 +301,7 @@ module _ (c : ℕ) where
       let close : Kinds = m.RightBracket ▸ given_onto alias rest in
       let F : Type 0 = Below d (λ k. SelectFits c k s) in
       rw (eat_same m.LeftBracket (select_onto s close))
-      (then_exactly F F (s, close) (derived s alias, rest) (enter (length (m.LeftBracket ▸ select_onto s close)) (inside_of c d) (λ p. p (select_onto s close))) (λ s. expect m.RightBracket s.1 >>= λ r. given_at r >>= λ x. Ok (derived s.0 x.0, x.1)) (λ f. f) (inside_yields (length (m.LeftBracket ▸ select_onto s close)) d (λ k. SelectFits c k s) (s, close) (select_onto s close) (λ k. ks k close (omega arith)))
+      (then_exactly F F (s, close) (derived s alias, rest) (enter (length (m.LeftBracket ▸ select_onto s close)) (inside_of c d) (λ p. p (select_onto s close))) (λ s. expect m.RightBracket s.1 >>= λ r. required_alias_at r >>= λ x. Ok (derived s.0 x.0, x.1)) (λ f. f) (inside_yields (length (m.LeftBracket ▸ select_onto s close)) d (λ k. SelectFits c k s) (s, close) (select_onto s close) (λ k. ks k close (omega arith)))
       (rw (expect_same m.RightBracket (given_onto alias rest)) (rw (given_same alias rest) refl)))
 
   abbrev JoinReads : ℕ → JoinTree → Type 0

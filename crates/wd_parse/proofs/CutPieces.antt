@@ -23,7 +23,7 @@ use Rattle.wd_read_cursor.specs.Tokens.{Kinds, ◌▸◌, name_kind}
 use Rattle.wd_syntax.specs.Tree.{Tree, WindowTree, ItemTree, all_columns, all_of, shown, SetTree, one_column, columns, GroupTree, grouped_by, constructed, GroupingTree, Tail, TableTree, named, derived, JoinTree, comma, cross, inner, Joins, no_joins, more_joins, SelectTree, select}
 use Rattle.wd_syntax.specs.Spelling.{onto, order_onto, quantifier_onto, as_onto, given_onto, alias_onto, item_onto, more_items_onto, items_onto, filter_onto, commas_onto, members_onto, qualifier_onto, group_column_onto, set_onto, grouping_word_onto, group_item_onto, group_onto, having_onto, grouping_onto, named_window_onto, more_windows_onto, windows_onto, row_onto, row_option_onto, offset_onto, fetch_onto, number_onto, ties_onto, count_onto, limits_onto, tail_onto, table_onto, join_onto, joins_onto, select_onto}
 use Rattle.wd_read_cursor.specs.Cursor.{◌>>=◌, Reads, choose, eat, eat_word, expect_word, eat_name, name_at, number_at, some_or_unexpected, try, optional}
-use Rattle.wd_parse.specs.Reading.{given_at, bare_if, alias_at, row_at, row_if, offset_at, fetch_word_at, number_option_at, ties_at, fetch_at, limit_at, count_if, offset_if, limits_at}
+use Rattle.wd_parse.specs.Reading.{required_alias_at, bare_if, alias_at, row_at, row_if, offset_at, fetch_word_at, number_option_at, ties_at, fetch_at, limit_at, count_if, offset_if, limits_at}
 use Rattle.std.proofs.Common.{◌++◌}
 use Rattle.wd_read_expression.proofs.CutPieces.{CutBy, MayCut, some_cuts, expect_word_cuts, name_cuts, number_cuts, on_cuts, either_cuts, IsPre, pre_then, pre_tree, pre_window, pre_order}
 
@@ -33,8 +33,8 @@ try_cuts : {A B : Type 0} (K : ℕ → Type 0) (o : Option (Reads A)) (f : A × 
 try_cuts K None f b h k i = i
 try_cuts K (Some r) f b h k i = on_cuts K r f h k
 
-pub given_cuts : (K : ℕ → Type 0) (ts : Kinds) → CutBy K (given_at ts)
-unfolding given_at
+pub given_cuts : (K : ℕ → Type 0) (ts : Kinds) → CutBy K (required_alias_at ts)
+unfolding required_alias_at
 given_cuts K ts = either_cuts K (eat m.As ts) (λ r. name_at r >>= λ n. Ok (record { with_as = true; name = n.0 }, n.1)) (name_at ts >>= λ n. Ok (record { with_as = false; name = n.0 }, n.1)) (λ r. on_cuts K (name_at r) (λ n. Ok (record { with_as = true; name = n.0 }, n.1)) (name_cuts K r) (λ n. tt)) (on_cuts K (name_at ts) (λ n. Ok (record { with_as = false; name = n.0 }, n.1)) (name_cuts K ts) (λ n. tt))
 
 bare_cuts : (K : ℕ → Type 0) (o : Option (Name × Kinds)) (ts : Kinds) → CutBy K (bare_if o ts)

@@ -13,7 +13,7 @@ use Rattle.wd_syntax.specs.Levels.{IsLevelled, WindowLevelled, KeysLevelled, Ite
 use Rattle.wd_parse.proofs.Fitting.{ItemFits}
 use Rattle.wd_read_cursor.specs.Cursor.{◌>>=◌, Reads, Parser, choose, eat, expect, name_at, many, list_at}
 use Rattle.wd_read_expression.specs.Reading.{order_at, window_at, enter, levels, deeper_of, read}
-use Rattle.wd_parse.specs.Reading.{quantifier_at, given_at, alias_at, star_at, item_if, item_at, filter_at, grouping_at, named_window_at, windows_at, limits_at, Inner, table_at, inner_at, join_at, from_at, select_at, selects, inside_of, if_last, whole}
+use Rattle.wd_parse.specs.Reading.{quantifier_at, required_alias_at, alias_at, star_at, item_if, item_at, filter_at, grouping_at, named_window_at, windows_at, limits_at, Inner, table_at, inner_at, join_at, from_at, select_at, selects, inside_of, if_last, whole}
 use Rattle.std.proofs.Common.{◌++◌}
 use Rattle.std.specs.Prelude.{codes}
 use Rattle.wd_read_expression.proofs.Passing.{Passes, WindowPasses, KeyPasses}
@@ -152,13 +152,13 @@ module _ (c : ℕ) where
   unfolding table_at
   table_cut d ts cut =
       let L : ℕ → ℕ → Type 0 = λ j. TableCut j ts in
-      at_terminal (CutBy (L d)) m.LeftBracket ts (λ r. enter (length ts) (inside_of c d) (λ p. p r) >>= λ s. expect m.RightBracket s.1 >>= λ r. given_at r >>= λ alias. Ok (derived s.0 alias.0, alias.1)) (name_at ts >>= λ n. alias_at n.1 >>= λ alias. Ok (named n.0 alias.0, alias.1))
-      (λ r e. on_cuts (L d) (enter (length ts) (inside_of c d) (λ p. p r)) (λ s. expect m.RightBracket s.1 >>= λ r. given_at r >>= λ alias. Ok (derived s.0 alias.0, alias.1))
+      at_terminal (CutBy (L d)) m.LeftBracket ts (λ r. enter (length ts) (inside_of c d) (λ p. p r) >>= λ s. expect m.RightBracket s.1 >>= λ r. required_alias_at r >>= λ alias. Ok (derived s.0 alias.0, alias.1)) (name_at ts >>= λ n. alias_at n.1 >>= λ alias. Ok (named n.0 alias.0, alias.1))
+      (λ r e. on_cuts (L d) (enter (length ts) (inside_of c d) (λ p. p r)) (λ s. expect m.RightBracket s.1 >>= λ r. required_alias_at r >>= λ alias. Ok (derived s.0 alias.0, alias.1))
       (inside_cuts (length ts) L r
       (cut_here table_onto TableLevelled (TablePasses c 0) ts (λ z. z) (t.Terminal m.LeftBracket) r (derived some_select some_alias) (λ us. select_onto some_select (m.RightBracket ▸ given_onto some_alias us)) (length ts) (λ x y. refl) (tt, (tt, tt), tt, tt, tt, (tt, tt), tt, tt) e (sym (ap length e)) (λ us. refl) (λ us. refl))
       (λ k all. mapped_cuts (SelectCut k r) (L (suc k)) (selects c k r) (all r)
       (cut_step select_onto SelectLevelled (SelectPasses c k) r table_onto TableLevelled (TablePasses c (suc k)) ts (λ z. m.LeftBracket ▸ z) (λ s. derived s some_alias) (λ s us. m.RightBracket ▸ given_onto some_alias us) (λ x y. refl) e (λ s g. g) (λ s us g. refl) (λ s us rest g p. p))) d cut)
-      (λ s. on_cuts (L d) (expect m.RightBracket s.1) (λ r. given_at r >>= λ alias. Ok (derived s.0 alias.0, alias.1)) (expect_cuts (L d) m.RightBracket s.1) (λ q. on_cuts (L d) (given_at q) (λ alias. Ok (derived s.0 alias.0, alias.1)) (given_cuts (L d) q) (λ alias. tt))))
+      (λ s. on_cuts (L d) (expect m.RightBracket s.1) (λ r. required_alias_at r >>= λ alias. Ok (derived s.0 alias.0, alias.1)) (expect_cuts (L d) m.RightBracket s.1) (λ q. on_cuts (L d) (required_alias_at q) (λ alias. Ok (derived s.0 alias.0, alias.1)) (given_cuts (L d) q) (λ alias. tt))))
       (on_cuts (L d) (name_at ts) (λ n. alias_at n.1 >>= λ alias. Ok (named n.0 alias.0, alias.1)) (name_cuts (L d) ts) (λ n. on_cuts (L d) (alias_at n.1) (λ alias. Ok (named n.0 alias.0, alias.1)) (alias_cuts (L d) n.1) (λ alias. tt)))
 
   abbrev JoinCut : ℕ → Kinds → ℕ → Type 0

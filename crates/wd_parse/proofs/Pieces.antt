@@ -19,7 +19,7 @@ use Rattle.wd_syntax.specs.declared.query.Limits.TheVariants.{OffsetFirst, Count
 use Rattle.wd_read_cursor.specs.Tokens.{Kinds, ◌▸◌, name_kind}
 use Rattle.wd_syntax.specs.Spelling.{quantifier_onto, as_onto, given_onto, alias_onto, row_onto, row_option_onto, offset_onto, fetch_onto, number_onto, ties_onto, count_onto, offset_option_onto, count_option_onto, limits_onto}
 use Rattle.wd_read_cursor.specs.Cursor.{eat, eat_word, expect_word, number_at, optional}
-use Rattle.wd_parse.specs.Reading.{quantifier_at, given_at, alias_at, star_at, row_at, offset_at, fetch_word_at, number_option_at, ties_at, fetch_at, limit_at, count_if, offset_if, limits_at}
+use Rattle.wd_parse.specs.Reading.{quantifier_at, required_alias_at, alias_at, star_at, row_at, offset_at, fetch_word_at, number_option_at, ties_at, fetch_at, limit_at, count_if, offset_if, limits_at}
 use Rattle.wd_read_cursor.proofs.Eaten.{eat_same, eat_name_same, name_at_same, eat_name_kind}
 use Rattle.wd_read_expression.proofs.TerminalFacts.{clauses, clause_stops, clause_no_name, clause_no_word}
 
@@ -35,12 +35,12 @@ quantifier_same None ts a d = rw (a, d) refl
 quantifier_same (Some q.All) ts a d = rw (eat_same m.All ts) refl
 quantifier_same (Some q.Distinct) ts a d = rw (let e : eat m.All (m.Distinct ▸ ts) ≡ None = quantifier_same_differs ts in e, eat_same m.Distinct ts) refl
 
-given_by : (b : Bool) (n : Name) (ts : Kinds) → given_at (as_onto b (name_kind n ∷ ts)) ≡ Ok (record { with_as = b; name = n }, ts)
-unfolding given_at
+given_by : (b : Bool) (n : Name) (ts : Kinds) → required_alias_at (as_onto b (name_kind n ∷ ts)) ≡ Ok (record { with_as = b; name = n }, ts)
+unfolding required_alias_at
 given_by true n ts = rw (eat_same m.As (name_kind n ∷ ts), name_at_same n ts) refl
 given_by false n ts = rw (eat_name_kind m.As n ts, name_at_same n ts) refl
 
-pub given_same : (alias : Alias) (ts : Kinds) → given_at (given_onto alias ts) ≡ Ok (alias, ts)
+pub given_same : (alias : Alias) (ts : Kinds) → required_alias_at (given_onto alias ts) ≡ Ok (alias, ts)
 given_same alias ts = given_by alias.with_as alias.name ts
 
 alias_by : (b : Bool) (n : Name) (ts : Kinds) → alias_at (as_onto b (name_kind n ∷ ts)) ≡ Ok (Some (record { with_as = b; name = n }), ts)

@@ -18,7 +18,7 @@ use Rattle.wd_syntax.specs.declared.query.Limits.TheVariants.{OffsetFirst, Count
 use Rattle.wd_read_cursor.specs.Tokens.{Kinds, ◌▸◌, name_kind}
 use Rattle.wd_syntax.specs.Spelling.{quantifier_onto, given_onto, alias_onto, row_onto, row_option_onto, offset_onto, fetch_onto, number_onto, ties_onto, count_onto, offset_option_onto, count_option_onto, limits_onto}
 use Rattle.wd_read_cursor.specs.Cursor.{◌>>=◌, Reads, choose, eat, expect_word, eat_name, name_at, number_at, some_or_unexpected, try, optional}
-use Rattle.wd_parse.specs.Reading.{quantifier_at, given_at, bare_if, alias_at, star_if, star_at, row_at, row_if, offset_at, fetch_word_at, number_if, number_option_at, ties_at, fetch_at, limit_at, count_if, offset_if, limits_at}
+use Rattle.wd_parse.specs.Reading.{quantifier_at, required_alias_at, bare_if, alias_at, star_if, star_at, row_at, row_if, offset_at, fetch_word_at, number_if, number_option_at, ties_at, fetch_at, limit_at, count_if, offset_if, limits_at}
 use Rattle.wd_read_expression.proofs.SoundPieces.{Kept, Holds, MayHold, then_holds, at_terminal, at_word, some_holds, past_word, eat_name_is, past_name, number_is, Spelled}
 
 -- ---- selects
@@ -30,8 +30,8 @@ quantifier_is ts =
     at_terminal P m.All ts (λ r. (Some q.All, r)) (choose (eat m.Distinct ts) (λ r. (Some q.Distinct, r)) (None, ts)) (λ r e. e)
     (at_terminal P m.Distinct ts (λ r. (Some q.Distinct, r)) (None, ts) (λ r e. e) refl)
 
-pub given_is : (ts : Kinds) → Holds (Spelled given_onto ts) (given_at ts)
-unfolding given_at
+pub given_is : (ts : Kinds) → Holds (Spelled given_onto ts) (required_alias_at ts)
+unfolding required_alias_at
 given_is ts =
     let Q : Alias × Kinds → Type 0 = Spelled given_onto ts in
     at_terminal (Holds Q) m.As ts (λ r. name_at r >>= λ n. Ok (record { with_as = true; name = n.0 }, n.1)) (name_at ts >>= λ n. Ok (record { with_as = false; name = n.0 }, n.1))

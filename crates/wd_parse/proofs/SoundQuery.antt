@@ -12,7 +12,7 @@ use Rattle.wd_read_expression.proofs.Fitting.{Below, WindowFits, KeysFit}
 use Rattle.wd_parse.proofs.Fitting.{ItemFits, OptionFits, TableFits, JoinFits, JoinsFit, SelectFits, QueryFits}
 use Rattle.wd_read_cursor.specs.Cursor.{◌>>=◌, Reads, Parser, choose, eat, expect, name_at, many, list_at}
 use Rattle.wd_read_expression.specs.Reading.{order_at, window_at, enter, levels, deeper_of, read}
-use Rattle.wd_parse.specs.Reading.{quantifier_at, given_at, alias_at, star_at, item_if, item_at, filter_at, grouping_at, named_window_at, windows_at, limits_at, Inner, table_at, inner_at, join_at, from_at, select_at, selects, inside_of, if_last, whole}
+use Rattle.wd_parse.specs.Reading.{quantifier_at, required_alias_at, alias_at, star_at, item_if, item_at, filter_at, grouping_at, named_window_at, windows_at, limits_at, Inner, table_at, inner_at, join_at, from_at, select_at, selects, inside_of, if_last, whole}
 use Rattle.wd_read_expression.proofs.SoundPieces.{Kept, Holds, MayHold, then_holds, at_terminal, past_terminal, past_name, IsPart, Spelled, all_onto, led_by, IsListed, list_holds, many_hold, looser_holds}
 use Rattle.wd_parse.proofs.SoundPieces.{quantifier_is, given_is, alias_is, star_is, limits_is}
 use Rattle.wd_parse.proofs.SoundGroups.{GoodGrouping, grouping_holds}
@@ -121,12 +121,12 @@ module _ (c : ℕ) where
   table_holds d ts lower =
       let Q : TableTree × Kinds → Type 0 = IsPart table_onto (GoodTable d) ts in
       let Below-select : ℕ → SelectTree → Type 0 = λ j s. SelectLevelled s × Below j (λ k. SelectFits c k s) in
-      at_terminal (Holds Q) m.LeftBracket ts (λ r. enter (length ts) (inside_of c d) (λ p. p r) >>= λ s. expect m.RightBracket s.1 >>= λ r. given_at r >>= λ alias. Ok (derived s.0 alias.0, alias.1)) (name_at ts >>= λ n. alias_at n.1 >>= λ alias. Ok (named n.0 alias.0, alias.1))
-      (λ r e. then_holds (IsPart select_onto (Below-select d) r) Q (enter (length ts) (inside_of c d) (λ p. p r)) (λ s. expect m.RightBracket s.1 >>= λ r. given_at r >>= λ alias. Ok (derived s.0 alias.0, alias.1))
+      at_terminal (Holds Q) m.LeftBracket ts (λ r. enter (length ts) (inside_of c d) (λ p. p r) >>= λ s. expect m.RightBracket s.1 >>= λ r. required_alias_at r >>= λ alias. Ok (derived s.0 alias.0, alias.1)) (name_at ts >>= λ n. alias_at n.1 >>= λ alias. Ok (named n.0 alias.0, alias.1))
+      (λ r e. then_holds (IsPart select_onto (Below-select d) r) Q (enter (length ts) (inside_of c d) (λ p. p r)) (λ s. expect m.RightBracket s.1 >>= λ r. required_alias_at r >>= λ alias. Ok (derived s.0 alias.0, alias.1))
       (inside_holds (length ts) (λ j. IsPart select_onto (Below-select j) r) r (λ k all.
       looser_holds (IsPart select_onto (GoodSelect k) r) (IsPart select_onto (Below-select (suc k)) r) (selects c k r) (all r) (λ x i. record { parts = i.parts; good = (i.good.0, i.good.1) })) d lower)
-      (λ s i. past_terminal Q m.RightBracket s.1 (λ r. given_at r >>= λ alias. Ok (derived s.0 alias.0, alias.1)) (λ q f.
-      then_holds (Spelled given_onto q) Q (given_at q) (λ alias. Ok (derived s.0 alias.0, alias.1)) (given_is q) (λ alias g.
+      (λ s i. past_terminal Q m.RightBracket s.1 (λ r. required_alias_at r >>= λ alias. Ok (derived s.0 alias.0, alias.1)) (λ q f.
+      then_holds (Spelled given_onto q) Q (required_alias_at q) (λ alias. Ok (derived s.0 alias.0, alias.1)) (given_is q) (λ alias g.
       record { parts = e ∙ ap (λ (z : Kinds). m.LeftBracket ▸ z) (i.parts ∙ ap (select_onto s.0) (f ∙ ap (λ (z : Kinds). m.RightBracket ▸ z) g)); good = i.good }))))
       (past_name Q ts (λ n. alias_at n.1 >>= λ alias. Ok (named n.0 alias.0, alias.1)) (λ n e.
       then_holds (Spelled alias_onto n.1) Q (alias_at n.1) (λ alias. Ok (named n.0 alias.0, alias.1)) (alias_is n.1) (λ alias f.

@@ -30,8 +30,8 @@ unfoldable pub quantifier_at : Kinds → Option Quantifier × Kinds
 quantifier_at ts = choose (eat m.All ts) (λ r. (Some q.All, r)) (choose (eat m.Distinct ts) (λ r. (Some q.Distinct, r)) (None, ts))
 
 -- [AS] name
-unfoldable pub given_at : Parser Alias
-given_at ts =
+unfoldable pub required_alias_at : Parser Alias
+required_alias_at ts =
     choose (eat m.As ts) (λ r. name_at r >>= λ n. Ok (record { with_as = true; name = n.0 }, n.1))
     (name_at ts >>= λ n. Ok (record { with_as = false; name = n.0 }, n.1))
 
@@ -181,7 +181,7 @@ Inner = Option (Parser SelectTree)
 
 unfoldable pub table_at : Inner → Parser TableTree
 table_at deeper ts =
-    choose (eat m.LeftBracket ts) (λ r. enter (length ts) deeper (λ p. p r) >>= λ s. expect m.RightBracket s.1 >>= λ r. given_at r >>= λ alias. Ok (derived s.0 alias.0, alias.1))
+    choose (eat m.LeftBracket ts) (λ r. enter (length ts) deeper (λ p. p r) >>= λ s. expect m.RightBracket s.1 >>= λ r. required_alias_at r >>= λ alias. Ok (derived s.0 alias.0, alias.1))
     (name_at ts >>= λ n. alias_at n.1 >>= λ alias. Ok (named n.0 alias.0, alias.1))
 
 -- after JOIN

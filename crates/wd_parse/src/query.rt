@@ -7,7 +7,7 @@ ghost use Rattle.wd_syntax.specs.Tokens.{whole_height};
 ghost use Rattle.wd_syntax.specs.Tree.{derived, query};
 ghost use Rattle.wd_syntax.specs.View.{view_item, view_named_window, view_option, view_table, view_joined, view_select, view_query};
 ghost use Rattle.wd_read_expression.specs.Reading.{read, deeper_of};
-ghost use Rattle.wd_parse.specs.Reading.{inside_of, selects, quantifier_at, given_at, alias_at, star_at, filter_at, windows_at, table_at, inner_at, join_at, from_at, if_last, whole};
+ghost use Rattle.wd_parse.specs.Reading.{inside_of, selects, quantifier_at, required_alias_at, alias_at, star_at, filter_at, windows_at, table_at, inner_at, join_at, from_at, if_last, whole};
 ghost use Rattle.wd_read_cursor.specs.Cursor.{list_at, many};
 ghost use Rattle.wd_read_cursor.specs.Given.{Gives, MayFind, MayGive};
 ghost use Rattle.wd_parse.specs.Given.{view_from};
@@ -40,9 +40,9 @@ fn quantifier_at(tokens: &[Token]) -> (Option<Quantifier>, &[Token])
 }
 
 /// `[AS] name`
-#[tactic(auto, unfolding(crate::specs::Reading::given_at))]
-fn given_at(alloc: Global, tokens: &[Token]) -> Result<(Alias, &[Token]), Refusal>
-    ensures { Gives (λ x. (x.0, kinds_of x.1.now)) result (given_at (kinds_of tokens.now)) }
+#[tactic(auto, unfolding(crate::specs::Reading::required_alias_at))]
+fn required_alias_at(alloc: Global, tokens: &[Token]) -> Result<(Alias, &[Token]), Refusal>
+    ensures { Gives (λ x. (x.0, kinds_of x.1.now)) result (required_alias_at (kinds_of tokens.now)) }
 {
     match eat(tokens, Terminal::As) {
         Some(rest) => {
@@ -232,7 +232,7 @@ fn table(alloc: Global, depth: u8, tokens: &[Token]) -> Result<(Table, &[Token])
             let inside = deeper(depth, tokens.len())?;
             let (select, rest) = select(alloc, inside, rest)?;
             let rest = expect(rest, Terminal::RightBracket)?;
-            let (alias, rest) = given_at(alloc, rest)?;
+            let (alias, rest) = required_alias_at(alloc, rest)?;
             Ok((derived_table(select, alias), rest))
         }
         None => {

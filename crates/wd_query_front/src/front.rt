@@ -47,7 +47,7 @@ pub fn respelled_text(
     ensures left { IfOk result (λ o. IfNone o ((tables : List TableRule) → Declares schema.now tables → AreLeft declared.now schema.now text.now)) }
 {
     match read_schema(alloc, schema) {
-        Ok(tables) => respelled_over(alloc, declared, schema, &tables, text),
+        Ok(tables) => respell_over(alloc, declared, schema, &tables, text),
         Err(error) => match error.number() {
             Some(_) => Ok(None),
             None => Err(OutOfMemory),
@@ -56,7 +56,7 @@ pub fn respelled_text(
 }
 
 /// The text of a file over the schema that was read of a text.
-fn respelled_over(
+fn respell_over(
     alloc: Global,
     declared: &[Statement],
     schema: &[u8],

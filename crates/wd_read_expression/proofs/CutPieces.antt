@@ -24,7 +24,7 @@ use Rattle.wd_syntax.specs.Tokens.{operator_terminal, sign_terminal}
 use Rattle.wd_syntax.specs.Tree.{Tree, Constant, Column, Qualified, CallAll, Call, Case, Bracket, Signed, Binary, IsNull, Negated, Trees, no_trees, more_trees, Arms, no_arms, more_arms, Otherwise, no_else, or_else, OverTree, no_over, over_name, over_window, WindowTree, window, Keys, no_keys, more_keys, Key}
 use Rattle.wd_syntax.specs.Spelling.{mode_onto, bound_onto, extent_onto, exclusion_onto, frame_onto, direction_onto, nulls_onto, not_onto, base_onto, onto, list_onto, more_onto, arms_onto, else_onto, over_onto, window_onto, partition_onto, order_onto, more_keys_onto}
 use Rattle.wd_read_cursor.specs.Cursor.{Fault, Unexpected, Limit, ◌>>=◌, choose, eat, expect, eat_word, expect_word, eat_name, name_at, number_at, some_or_unexpected}
-use Rattle.wd_read_expression.specs.Reading.{mode_at, side_at, unbounded, away, bound_at, extent_at, excluded_at, exclusion_at, frame_if, frame_at, nulls_at, null_at}
+use Rattle.wd_read_expression.specs.Reading.{mode_at, side_at, unbounded, away, bound_at, extent_at, exclusion_words_at, exclusion_at, frame_if, frame_at, nulls_at, null_at}
 use Rattle.std.proofs.Common.{◌++◌}
 use Rattle.wd_read_expression.proofs.SoundPieces.{Holds}
 use Rattle.wd_read_expression.proofs.Sound.{key_onto, arm_onto}
@@ -101,8 +101,8 @@ extent_cuts K ts =
     (λ r. on_cuts K (bound_at r) (λ a. expect m.And a.1 >>= λ r. bound_at r >>= λ b. Ok (Between a.0 b.0, b.1)) (bound_cuts K r) (λ a. on_cuts K (expect m.And a.1) (λ r. bound_at r >>= λ b. Ok (Between a.0 b.0, b.1)) (expect_cuts K m.And a.1) (λ r. on_cuts K (bound_at r) (λ b. Ok (Between a.0 b.0, b.1)) (bound_cuts K r) (λ b. tt))))
     (on_cuts K (bound_at ts) (λ a. Ok (Start a.0, a.1)) (bound_cuts K ts) (λ a. tt))
 
-excluded_cuts : (K : ℕ → Type 0) (ts : Kinds) → CutBy K (excluded_at ts)
-unfolding excluded_at
+excluded_cuts : (K : ℕ → Type 0) (ts : Kinds) → CutBy K (exclusion_words_at ts)
+unfolding exclusion_words_at
 excluded_cuts K ts =
     either_cuts K (eat_word k.Current ts) (λ r. expect_word k.Row r >>= λ r. Ok (x.CurrentRow, r)) (choose (eat m.Group ts) (λ r. Ok (x.Group, r)) (choose (eat_word k.Ties ts) (λ r. Ok (x.Ties, r)) (expect_word k.No ts >>= λ r. expect_word k.Others r >>= λ r. Ok (x.NoOthers, r))))
     (λ r. on_cuts K (expect_word k.Row r) (λ r. Ok (x.CurrentRow, r)) (expect_word_cuts K k.Row r) (λ r. tt))
@@ -112,7 +112,7 @@ excluded_cuts K ts =
 
 exclusion_cuts : (K : ℕ → Type 0) (ts : Kinds) → CutBy K (exclusion_at ts)
 unfolding exclusion_at
-exclusion_cuts K ts = either_cuts K (eat_word k.Exclude ts) (λ r. excluded_at r >>= λ e. Ok (Some e.0, e.1)) (Ok (None, ts)) (λ r. on_cuts K (excluded_at r) (λ e. Ok (Some e.0, e.1)) (excluded_cuts K r) (λ e. tt)) tt
+exclusion_cuts K ts = either_cuts K (eat_word k.Exclude ts) (λ r. exclusion_words_at r >>= λ e. Ok (Some e.0, e.1)) (Ok (None, ts)) (λ r. on_cuts K (exclusion_words_at r) (λ e. Ok (Some e.0, e.1)) (excluded_cuts K r) (λ e. tt)) tt
 
 frame_if_cuts : (K : ℕ → Type 0) (o : Option (FrameMode × Kinds)) (ts : Kinds) → CutBy K (frame_if o ts)
 frame_if_cuts K None ts = tt

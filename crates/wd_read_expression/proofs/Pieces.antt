@@ -21,7 +21,7 @@ use Rattle.wd_syntax.specs.declared.expression.NullsPlace.TheVariants as p
 use Rattle.wd_read_cursor.specs.Tokens.{Kinds, ◌▸◌}
 use Rattle.wd_syntax.specs.Spelling.{mode_onto, bound_onto, extent_onto, excluded_onto, exclusion_onto, frame_onto, direction_onto, nulls_onto, base_onto}
 use Rattle.wd_read_cursor.specs.Cursor.{eat, eat_word, expect_word, number_at}
-use Rattle.wd_read_expression.specs.Reading.{mode_if, mode_at, side_at, bound_at, extent_at, excluded_at, exclusion_at, frame_at, direction_at, nulls_at, base_at}
+use Rattle.wd_read_expression.specs.Reading.{mode_if, mode_at, side_at, bound_at, extent_at, exclusion_words_at, exclusion_at, frame_at, direction_at, nulls_at, base_at}
 use Rattle.wd_read_cursor.proofs.Eaten.{eat_same, expect_same, eat_word_same, eat_name_same}
 use Rattle.wd_read_expression.proofs.TerminalFacts.{clause, clauses, clause_stops, clause_no_name, clause_no_word}
 
@@ -69,8 +69,8 @@ unfolding extent_at
 extent_same (Start a) ts = rw (bound_begins a ts, bound_same a ts) refl
 extent_same (Between a b) ts = rw (eat_word_same k.Between (bound_onto a (m.And ▸ bound_onto b ts)), bound_same a (m.And ▸ bound_onto b ts), expect_same m.And (bound_onto b ts), bound_same b ts) refl
 
-excluded_same : (exclusion : Exclusion) (ts : Kinds) → excluded_at (excluded_onto exclusion ts) ≡ Ok (exclusion, ts)
-unfolding excluded_at eat eat_word expect_word
+excluded_same : (exclusion : Exclusion) (ts : Kinds) → exclusion_words_at (excluded_onto exclusion ts) ≡ Ok (exclusion, ts)
+unfolding exclusion_words_at eat eat_word expect_word
 excluded_same x.CurrentRow ts = refl
 excluded_same x.Group ts = refl
 excluded_same x.Ties ts = refl

@@ -23,7 +23,7 @@ use Rattle.wd_read_cursor.specs.Tokens.{Kinds, ◌▸◌, ◌▹◌, letters, na
 use Rattle.wd_syntax.specs.Tree.{Each}
 use Rattle.wd_syntax.specs.Spelling.{mode_onto, bound_onto, extent_onto, excluded_onto, exclusion_onto, frame_onto, direction_onto, nulls_onto, base_onto}
 use Rattle.wd_read_cursor.specs.Cursor.{Fault, ◌>>=◌, Reads, Parser, Chance, choose, eat, expect, eat_word, expect_word, with_rest, eat_name, name_at, number_at, some_or_unexpected, if_begun, many, after, list_at}
-use Rattle.wd_read_expression.specs.Reading.{mode_if, mode_at, side_at, unbounded, away, bound_at, extent_at, excluded_at, exclusion_at, frame_if, frame_at, direction_at, nulls_at, base_if, base_at}
+use Rattle.wd_read_expression.specs.Reading.{mode_if, mode_at, side_at, unbounded, away, bound_at, extent_at, exclusion_words_at, exclusion_at, frame_if, frame_at, direction_at, nulls_at, base_if, base_at}
 use Rattle.std.proofs.lemmas.Bool.{eqb-true}
 use Rattle.std.proofs.lemmas.Slice.Eq.{bytes_eq-Decides}
 use Rattle.std.specs.Str.{bytes_eq}
@@ -231,8 +231,8 @@ extent_is ts =
     e ∙ ap (λ (z : Kinds). k.Between ▹ z) (f ∙ ap (bound_onto a.0) (g ∙ ap (λ (z : Kinds). m.And ▸ z) h))))))
     (then_holds (Spelled bound_onto ts) Q (bound_at ts) (λ a. Ok (Start a.0, a.1)) (bound_is ts) (λ a f. f))
 
-excluded_is : (ts : Kinds) → Holds (Spelled excluded_onto ts) (excluded_at ts)
-unfolding excluded_at
+excluded_is : (ts : Kinds) → Holds (Spelled excluded_onto ts) (exclusion_words_at ts)
+unfolding exclusion_words_at
 excluded_is ts =
     let Q : Exclusion × Kinds → Type 0 = Spelled excluded_onto ts in
     at_word (Holds Q) k.Current ts (λ r. expect_word k.Row r >>= λ r. Ok (x.CurrentRow, r)) (choose (eat m.Group ts) (λ r. Ok (x.Group, r)) (choose (eat_word k.Ties ts) (λ r. Ok (x.Ties, r)) (expect_word k.No ts >>= λ r. expect_word k.Others r >>= λ r. Ok (x.NoOthers, r))))
@@ -246,8 +246,8 @@ exclusion_is : (ts : Kinds) → Holds (Spelled exclusion_onto ts) (exclusion_at 
 unfolding exclusion_at
 exclusion_is ts =
     let Q : Option Exclusion × Kinds → Type 0 = Spelled exclusion_onto ts in
-    at_word (Holds Q) k.Exclude ts (λ r. excluded_at r >>= λ e. Ok (Some e.0, e.1)) (Ok (None, ts))
-    (λ r e. then_holds (Spelled excluded_onto r) Q (excluded_at r) (λ e. Ok (Some e.0, e.1)) (excluded_is r) (λ y f. e ∙ ap (λ (z : Kinds). k.Exclude ▹ z) f))
+    at_word (Holds Q) k.Exclude ts (λ r. exclusion_words_at r >>= λ e. Ok (Some e.0, e.1)) (Ok (None, ts))
+    (λ r e. then_holds (Spelled excluded_onto r) Q (exclusion_words_at r) (λ e. Ok (Some e.0, e.1)) (excluded_is r) (λ y f. e ∙ ap (λ (z : Kinds). k.Exclude ▹ z) f))
     refl
 
 frame_if_is : (ts : Kinds) (o : Option (FrameMode × Kinds)) → Kept (λ y. ts ≡ mode_onto y.0 y.1) o → Holds (Spelled frame_onto ts) (frame_if o ts)

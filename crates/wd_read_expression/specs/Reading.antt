@@ -101,15 +101,15 @@ extent_at ts =
     choose (eat_word k.Between ts) (λ r. bound_at r >>= λ a. expect m.And a.1 >>= λ r. bound_at r >>= λ b. Ok (Between a.0 b.0, b.1))
     (bound_at ts >>= λ a. Ok (Start a.0, a.1))
 
-unfoldable pub excluded_at : Parser Exclusion
-excluded_at ts =
+unfoldable pub exclusion_words_at : Parser Exclusion
+exclusion_words_at ts =
     choose (eat_word k.Current ts) (λ r. expect_word k.Row r >>= λ r. Ok (x.CurrentRow, r))
     (choose (eat m.Group ts) (λ r. Ok (x.Group, r))
     (choose (eat_word k.Ties ts) (λ r. Ok (x.Ties, r))
     (expect_word k.No ts >>= λ r. expect_word k.Others r >>= λ r. Ok (x.NoOthers, r))))
 
 unfoldable pub exclusion_at : Parser (Option Exclusion)
-exclusion_at ts = choose (eat_word k.Exclude ts) (λ r. excluded_at r >>= λ e. Ok (Some e.0, e.1)) (Ok (None, ts))
+exclusion_at ts = choose (eat_word k.Exclude ts) (λ r. exclusion_words_at r >>= λ e. Ok (Some e.0, e.1)) (Ok (None, ts))
 
 abbrev pub frame_if : Option (FrameMode × Kinds) → Kinds → Reads (Option Frame)
 frame_if None ts = Ok (None, ts)

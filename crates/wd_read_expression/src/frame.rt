@@ -1,7 +1,7 @@
 //! Frames, directions and places of NULLs.
 
 ghost use Rattle.wd_lex.specs.Lexed.{kinds_of};
-ghost use Rattle.wd_read_expression.specs.Reading.{mode_if, mode_at, side_at, bound_at, extent_at, excluded_at, exclusion_at, frame_at, direction_at, nulls_at};
+ghost use Rattle.wd_read_expression.specs.Reading.{mode_if, mode_at, side_at, bound_at, extent_at, exclusion_words_at, exclusion_at, frame_at, direction_at, nulls_at};
 ghost use Rattle.wd_read_cursor.specs.Given.{Gives, Finds};
 ghost use Rattle.std.specs.Prelude.{◌≡◌};
 
@@ -94,9 +94,9 @@ fn extent_at(tokens: &[Token]) -> Result<(Extent, &[Token]), Refusal>
 }
 
 /// What is excluded, after `EXCLUDE`.
-#[tactic(auto, unfolding(crate::specs::Reading::excluded_at))]
-fn excluded_at(tokens: &[Token]) -> Result<(Exclusion, &[Token]), Refusal>
-    ensures { Gives (λ x. (x.0, kinds_of x.1.now)) result (excluded_at (kinds_of tokens.now)) }
+#[tactic(auto, unfolding(crate::specs::Reading::exclusion_words_at))]
+fn exclusion_words_at(tokens: &[Token]) -> Result<(Exclusion, &[Token]), Refusal>
+    ensures { Gives (λ x. (x.0, kinds_of x.1.now)) result (exclusion_words_at (kinds_of tokens.now)) }
 {
     if let Some(rest) = eat_word(tokens, KeyWord::Current) {
         let rest = expect_word(rest, KeyWord::Row)?;
@@ -119,7 +119,7 @@ fn exclusion_at(tokens: &[Token]) -> Result<(Option<Exclusion>, &[Token]), Refus
 {
     match eat_word(tokens, KeyWord::Exclude) {
         Some(rest) => {
-            let (exclusion, rest) = excluded_at(rest)?;
+            let (exclusion, rest) = exclusion_words_at(rest)?;
             Ok((Some(exclusion), rest))
         }
         None => Ok((None, tokens)),

@@ -32,13 +32,13 @@ pub(crate) fn refute_plan(
     ensures refuted { OnOk result (SpellsTrue witness.now (schema_of schema.now) (plan_of plan.now)) }
     ensures refused { IfErr result (λ r. RefusesText r witness.now (schema_of schema.now) (plan_of plan.now)) }
 {
-    let seeded = seeded_by(witness);
+    let seeded = seed_from(witness);
     let witness = read_witness(alloc, schema, witness)?;
     check(alloc, schema, plan, &witness, seeded)
 }
 
 /// A seed for the hashes of the values that the plan makes of a witness's values, computed from the witness's text.
-fn seeded_by(witness: &[u8]) -> Seeded {
+fn seed_from(witness: &[u8]) -> Seeded {
     let mut all = DefaultHasher::new();
     all.write(witness);
     Seeded::by(&all)
@@ -77,7 +77,7 @@ fn differ(
     ensures differ { OnOk result (Differ (plan_of plan.now) (instance_of instance.now.items) (positions_of witness.now.first.orderings.items) (positions_of witness.now.second.orderings.items)) }
     ensures refused { IfErr result (λ r. RefusesChoices r (plan_of plan.now) (instance_of instance.now.items) (positions_of witness.now.first.orderings.items) (positions_of witness.now.second.orderings.items)) }
 {
-    let first = kept_under(alloc, schema, plan, instance, &witness.first, seeded)?;
+    let first = keep_under(alloc, schema, plan, instance, &witness.first, seeded)?;
     let second = answer_under(alloc, schema, plan, instance, &witness.second)?;
     if first.agrees(alloc, second)? {
         return Err(Refusal::OneAnswer);
@@ -86,7 +86,7 @@ fn differ(
 }
 
 /// What is kept of a plan's outcome over an instance under a choice.
-fn kept_under(
+fn keep_under(
     alloc: Global,
     schema: &Schema,
     plan: &Plan,

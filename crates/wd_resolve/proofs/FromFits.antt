@@ -24,7 +24,7 @@ use Rattle.wd_resolve_scope.proofs.TypedPlain.{condition_is}
 use Rattle.wd_resolve_list.specs.declared.output.OutputColumn.{OutputColumn}
 use Rattle.wd_resolve_select.specs.Steps.{Lowered}
 use Rattle.wd_resolve.specs.Selected.{FromSoFar, JoinedTables, admitted, called, derived_column, derived_table, first_admitted, is_too_large, joined, next_admitted, scan, scan_at, scope_so_far, table_column, table_number, together}
-use Rattle.wd_resolve.specs.Lowering.{after_comma, after_from, crossed, join_meant, joined_on, joined_to, joins_meant, lowered, lowering, table_meant}
+use Rattle.wd_resolve.specs.Lowering.{after_comma, after_from, crossed, join_meant, join_on, joined_to, joins_meant, lowered, lowering, table_meant}
 use Rattle.wd_resolve.specs.Answers.{Answer, is_ordered, name_in}
 use Rattle.wd_resolve.specs.Laws.{PlansFit}
 use Rattle.wd_resolve_select.proofs.PlanKinds.{HasKinds, join_is, output_kinds, over_plan, scope_kinds}
@@ -170,7 +170,7 @@ on_is tables left right on e h is =
     let typed = over_plan tables (Join None left.plan right.plan) (beside left.scope right.scope) e Truth h (condition_is place.On (beside left.scope right.scope) on e is) in
     and_both _ _ typed.is (rw typed.has refl)
 
-inner_is : (tables : List TableRule) (from : FromSoFar) (on : Tree) (part : JoinedTables) (next : FromSoFar) → IsFrom tables from → MayBePart tables part → joined_on from on part ≡ Ok next → IsFrom tables next
+inner_is : (tables : List TableRule) (from : FromSoFar) (on : Tree) (part : JoinedTables) (next : FromSoFar) → IsFrom tables from → MayBePart tables part → join_on from on part ≡ Ok next → IsFrom tables next
 inner_is tables from on part next h is e =
     let p = bound (next_admitted from part) (λ (q : JoinedTables). condition place.On (joined None from.current q).scope on >>= λ x. Ok (joined_to from (Some x) q)) next e in
     let a = admitted_is (scope_so_far from) part p.0 p.1 in
@@ -211,7 +211,7 @@ mutual
       let part = bound (table_meant tables table) (λ p. crossed from p) next e in
       cross_is tables from part.0 next h (table_is tables table part.0 part.1) part.2
   join_one tables (inner with_inner table on) from next h e =
-      let part = bound (table_meant tables table) (λ p. joined_on from on p) next e in
+      let part = bound (table_meant tables table) (λ p. join_on from on p) next e in
       inner_is tables from on part.0 next h (table_is tables table part.0 part.1) part.2
 
 lowering_is : (tables : List TableRule) (tree : QueryTree) (l : Lowered) → lowering tables tree ≡ Ok l → IsLowered tables l

@@ -73,8 +73,8 @@ crossed from part = do
   Ok (joined_to from None p)
 
 -- ON sees the tables since the last comma
-abbrev pub joined_on : FromSoFar → Tree → JoinedTables → Meant FromSoFar
-joined_on from on part = do
+abbrev pub join_on : FromSoFar → Tree → JoinedTables → Meant FromSoFar
+join_on from on part = do
   p ← next_admitted from part
   e ← condition place.On (joined None from.current p).scope on
   Ok (joined_to from (Some e) p)
@@ -104,7 +104,7 @@ abbrev mutual
   pub join_meant : List TableRule → JoinTree → FromSoFar → Meant FromSoFar
   join_meant tables (comma table) from = table_meant tables table >>= λ part. after_comma from part
   join_meant tables (cross table) from = table_meant tables table >>= λ part. crossed from part
-  join_meant tables (inner with_inner table on) from = table_meant tables table >>= λ part. joined_on from on part
+  join_meant tables (inner with_inner table on) from = table_meant tables table >>= λ part. join_on from on part
 
 -- the plan of a query under a schema, and the names and kinds of its columns; or the first cause for which it has no plan
 abbrev pub lowering : List TableRule → QueryTree → Meant Lowered

@@ -26,7 +26,7 @@ ghost use Rattle.wd_resolve.specs.Lowering as spec;
 use crate::listed::ReadList;
 use crate::part::{FromSoFar, JoinedTables, LoweredSelect};
 use crate::tables::{
-    admit_first, admit_joined, after_comma, derived_table, joined_on, named_table, together,
+    admit_first, admit_joined, after_comma, derived_table, join_on, named_table, together,
 };
 use std::alloc::Global;
 use wd_plan::Plan;
@@ -123,7 +123,7 @@ fn resolve_join(
         }
         Joined::Inner(_, table, on) => {
             let part = resolve_table(alloc, schema, table)?;
-            joined_on(alloc, from, part, on)
+            join_on(alloc, from, part, on)
         }
     }
 }

@@ -317,13 +317,13 @@ pub fn admit_joined(
 }
 
 /// A table joined to those since the last comma, on a condition over all of these.
-pub fn joined_on(
+pub fn join_on(
     alloc: Global,
     from: FromSoFar,
     part: JoinedTables,
     on: &wd_syntax::Expr,
 ) -> Result<FromSoFar, ResolveError>
-    ensures { Gives from_of result (lowering.joined_on (from_of from) (view on.now) (joined_of part)) }
+    ensures { Gives from_of result (lowering.join_on (from_of from) (view on.now) (joined_of part)) }
 {
     admit(&from, &part)?;
     let FromSoFar { before, current } = from;

@@ -170,9 +170,9 @@ aggregate_of_one name (x ∷ []) = aggregate_over over_columns name x >>= λ a. 
 aggregate_of_one name xs = Err WrongCall
 
 -- a function without OVER over its arguments or a star
-abbrev pub grouped_over : GroupFunction → Option (List (Operand SelectReference)) → Meant GroupCall
-grouped_over (aggregates Count) None = Ok (of_rows count_rows)
-grouped_over (aggregates name) None = Err WrongCall
-grouped_over (aggregates name) (Some xs) = aggregate_of_one name xs
-grouped_over grouped None = Err WrongCall
-grouped_over grouped (Some xs) = columns_only xs >>= λ columns. grouping_over columns
+abbrev pub make_group_call : GroupFunction → Option (List (Operand SelectReference)) → Meant GroupCall
+make_group_call (aggregates Count) None = Ok (of_rows count_rows)
+make_group_call (aggregates name) None = Err WrongCall
+make_group_call (aggregates name) (Some xs) = aggregate_of_one name xs
+make_group_call grouped None = Err WrongCall
+make_group_call grouped (Some xs) = columns_only xs >>= λ columns. grouping_over columns

@@ -10,7 +10,7 @@ ghost use Rattle.wd_resolve_call.specs.Functions as spec;
 ghost use Rattle.wd_resolve_call.specs.References.{operand_of, operands_of};
 
 use crate::call::AppliedFunction;
-use crate::reference::{Argument, SelectReference, settled_over};
+use crate::reference::{Argument, SelectReference, settle_argument};
 use crate::row::{AppliedAggregate, GroupCall, RowReference, ValueArgument};
 use std::alloc::Global;
 use wd_plan::{Direction, FrameRow, FunctionName, Ranking, ValueKind, has_extremes, same_kind};
@@ -110,7 +110,7 @@ fn argument<E: Argument>(
     ensures { Gives (argument_of E.shown) result (spec.argument E.over (operand_of operand.now)) }
 {
     Ok(ValueArgument {
-        expression: settled_over(alloc, operand)?,
+        expression: settle_argument(alloc, operand)?,
         kind: operand.kind(),
     })
 }
@@ -407,12 +407,12 @@ fn grouping_over(columns: Vec<u16>) -> Result<GroupCall, ResolveError>
 }
 
 /// A function without OVER over its arguments, or over a star where there are none; 405 where it does not take them.
-pub fn grouped_over(
+pub fn make_group_call(
     alloc: Global,
     function: GroupFunction,
     arguments: Option<Vec<TypedOperand<SelectReference>>>,
 ) -> Result<GroupCall, ResolveError>
-    ensures { Gives group_call_of result (spec.grouped_over (group_function_of function) (option_map operands_of arguments)) }
+    ensures { Gives group_call_of result (spec.make_group_call (group_function_of function) (option_map operands_of arguments)) }
 {
     match (function, arguments) {
         (GroupFunction::Aggregate(FunctionName::Count), None) => {

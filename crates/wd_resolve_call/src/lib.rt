@@ -16,8 +16,8 @@ mod window;
 
 pub use call::{AppliedFunction, WindowCall};
 pub use copies::copy_of;
-pub use function::{GroupFunction, apply_function, group_function_named, grouped_over};
-pub use reference::{Argument, SelectReference, over_columns, over_rows, settled_over};
+pub use function::{GroupFunction, apply_function, group_function_named, make_group_call};
+pub use reference::{Argument, SelectReference, over_columns, over_rows, settle_argument};
 pub use row::{AppliedAggregate, GroupCall, RowReference, ValueArgument};
 pub use same::{same_call, same_group_call};
 pub use window::{KnownWindow, OrderKey, Window, find_base, find_window, resolve_window, sort_key};

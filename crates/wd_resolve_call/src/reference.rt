@@ -99,7 +99,7 @@ impl Argument for Expr {
 }
 
 /// The expression of an operand in a place that requires no kind, over the references of a value argument.
-pub fn settled_over<E: Argument>(
+pub fn settle_argument<E: Argument>(
     alloc: Global,
     operand: &TypedOperand<SelectReference>,
 ) -> Result<E, ResolveError>

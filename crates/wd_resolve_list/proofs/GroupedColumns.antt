@@ -19,7 +19,7 @@ use Rattle.wd_resolve_scope.specs.Scopes.{ScopeRule}
 use Rattle.wd_resolve_scope.specs.Typed.{kinds_in}
 use Rattle.wd_resolve_scope.proofs.TypedTrees.{column_named_is}
 use Rattle.wd_resolve_call.proofs.Meanings.{bound, ok_is}
-use Rattle.wd_resolve_list.specs.Grouping.{all_grouped, count_made, crossed_sets, cubed, group_column, group_columns, grouped_meant, item_grouped, joined_sets, made_of, no_groups, rolled_up, set_meant, sets_meant, with_sets}
+use Rattle.wd_resolve_list.specs.Grouping.{all_grouped, count_made, cross_sets, cubed, group_column, group_columns, grouped_meant, item_grouped, join_sets, made_of, no_groups, roll_up, set_meant, sets_meant, with_sets}
 use Rattle.wd_resolve_list.specs.SelectLists.{GroupedBy}
 use Rattle.wd_resolve_list.proofs.Among.{all_append, all_on_each, all_with_new}
 
@@ -49,29 +49,29 @@ each_right n set (other ∷ others) h = either (has other n) (list_any (λ s. ha
     (λ e. or_left _ _ (has_append n set other ∙ or_right _ _ e))
     (λ e. or_right _ _ (each_right n set others e))
 
-crossed_left : (n : ℕ) (sets others : List (List ℕ)) → SomeHas n sets → IsSome others → SomeHas n (crossed_sets sets others)
+crossed_left : (n : ℕ) (sets others : List (List ℕ)) → SomeHas n sets → IsSome others → SomeHas n (cross_sets sets others)
 crossed_left n [] others h some = absurd (false≢true h)
-crossed_left n (set ∷ sets) others h some = some_append n (map (λ t. set ++ t) others) (crossed_sets sets others) ∙ either (has set n) (list_any (λ s. has s n) sets) h
+crossed_left n (set ∷ sets) others h some = some_append n (map (λ t. set ++ t) others) (cross_sets sets others) ∙ either (has set n) (list_any (λ s. has s n) sets) h
     (λ e. or_left _ _ (each_left n set others e some))
     (λ e. or_right _ _ (crossed_left n sets others e some))
 
-crossed_right : (n : ℕ) (sets others : List (List ℕ)) → IsSome sets → SomeHas n others → SomeHas n (crossed_sets sets others)
+crossed_right : (n : ℕ) (sets others : List (List ℕ)) → IsSome sets → SomeHas n others → SomeHas n (cross_sets sets others)
 crossed_right n [] others some h = absurd some
-crossed_right n (set ∷ sets) others some h = some_append n (map (λ t. set ++ t) others) (crossed_sets sets others) ∙ or_left _ _ (each_right n set others h)
+crossed_right n (set ∷ sets) others some h = some_append n (map (λ t. set ++ t) others) (cross_sets sets others) ∙ or_left _ _ (each_right n set others h)
 
 some_map : {A B : Type 0} (f : A → B) (xs ys : List B) (zs : List A) → IsSome zs → IsSome (map f zs ++ ys)
 some_map f xs ys [] h = absurd h
 some_map f xs ys (z ∷ zs) h = tt
 
-crossed_some : (sets others : List (List ℕ)) → IsSome sets → IsSome others → IsSome (crossed_sets sets others)
+crossed_some : (sets others : List (List ℕ)) → IsSome sets → IsSome others → IsSome (cross_sets sets others)
 crossed_some [] others some h = absurd some
-crossed_some (set ∷ sets) others some h = some_map (λ t. set ++ t) [] (crossed_sets sets others) others h
+crossed_some (set ∷ sets) others some h = some_map (λ t. set ++ t) [] (cross_sets sets others) others h
 
 -- ---- what a word makes of sets
 
-rolled_some : (sets : List (List ℕ)) → IsSome (rolled_up sets)
+rolled_some : (sets : List (List ℕ)) → IsSome (roll_up sets)
 rolled_some [] = tt
-rolled_some (set ∷ sets) = some_map (λ t. set ++ t) [] ([] ∷ []) (rolled_up sets) (rolled_some sets)
+rolled_some (set ∷ sets) = some_map (λ t. set ++ t) [] ([] ∷ []) (roll_up sets) (rolled_some sets)
 
 cubed_some : (sets : List (List ℕ)) → IsSome (cubed sets)
 cubed_some [] = tt
@@ -83,11 +83,11 @@ made_some Cube sets = cubed_some sets
 made_some Sets [] = tt
 made_some Sets (set ∷ sets) = tt
 
-rolled_has : (n : ℕ) (sets : List (List ℕ)) → SomeHas n sets → SomeHas n (rolled_up sets)
+rolled_has : (n : ℕ) (sets : List (List ℕ)) → SomeHas n sets → SomeHas n (roll_up sets)
 rolled_has n [] h = absurd (false≢true h)
-rolled_has n (set ∷ sets) h = some_append n (map (λ t. set ++ t) (rolled_up sets)) ([] ∷ []) ∙ or_left _ _ (either (has set n) (list_any (λ s. has s n) sets) h
-    (λ e. each_left n set (rolled_up sets) e (rolled_some sets))
-    (λ e. each_right n set (rolled_up sets) (rolled_has n sets e)))
+rolled_has n (set ∷ sets) h = some_append n (map (λ t. set ++ t) (roll_up sets)) ([] ∷ []) ∙ or_left _ _ (either (has set n) (list_any (λ s. has s n) sets) h
+    (λ e. each_left n set (roll_up sets) e (rolled_some sets))
+    (λ e. each_right n set (roll_up sets) (rolled_has n sets e)))
 
 cubed_has : (n : ℕ) (sets : List (List ℕ)) → SomeHas n sets → SomeHas n (cubed sets)
 cubed_has n [] h = absurd (false≢true h)
@@ -161,10 +161,10 @@ module _ (scope : ScopeRule) where
       let more = bound (sets_meant scope trees) (λ xs. Ok (set.0 ∷ xs)) sets set.2 in
       subst (λ all. AllByRecursion IsColumn (flat_map (λ s. s) all)) (ok_is _ _ more.2) (all_append IsColumn set.0 (flat_map (λ s. s) more.0) (set_is s set.0 set.1) (sets_are trees more.0 more.1))
 
-  joined_is : (so_far : GroupedBy) (word : GroupingWord) (sets : List (List ℕ)) → IsGrouped so_far → AllByRecursion IsColumn (flat_map (λ s. s) sets) → IsGrouped (joined_sets so_far word sets)
+  joined_is : (so_far : GroupedBy) (word : GroupingWord) (sets : List (List ℕ)) → IsGrouped so_far → AllByRecursion IsColumn (flat_map (λ s. s) sets) → IsGrouped (join_sets so_far word sets)
   joined_is so_far word sets h are =
       let made = made_of word sets in
-      let crossed = crossed_sets so_far.sets made in
+      let crossed = cross_sets so_far.sets made in
       let fresh = flat_map (λ s. s) sets in
       record {
         columns_are = all_with_new nat_eq IsColumn so_far.columns fresh h.columns_are are;
@@ -177,7 +177,7 @@ module _ (scope : ScopeRule) where
   with_sets_is : (so_far : GroupedBy) (word : GroupingWord) (sets : List (List ℕ)) (g : GroupedBy) → IsGrouped so_far → AllByRecursion IsColumn (flat_map (λ s. s) sets) → with_sets so_far word sets ≡ Ok g → IsGrouped g
   with_sets_is so_far word sets g h are e = by (nat_lt 64 (length so_far.sets * count_made word (length sets))) e
     where
-      by : (b : Bool) → cond b (Err TooManySets) (Ok (joined_sets so_far word sets)) ≡ Ok g → IsGrouped g
+      by : (b : Bool) → cond b (Err TooManySets) (Ok (join_sets so_far word sets)) ≡ Ok g → IsGrouped g
       by true e = cc
       by false e = subst IsGrouped (ok_is _ _ e) (joined_is so_far word sets h are)
 

@@ -36,9 +36,9 @@ sets_meant scope (s ∷ sets) = set_meant scope s >>= λ x. sets_meant scope set
 -- ---- sets
 
 -- all prefixes, the longest first
-abbrev pub rolled_up : List (List ℕ) → List (List ℕ)
-rolled_up [] = [] ∷ []
-rolled_up (s ∷ sets) = map (λ t. s ++ t) (rolled_up sets) ++ [] ∷ []
+abbrev pub roll_up : List (List ℕ) → List (List ℕ)
+roll_up [] = [] ∷ []
+roll_up (s ∷ sets) = map (λ t. s ++ t) (roll_up sets) ++ [] ∷ []
 
 -- all subsets: those with the first member before those without it
 abbrev pub cubed : List (List ℕ) → List (List ℕ)
@@ -51,7 +51,7 @@ some_of [] = [] ∷ []
 some_of (s ∷ sets) = s ∷ sets
 
 abbrev pub made_of : GroupingWord → List (List ℕ) → List (List ℕ)
-made_of Rollup sets = rolled_up sets
+made_of Rollup sets = roll_up sets
 made_of Cube sets = cubed sets
 made_of Sets sets = some_of sets
 
@@ -62,8 +62,8 @@ count_made Cube n = 2 ^ n
 count_made Sets n = max 1 n
 
 -- every set of one list with every set of another, those of the first list outermost
-abbrev pub crossed_sets : List (List ℕ) → List (List ℕ) → List (List ℕ)
-crossed_sets sets others = flat_map (λ s. map (λ t. s ++ t) others) sets
+abbrev pub cross_sets : List (List ℕ) → List (List ℕ) → List (List ℕ)
+cross_sets sets others = flat_map (λ s. map (λ t. s ++ t) others) sets
 
 -- ---- GROUP BY
 
@@ -72,12 +72,12 @@ abbrev pub no_groups : GroupedBy
 no_groups = record { columns = []; sets = [] ∷ [] }
 
 -- GROUP BY with a further member that has these sets of columns
-abbrev pub joined_sets : GroupedBy → GroupingWord → List (List ℕ) → GroupedBy
-joined_sets so_far word sets = record { columns = with_new nat_eq so_far.columns (flat_map (λ s. s) sets); sets = crossed_sets so_far.sets (made_of word sets) }
+abbrev pub join_sets : GroupedBy → GroupingWord → List (List ℕ) → GroupedBy
+join_sets so_far word sets = record { columns = with_new nat_eq so_far.columns (flat_map (λ s. s) sets); sets = cross_sets so_far.sets (made_of word sets) }
 
 -- at most 64 sets (this project's choice)
 abbrev pub with_sets : GroupedBy → GroupingWord → List (List ℕ) → Meant GroupedBy
-with_sets so_far word sets = if nat_lt 64 (length so_far.sets * count_made word (length sets)) then Err TooManySets else Ok (joined_sets so_far word sets)
+with_sets so_far word sets = if nat_lt 64 (length so_far.sets * count_made word (length sets)) then Err TooManySets else Ok (join_sets so_far word sets)
 
 abbrev pub item_grouped : ScopeRule → GroupedBy → GroupTree → Meant GroupedBy
 item_grouped scope so_far (grouped_by s) = sets_meant scope (s ∷ []) >>= λ sets. with_sets so_far Sets sets

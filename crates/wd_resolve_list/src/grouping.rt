@@ -179,13 +179,13 @@ fn empty_set(alloc: Global) -> Result<Vec<Vec<u16>>, OutOfMemory>
 }
 
 /// All prefixes, the longest first.
-fn rolled_up(alloc: Global, sets: &[Vec<u16>]) -> Result<Vec<Vec<u16>>, OutOfMemory>
-    ensures { IfOk result (λ v. sets_of v.items ≡ spec.rolled_up (sets_of sets.now)) }
+fn roll_up(alloc: Global, sets: &[Vec<u16>]) -> Result<Vec<Vec<u16>>, OutOfMemory>
+    ensures { IfOk result (λ v. sets_of v.items ≡ spec.roll_up (sets_of sets.now)) }
 {
     let [set, others @ ..] = sets else {
         return empty_set(alloc);
     };
-    let shorter = rolled_up(alloc, others)?;
+    let shorter = roll_up(alloc, others)?;
     let mut made = with_each(alloc, set, &shorter)?;
     let mut last = empty_set(alloc)?;
     made.append(&mut last)?;
@@ -225,19 +225,19 @@ fn made_of(
     ensures { IfOk result (λ v. sets_of v.items ≡ spec.made_of word (sets_of sets.items)) }
 {
     match word {
-        GroupingWord::Rollup => rolled_up(alloc, &sets),
+        GroupingWord::Rollup => roll_up(alloc, &sets),
         GroupingWord::Cube => all_subsets(alloc, &sets),
         GroupingWord::Sets => some_of(alloc, sets),
     }
 }
 
 /// Every set of one list with every set of another, those of the first list outermost.
-fn crossed_sets(
+fn cross_sets(
     alloc: Global,
     sets: &[Vec<u16>],
     others: &[Vec<u16>],
 ) -> Result<Vec<Vec<u16>>, OutOfMemory>
-    ensures { IfOk result (λ v. sets_of v.items ≡ spec.crossed_sets (sets_of sets.now) (sets_of others.now)) }
+    ensures { IfOk result (λ v. sets_of v.items ≡ spec.cross_sets (sets_of sets.now) (sets_of others.now)) }
 {
     let mut all = Vec::new(alloc);
     for set in sets {
@@ -259,17 +259,17 @@ fn with_sets(
     if are_too_many(so_far.sets.len(), number_of_sets(word, sets.len())) {
         return Err(ResolveError::Refused(Cause::TooManySets));
     }
-    Ok(joined_sets(alloc, so_far, word, sets)?)
+    Ok(join_sets(alloc, so_far, word, sets)?)
 }
 
 /// GROUP BY with a further member that has these sets.
-fn joined_sets(
+fn join_sets(
     alloc: Global,
     so_far: GroupedBy,
     word: GroupingWord,
     sets: Vec<Vec<u16>>,
 ) -> Result<GroupedBy, OutOfMemory>
-    ensures { IfOk result (λ g. grouped_by_of g ≡ spec.joined_sets (grouped_by_of so_far) word (sets_of sets.items)) }
+    ensures { IfOk result (λ g. grouped_by_of g ≡ spec.join_sets (grouped_by_of so_far) word (sets_of sets.items)) }
 {
     let GroupedBy {
         mut columns,
@@ -277,7 +277,7 @@ fn joined_sets(
     } = so_far;
     add_sets(&mut columns, &sets)?;
     let made = made_of(alloc, word, sets)?;
-    let sets = crossed_sets(alloc, &before, &made)?;
+    let sets = cross_sets(alloc, &before, &made)?;
     Ok(GroupedBy { columns, sets })
 }
 

@@ -55,8 +55,8 @@ asked_by_all [] = Text
 asked_by_all (bare_null ∷ operands) = asked_by_all operands
 asked_by_all (typed a kind ∷ operands) = kind
 
-abbrev pub asked_by_both : {L : Type 0} → Operand L → Operand L → ValueKind
-asked_by_both a b = asked_by_all (a ∷ b ∷ [])
+abbrev pub kind_of_both : {L : Type 0} → Operand L → Operand L → ValueKind
+kind_of_both a b = asked_by_all (a ∷ b ∷ [])
 
 -- ---- literals
 
@@ -105,24 +105,24 @@ abbrev pub tested : {L : Type 0} → Bool → Operand L → Operand L
 tested not a = typed (null_test not (settled a)) Truth
 
 -- the kind that an operator requires of both operands: a comparison takes two sides of one kind
-abbrev pub asked_by : {L : Type 0} → Operator → Operand L → Operand L → ValueKind
-asked_by o.Or a b = Truth
-asked_by o.And a b = Truth
-asked_by o.Add a b = Number
-asked_by o.Subtract a b = Number
-asked_by o.Multiply a b = Number
-asked_by o.Divide a b = Number
-asked_by o.Remainder a b = Number
-asked_by operator a b = asked_by_both a b
+abbrev pub operand_kind : {L : Type 0} → Operator → Operand L → Operand L → ValueKind
+operand_kind o.Or a b = Truth
+operand_kind o.And a b = Truth
+operand_kind o.Add a b = Number
+operand_kind o.Subtract a b = Number
+operand_kind o.Multiply a b = Number
+operand_kind o.Divide a b = Number
+operand_kind o.Remainder a b = Number
+operand_kind operator a b = kind_of_both a b
 
 -- the kind of an operator's values
-abbrev pub given_by : Operator → ValueKind
-given_by o.Add = Number
-given_by o.Subtract = Number
-given_by o.Multiply = Number
-given_by o.Divide = Number
-given_by o.Remainder = Number
-given_by operator = Truth
+abbrev pub result_kind : Operator → ValueKind
+result_kind o.Add = Number
+result_kind o.Subtract = Number
+result_kind o.Multiply = Number
+result_kind o.Divide = Number
+result_kind o.Remainder = Number
+result_kind operator = Truth
 
 -- an operator over two expressions
 abbrev pub over_both : {L : Type 0} → Operator → BoundExpression L → BoundExpression L → BoundExpression L
@@ -143,9 +143,9 @@ over_both o.Remainder a b = f.Arithmetic arithmetic.Remainder a b
 -- an operator over two operands of the kind that it requires
 abbrev pub combined : {L : Type 0} → Operator → Operand L → Operand L → Meant (Operand L)
 combined operator a b = do
-  left ← of_kind (asked_by operator a b) a
-  right ← of_kind (asked_by operator a b) b
-  Ok (typed (over_both operator left right) (given_by operator))
+  left ← of_kind (operand_kind operator a b) a
+  right ← of_kind (operand_kind operator a b) b
+  Ok (typed (over_both operator left right) (result_kind operator))
 
 -- ---- CASE
 

@@ -60,8 +60,8 @@ pub fn test_null<L: Reference>(
 }
 
 /// The kind of both operands: that of the first that is not a bare NULL.
-fn asked_by_both<L: Reference>(left: &TypedOperand<L>, right: &TypedOperand<L>) -> ValueKind
-    ensures { result ≡ spec.asked_by_both (operand_of L.shown left.now) (operand_of L.shown right.now) }
+fn kind_of_both<L: Reference>(left: &TypedOperand<L>, right: &TypedOperand<L>) -> ValueKind
+    ensures { result ≡ spec.kind_of_both (operand_of L.shown left.now) (operand_of L.shown right.now) }
 {
     match (left, right) {
         (TypedOperand::Typed(_, kind), _) => *kind,
@@ -71,12 +71,12 @@ fn asked_by_both<L: Reference>(left: &TypedOperand<L>, right: &TypedOperand<L>) 
 }
 
 /// The kind that an operator requires of both operands.
-fn asked_by<L: Reference>(
+fn operand_kind<L: Reference>(
     operator: Operator,
     left: &TypedOperand<L>,
     right: &TypedOperand<L>,
 ) -> ValueKind
-    ensures { result ≡ spec.asked_by operator (operand_of L.shown left.now) (operand_of L.shown right.now) }
+    ensures { result ≡ spec.operand_kind operator (operand_of L.shown left.now) (operand_of L.shown right.now) }
 {
     match operator {
         Operator::Or | Operator::And => ValueKind::Truth,
@@ -85,7 +85,7 @@ fn asked_by<L: Reference>(
         | Operator::Less
         | Operator::LessOrEqual
         | Operator::Greater
-        | Operator::GreaterOrEqual => asked_by_both(left, right),
+        | Operator::GreaterOrEqual => kind_of_both(left, right),
         Operator::Add
         | Operator::Subtract
         | Operator::Multiply
@@ -95,8 +95,8 @@ fn asked_by<L: Reference>(
 }
 
 /// The kind of an operator's values.
-fn given_by(operator: Operator) -> ValueKind
-    ensures { result ≡ spec.given_by operator }
+fn result_kind(operator: Operator) -> ValueKind
+    ensures { result ≡ spec.result_kind operator }
 {
     match operator {
         Operator::Add
@@ -149,10 +149,10 @@ pub fn combine<L: Reference>(
 ) -> Result<TypedOperand<L>, ResolveError>
     ensures { Gives (operand_of L.shown) result (spec.combined operator (operand_of L.shown left) (operand_of L.shown right)) }
 {
-    let kind = asked_by(operator, &left, &right);
+    let kind = operand_kind(operator, &left, &right);
     let left = left.of_kind(alloc, kind)?;
     let right = right.of_kind(alloc, kind)?;
-    TypedOperand::typed(alloc, over_both(operator, left, right), given_by(operator))
+    TypedOperand::typed(alloc, over_both(operator, left, right), result_kind(operator))
 }
 
 /// WHEN .. THEN ..

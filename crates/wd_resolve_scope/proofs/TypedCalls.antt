@@ -20,7 +20,7 @@ use Rattle.wd_resolve_operand.specs.Operands.{Operand, bare_null, settled, typed
 use Rattle.wd_resolve_operand.specs.Operands as operands
 use Rattle.wd_resolve_call.specs.Rows.{BoundArgument, BoundAggregate, count_of, sum_of, least_of, greatest_of, GroupCall, of_rows, grouping, RowExpression, column, of_group}
 use Rattle.wd_resolve_call.specs.Calls.{BoundFunction, ranking, away, value_at, aggregate}
-use Rattle.wd_resolve_call.specs.Functions.{GroupFunction, aggregates, grouped, aggregate_of_one, aggregate_over, applied, argument, column_only, columns_only, default_of, grouped_over, grouping_over, numbers, ordered, over_argument, over_arguments, over_none, over_one, over_star, over_three, over_two, shifted, whole}
+use Rattle.wd_resolve_call.specs.Functions.{GroupFunction, aggregates, grouped, aggregate_of_one, aggregate_over, applied, argument, column_only, columns_only, default_of, make_group_call, grouping_over, numbers, ordered, over_argument, over_arguments, over_none, over_one, over_star, over_three, over_two, shifted, whole}
 use Rattle.wd_resolve_call.specs.References.{SelectReference, of_row, call, over_columns, over_rows}
 use Rattle.wd_resolve_scope.specs.Typed.{IsAggregate, IsArgument, IsBoundExpression, IsFunction, IsGroupCall, IsOfKind, IsOperand, IsRowExpression, Readable}
 use Rattle.wd_resolve_scope.proofs.OverColumns.{over_columns_is, over_rows_is}
@@ -204,7 +204,7 @@ module _ (r : Readable) where
       subst (IsGroupCall r) p.1 (h, p.0)
 
   -- GROUPING of its arguments
-  pub grouping_is : (arguments : Option (List (Operand SelectReference))) (g : GroupCall) → AreArguments arguments → grouped_over grouped arguments ≡ Ok g → IsGroupCall r g
+  pub grouping_is : (arguments : Option (List (Operand SelectReference))) (g : GroupCall) → AreArguments arguments → make_group_call grouped arguments ≡ Ok g → IsGroupCall r g
   grouping_is None g h is = cc
   grouping_is (Some xs) g h is =
       let columns = bound (columns_only xs) (λ ns. grouping_over ns) g is in
@@ -222,7 +222,7 @@ module _ (r : Readable) where
         subst (IsGroupCall there) (ok_is _ _ a.2) (aggregate_is r over_columns (IsOfKind r.kinds) (over_columns_is r) name x a.0 h.0 a.1)
     aggregate_of_one_is name (x ∷ y ∷ xs) g h is = cc
 
-    pub group_aggregate_is : (name : FunctionName) (arguments : Option (List (Operand SelectReference))) (g : GroupCall) → AreArguments arguments → grouped_over (aggregates name) arguments ≡ Ok g → IsGroupCall there g
+    pub group_aggregate_is : (name : FunctionName) (arguments : Option (List (Operand SelectReference))) (g : GroupCall) → AreArguments arguments → make_group_call (aggregates name) arguments ≡ Ok g → IsGroupCall there g
     group_aggregate_is Count None g h is = subst (IsGroupCall there) (ok_is _ _ is) tt
     group_aggregate_is name None g h is = cc
     group_aggregate_is name (Some xs) g h is = aggregate_of_one_is name xs g h is

@@ -15,7 +15,7 @@ use Rattle.wd_syntax.specs.declared.expression.Sign.TheVariants as s
 use Rattle.wd_syntax.specs.declared.expression.Literal.{Literal as Written}
 use Rattle.wd_syntax.specs.declared.expression.Literal.TheVariants as l
 use Rattle.wd_resolve_operand.specs.BoundExpressions.{BoundExpression, Not, Case, is_typed_over, kind_over, references}
-use Rattle.wd_resolve_operand.specs.Operands.{Operand, bare_null, typed, of_kind, settled, asked_by, given_by, over_both, combined, negated, sign_over, signed, int_literal, unsigned_number, number, literal, signed_number, arms_over, case_kind, case_of}
+use Rattle.wd_resolve_operand.specs.Operands.{Operand, bare_null, typed, of_kind, settled, operand_kind, result_kind, over_both, combined, negated, sign_over, signed, int_literal, unsigned_number, number, literal, signed_number, arms_over, case_kind, case_of}
 use Rattle.wd_resolve_operand.specs.Operands as operands
 use Rattle.wd_resolve_call.specs.References.{SelectReference}
 use Rattle.wd_resolve_scope.specs.Typed.{IsBoundExpression, IsReference, IsOperand, Readable, kind_at}
@@ -46,7 +46,7 @@ module _ (r : Readable) where
   sides : {a b : BoundExpression SelectReference} {kind other : ValueKind} → IsBoundExpression r a kind → IsBoundExpression r b other → AllByRecursion (IsReference r) (references a ++ references b)
   sides {a} {b} h g = all_append (IsReference r) (references a) (references b) h.references_are g.references_are
 
-  over_both_is : (operator : Operator) (x y : Operand SelectReference) (a b : BoundExpression SelectReference) → IsBoundExpression r a (asked_by operator x y) → IsBoundExpression r b (asked_by operator x y) → IsBoundExpression r (over_both operator a b) (given_by operator)
+  over_both_is : (operator : Operator) (x y : Operand SelectReference) (a b : BoundExpression SelectReference) → IsBoundExpression r a (operand_kind operator x y) → IsBoundExpression r b (operand_kind operator x y) → IsBoundExpression r (over_both operator a b) (result_kind operator)
   over_both_is o.Or x y a b h g = record { is = and_both _ _ (side h) (side g); has = refl; references_are = sides h g }
   over_both_is o.And x y a b h g = record { is = and_both _ _ (side h) (side g); has = refl; references_are = sides h g }
   over_both_is o.Equal x y a b h g = record { is = and_both _ _ (and_both _ _ h.is g.is) (alike h g); has = refl; references_are = sides h g }
@@ -63,9 +63,9 @@ module _ (r : Readable) where
 
   pub combined_is : (operator : Operator) (x y z : Operand SelectReference) → IsOperand r x → IsOperand r y → combined operator x y ≡ Ok z → IsOperand r z
   combined_is operator x y z h g is =
-      let kind = asked_by operator x y in
-      let l = bound (of_kind kind x) (λ left. of_kind kind y >>= λ right. Ok (typed (over_both operator left right) (given_by operator))) z is in
-      let s = bound (of_kind kind y) (λ right. Ok (typed (over_both operator l.0 right) (given_by operator))) z l.2 in
+      let kind = operand_kind operator x y in
+      let l = bound (of_kind kind x) (λ left. of_kind kind y >>= λ right. Ok (typed (over_both operator left right) (result_kind operator))) z is in
+      let s = bound (of_kind kind y) (λ right. Ok (typed (over_both operator l.0 right) (result_kind operator))) z l.2 in
       subst (IsOperand r) (ok_is _ _ s.2) (over_both_is operator x y l.0 s.0 (asked kind x l.0 h l.1) (asked kind y s.0 g s.1))
 
   pub negated_is : (x z : Operand SelectReference) → IsOperand r x → negated x ≡ Ok z → IsOperand r z

@@ -16,7 +16,7 @@ use Rattle.wd_resolve_operand.specs.BoundExpressions.{Reference}
 use Rattle.wd_resolve_operand.specs.Operands.{Operand, typed, combined, negated, literal, case_of, settled}
 use Rattle.wd_resolve_operand.specs.Operands as operands
 use Rattle.wd_resolve_call.specs.Calls.{kind_of_function}
-use Rattle.wd_resolve_call.specs.Functions.{GroupFunction, aggregates, applied, function_named, group_function_named, grouped, grouped_over}
+use Rattle.wd_resolve_call.specs.Functions.{GroupFunction, aggregates, applied, function_named, group_function_named, grouped, make_group_call}
 use Rattle.wd_resolve_scope.specs.Grouped.{GroupedRule, column_allowed, column_meant, column_operand}
 use Rattle.wd_resolve_call.specs.References.{SelectReference, of_row, call, over_rows}
 use Rattle.wd_resolve_call.specs.Rows.{GroupCall, RowExpression, kind_of_group_call, of_group}
@@ -124,15 +124,15 @@ same_readable : (scope : ScopeRule) (groups : Option GroupedRule) → readable s
 same_readable scope None = refl
 same_readable scope (Some g) = refl
 
-grouped_is : (c : ContextRule) (function : GroupFunction) (arguments : Option (List (Operand SelectReference))) (g : GroupCall) → AreArguments (read_in (without_over (Some function) c)) arguments → grouped_over function arguments ≡ Ok g → IsGroupCall (read_in c) g
+grouped_is : (c : ContextRule) (function : GroupFunction) (arguments : Option (List (Operand SelectReference))) (g : GroupCall) → AreArguments (read_in (without_over (Some function) c)) arguments → make_group_call function arguments ≡ Ok g → IsGroupCall (read_in c) g
 grouped_is c (aggregates name) arguments g xs is = group_aggregate_is (readable c.scope None) (allowed c.groups) (is_some c.groups) name arguments g xs is
 grouped_is c grouped arguments g xs is = subst (λ (r : Readable). IsGroupCall r g) (same_readable c.scope c.groups) (grouping_is (read_in (without_over (Some grouped) c)) arguments g xs is)
 
 group_called_is : (c : ContextRule) (function : Option GroupFunction) (arguments : Option (List (Operand SelectReference))) (x : Operand SelectReference) → AreArguments (read_in (without_over function c)) arguments → group_called c function arguments ≡ Ok x → IsOperand (read_in c) x
 group_called_is c None arguments x xs is = cc
 group_called_is c (Some function) arguments x xs is =
-    let p = let_through (may_group c) (grouped_over function arguments >>= λ g. Ok (typed (Reference (of_row (of_group g))) (kind_of_group_call g))) x GroupCallNotAllowed is in
-    let g = bound (grouped_over function arguments) (λ g. Ok (typed (Reference (of_row (of_group g))) (kind_of_group_call g))) x p.1 in
+    let p = let_through (may_group c) (make_group_call function arguments >>= λ g. Ok (typed (Reference (of_row (of_group g))) (kind_of_group_call g))) x GroupCallNotAllowed is in
+    let g = bound (make_group_call function arguments) (λ g. Ok (typed (Reference (of_row (of_group g))) (kind_of_group_call g))) x p.1 in
     subst (IsOperand (read_in c)) (ok_is _ _ g.2) (record { is = refl; has = refl; references_are = (((both (is_some c.groups) (allows_group_calls c.place) p.0).0, grouped_is c function arguments g.0 xs g.1), tt) })
 
 sign_is : (r : Readable) (sign : Sign) (n : Option ℕ) (m : Meant (Operand SelectReference)) (x : Operand SelectReference) → ((y : Operand SelectReference) → m ≡ Ok y → IsOperand r y) → sign_meant sign n m ≡ Ok x → IsOperand r x

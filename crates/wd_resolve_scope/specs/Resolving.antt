@@ -24,7 +24,7 @@ use Rattle.wd_resolve_operand.specs.BoundExpressions.{BoundExpression, Reference
 use Rattle.wd_resolve_operand.specs.Operands.{Operand, bare_null, typed, of_kind, settled, kind_of, literal, signed_number, signed, negated, tested, combined, case_of}
 use Rattle.wd_resolve_call.specs.Windows.{BoundKey, BoundWindow, NamedBoundWindow, known_of, sort_key, window_meant, window_named, base_named}
 use Rattle.wd_resolve_call.specs.Calls.{kind_of_function}
-use Rattle.wd_resolve_call.specs.Functions.{GroupFunction, aggregates, applied, function_named, group_function_named, grouped, grouped_over}
+use Rattle.wd_resolve_call.specs.Functions.{GroupFunction, aggregates, applied, function_named, group_function_named, grouped, make_group_call}
 use Rattle.wd_resolve_call.specs.References.{SelectReference, of_row, call, over_columns, over_rows}
 use Rattle.wd_resolve_call.specs.Rows.{RowExpression, kind_of_group_call, of_group}
 
@@ -67,7 +67,7 @@ may_group c = is_some c.groups && allows_group_calls c.place
 -- a call without OVER: an aggregate or GROUPING over its arguments, where these are allowed
 abbrev pub group_called : ContextRule → Option GroupFunction → Option (List (Operand SelectReference)) → Meant (Operand SelectReference)
 group_called c None arguments = Err WrongCall
-group_called c (Some function) arguments = if may_group c then (grouped_over function arguments >>= λ g. Ok (typed (Reference (of_row (of_group g))) (kind_of_group_call g))) else Err GroupCallNotAllowed
+group_called c (Some function) arguments = if may_group c then (make_group_call function arguments >>= λ g. Ok (typed (Reference (of_row (of_group g))) (kind_of_group_call g))) else Err GroupCallNotAllowed
 
 -- a call with OVER: its function over its arguments, and its window
 abbrev pub called : Name → Option (List (Operand SelectReference)) → BoundWindow → Meant (Operand SelectReference)

@@ -23,8 +23,8 @@ use std::rc::Rc;
 use wd_plan::{Expr, ValueKind, has_column};
 use wd_resolve_call::{
     GroupFunction, KnownWindow, OrderKey, RowReference, SelectReference, Window, WindowCall,
-    apply_function, find_base, find_window, group_function_named, grouped_over, over_columns,
-    over_rows, resolve_window, settled_over, sort_key,
+    apply_function, find_base, find_window, group_function_named, make_group_call, over_columns,
+    over_rows, resolve_window, settle_argument, sort_key,
 };
 use wd_resolve_operand::{
     BoundExpression, CaseArm, Cause, ResolveError, TypedOperand, case_of, combine, literal, negate,
@@ -225,7 +225,7 @@ fn call_group(
     if !context.may_group() {
         return Err(ResolveError::Refused(Cause::GroupCallNotAllowed));
     }
-    let call = grouped_over(alloc, function, arguments)?;
+    let call = make_group_call(alloc, function, arguments)?;
     let kind = call.kind();
     let reference = SelectReference::Row(RowReference::Group(Rc::new(alloc, call)?));
     TypedOperand::typed(alloc, BoundExpression::Reference(reference), kind)
@@ -389,7 +389,7 @@ fn order_key(
     ensures { Gives key_of result (spec.key_meant (operand_of operand.now) written.now.direction written.now.nulls) }
 {
     Ok(OrderKey {
-        expression: settled_over(alloc, operand)?,
+        expression: settle_argument(alloc, operand)?,
         kind: operand.kind(),
         key: sort_key(written.direction, written.nulls),
     })
@@ -438,7 +438,7 @@ fn settle_all(
 {
     let mut expressions = Vec::with_capacity(alloc, operands.len())?;
     for operand in operands {
-        expressions.push(settled_over(alloc, operand)?)?;
+        expressions.push(settle_argument(alloc, operand)?)?;
     }
     Ok(expressions)
 }

@@ -76,7 +76,7 @@ fn empty_tables(alloc: Global, count: usize) -> Result<Vec<Columns>, OutOfMemory
 }
 
 /// The table of that number, if it has the name.
-fn named_at<'a>(schema: &'a Schema, number: usize, name: &str) -> Option<&'a Table>
+fn table_if_named<'a>(schema: &'a Schema, number: usize, name: &str) -> Option<&'a Table>
     ensures found { IfSome result (λ table. FindsTable (schema_of schema.now) name.now number (table_of table.now)) }
     ensures none { IfNone result (IsNamed (schema_of schema.now) name.now number → ⊥) }
 {
@@ -94,7 +94,7 @@ fn find_table<'a>(schema: &'a Schema, name: &str) -> Option<(usize, &'a Table)>
     ensures none { IfNone result ((n : ℕ) → IsNamed (schema_of schema.now) name.now n → ⊥) }
 {
     for number in 0..schema.tables.len() {
-        if let Some(table) = named_at(schema, number, name) {
+        if let Some(table) = table_if_named(schema, number, name) {
             return Some((number, table));
         }
     }

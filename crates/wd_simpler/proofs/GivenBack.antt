@@ -29,7 +29,7 @@ use Rattle.wd_plan.specs.Fits.{Kinds, fits, is_kind, is_narrow, is_typed, kind_o
 use Rattle.wd_plan.specs.Outcomes.{call_at, distinct, filter_outcome, map_outcome, outcome, window_outcome}
 use Rattle.wd_plan.specs.Plans.{PlanTree, Scan, Join, Over, Filter, Map, Group, Window, WindowRule, Distinct, Limit, has, own_orderings}
 use Rattle.wd_simpler.proofs.Rows.{all_made, at_any, at_each, is_extended, item_value, then_all, window_rows}
-use Rattle.wd_simpler.specs.Keyed.{column_shown, given_back, is_number, is_shift, is_whole, origin, place_of, shifted}
+use Rattle.wd_simpler.specs.Keyed.{column_shown, source_column, is_number, is_shift, is_whole, origin, place_of, shifted}
 
 -- ---- expressions
 
@@ -284,7 +284,7 @@ undone (Over (Limit limit) input) c v = v
 undone (Over step input) c v = undone input c v
 
 abbrev pub GivesBack : PlanTree → Row → Type 0
-GivesBack plan row = (c d : ℕ) → given_back plan c ≡ Some d → column_of row d ≡ undone plan c (column_of row c)
+GivesBack plan row = (c d : ℕ) → source_column plan c ≡ Some d → column_of row d ≡ undone plan c (column_of row c)
 
 -- also of a row without columns, where all is NULL
 output_null : (below : ℕ → Value → Value) → ((c : ℕ) → below c Null ≡ Null) → (e : Expression) → output_back below e Null ≡ Null
@@ -346,7 +346,7 @@ typed_at kinds (o ∷ outputs) (suc c) e h k = typed_at kinds outputs c e (and_p
 
 module _ (input : PlanTree) (kinds : Kinds) (outputs : List Expression) (typed : list_all (is_typed kinds) outputs ≡ true) where
   -- the column of the input by what an output shows
-  origin_back : (row : Row) → GivesBack input row → IsOfKinds kinds row → (e : Expression) → is_typed kinds e ≡ true → (d : ℕ) → origin (given_back input) e ≡ Some d → (w : Value) → value_of e row ≡ Ok w → column_of row d ≡ output_back (undone input) e w
+  origin_back : (row : Row) → GivesBack input row → IsOfKinds kinds row → (e : Expression) → is_typed kinds e ≡ true → (d : ℕ) → origin (source_column input) e ≡ Some d → (w : Value) → value_of e row ≡ Ok w → column_of row d ≡ output_back (undone input) e w
   origin_back row gives are (Column c) own d h w e = gives c d h ∙ ap (undone input c) (value_same (column_of row c) w e)
   origin_back row gives are (Literal v kind) own d h w e = shifted_back kinds row are (Literal v kind) own d h w e
   origin_back row gives are (Negate a) own d h w e = shifted_back kinds row are (Negate a) own d h w e
@@ -368,13 +368,13 @@ module _ (input : PlanTree) (kinds : Kinds) (outputs : List Expression) (typed :
       placed : (x : ℕ) → place_of x outputs ≡ Some d → column_of row x ≡ column_of made d
       placed x k = value_same (column_of row x) (column_of made d) (item_value (λ output. value_of output row) outputs made all d (Column x) (place_is x outputs d k))
 
-      from : (o : Expression) → slice_get outputs c ≡ Some o → (x : Option ℕ) → origin (given_back input) o ≡ x → option_and_then (λ (n : ℕ). place_of n outputs) x ≡ Some d → column_of made d ≡ output_back (undone input) o (column_of made c)
+      from : (o : Expression) → slice_get outputs c ≡ Some o → (x : Option ℕ) → origin (source_column input) o ≡ x → option_and_then (λ (n : ℕ). place_of n outputs) x ≡ Some d → column_of made d ≡ output_back (undone input) o (column_of made c)
       from o at None f k = absurd (no_column d k)
       from o at (Some x) f k = sym (placed x k) ∙ origin_back row gives are o (typed_at kinds outputs c o typed at) x f (column_of made c) (item_value (λ output. value_of output row) outputs made all c o at)
 
-      by : (o : Option Expression) → slice_get outputs c ≡ o → option_and_then (λ (n : ℕ). place_of n outputs) (option_and_then (origin (given_back input)) o) ≡ Some d → column_of made d ≡ some_back (undone input) o (column_of made c)
+      by : (o : Option Expression) → slice_get outputs c ≡ o → option_and_then (λ (n : ℕ). place_of n outputs) (option_and_then (origin (source_column input)) o) ≡ Some d → column_of made d ≡ some_back (undone input) o (column_of made c)
       by None at k = absurd (no_column d k)
-      by (Some o) at k = from o at (origin (given_back input) o) refl k
+      by (Some o) at k = from o at (origin (source_column input) o) refl k
 
   map_gives : (rows : List Row) → AllByRecursion (GivesBack input) rows → AllByRecursion (IsOfKinds kinds) rows → AllRows (GivesBack (Over (Map outputs) input)) (map_outcome outputs rows)
   map_gives rows gives are =
@@ -393,10 +393,10 @@ place_below c (e ∷ outputs) d h = by (place_below c outputs) (has (option_to_l
     by next false (Some n) g k = let same = column_same (suc n) d k in let below = next n g in omega (arith, same, below)
 
 -- a column that is given back is one of the plan's
-given_below : (plan : PlanTree) (c d : ℕ) → given_back plan c ≡ Some d → d < width plan
+given_below : (plan : PlanTree) (c d : ℕ) → source_column plan c ≡ Some d → d < width plan
 given_below (Scan table columns) c d h = absurd (no_column d h)
 given_below (Join condition left right) c d h = absurd (no_column d h)
-given_below (Over (Map outputs) input) c d h = by (option_and_then (origin (given_back input)) (slice_get outputs c)) h
+given_below (Over (Map outputs) input) c d h = by (option_and_then (origin (source_column input)) (slice_get outputs c)) h
   where
     by : (o : Option ℕ) → option_and_then (λ (n : ℕ). place_of n outputs) o ≡ Some d → d < length outputs
     by None k = absurd (no_column d k)
@@ -404,7 +404,7 @@ given_below (Over (Map outputs) input) c d h = by (option_and_then (origin (give
 given_below (Over (Group rule) input) c d h = absurd (no_column d h)
 given_below (Over (Window w) input) c d h = by (given_below input c d) (nat_lt c (width input)) h
   where
-    by : (given_back input c ≡ Some d → d < width input) → (b : Bool) → cond b (given_back input c) None ≡ Some d → d < width (Over (Window w) input)
+    by : (source_column input c ≡ Some d → d < width input) → (b : Bool) → cond b (source_column input c) None ≡ Some d → d < width (Over (Window w) input)
     by below true k = let within = below k in omega (arith, within)
     by below false k = absurd (no_column d k)
 given_below (Over (Limit limit) input) c d h = absurd (no_column d h)
@@ -413,7 +413,7 @@ given_below (Over step input) c d h = given_below input c d h
 extended_gives : (w : WindowRule) (input : PlanTree) (row values : Row) → length row ≡ width input → GivesBack input row → GivesBack (Over (Window w) input) (row ++ values)
 extended_gives w input row values long gives c d h = by (nat_lt c (width input)) refl h
   where
-    by : (b : Bool) → nat_lt c (width input) ≡ b → cond b (given_back input c) None ≡ Some d → column_of (row ++ values) d ≡ undone input c (column_of (row ++ values) c)
+    by : (b : Bool) → nat_lt c (width input) ≡ b → cond b (source_column input c) None ≡ Some d → column_of (row ++ values) d ≡ undone input c (column_of (row ++ values) c)
     by true e k =
         let first = ltb-true c (width input) e in
         let second = given_below input c d k in
@@ -429,7 +429,7 @@ window_gives w input orderings rows wide gives =
 
 -- ---- all plans
 
-nothing_given : (plan : PlanTree) → ((c : ℕ) → given_back plan c ≡ None) → (row : Row) → GivesBack plan row
+nothing_given : (plan : PlanTree) → ((c : ℕ) → source_column plan c ≡ None) → (row : Row) → GivesBack plan row
 nothing_given plan none row c d h = absurd (no_column d (sym (none c) ∙ h))
 
 module _ (tables : List TableRule) (instance : Instance) (meets : Meets tables instance) where

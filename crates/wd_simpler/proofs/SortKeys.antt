@@ -40,7 +40,7 @@ use Rattle.wd_plan.specs.Plans.{ClassRule, LimitRule, PlanTree, WindowRule}
 use Rattle.wd_plan.specs.Sorting.{IsInOrder, IsOrdering, same_partition}
 use Rattle.wd_simpler.proofs.GivenBack.{GivesBack, empty_gives, undone}
 use Rattle.wd_simpler.proofs.Rows.{map_same}
-use Rattle.wd_simpler.specs.Keyed.{added_keys, given_back, goes_by_distance, keyed, keyed_class, keyed_limit, keyed_window}
+use Rattle.wd_simpler.specs.Keyed.{added_keys, source_column, goes_by_distance, keyed, keyed_class, keyed_limit, keyed_window}
 
 -- ---- keys
 
@@ -248,7 +248,7 @@ all_dropped P (suc n) (r ∷ rows) a = all_dropped P n rows a.1
 
 given_keys : (input : PlanTree) (keys : List SortColumn) (a b : Row) → GivesBack input a → GivesBack input b → columns_of (key_columns keys) a ≡ columns_of (key_columns keys) b → columns_of (key_columns (added_keys input keys)) a ≡ columns_of (key_columns (added_keys input keys)) b
 given_keys input [] a b p q e = refl
-given_keys input (item ∷ keys) a b p q e = by (given_keys input keys a b p q tail) (given_back input item.column) refl
+given_keys input (item ∷ keys) a b p q e = by (given_keys input keys a b p q tail) (source_column input item.column) refl
   where
     head : column_of a item.column ≡ column_of b item.column
     head = cc
@@ -256,7 +256,7 @@ given_keys input (item ∷ keys) a b p q e = by (given_keys input keys a b p q t
     tail : columns_of (key_columns keys) a ≡ columns_of (key_columns keys) b
     tail = cc
 
-    by : columns_of (key_columns (added_keys input keys)) a ≡ columns_of (key_columns (added_keys input keys)) b → (o : Option ℕ) → given_back input item.column ≡ o → columns_of (key_columns (option_to_list (option_map ascending o) ++ added_keys input keys)) a ≡ columns_of (key_columns (option_to_list (option_map ascending o) ++ added_keys input keys)) b
+    by : columns_of (key_columns (added_keys input keys)) a ≡ columns_of (key_columns (added_keys input keys)) b → (o : Option ℕ) → source_column input item.column ≡ o → columns_of (key_columns (option_to_list (option_map ascending o) ++ added_keys input keys)) a ≡ columns_of (key_columns (option_to_list (option_map ascending o) ++ added_keys input keys)) b
     by rest None is = rest
     by rest (Some c) is = λ i. (p item.column c is ∙ ap (undone input item.column) head ∙ sym (q item.column c is)) i ∷ rest i
 

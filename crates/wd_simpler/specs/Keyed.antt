@@ -63,20 +63,20 @@ origin below e = of_column (column_shown e)
     of_column None = shifted e
 
 -- the column of a plan that another one of its columns determines, being computed from it
-abbrev pub given_back : PlanTree → ℕ → Option ℕ
-given_back (Scan table columns) c = None
-given_back (Join condition left right) c = None
-given_back (Over (Map outputs) input) c = option_and_then (λ (d : ℕ). place_of d outputs) (option_and_then (origin (given_back input)) (slice_get outputs c))
-given_back (Over (Group rule) input) c = None
-given_back (Over (Window w) input) c = if nat_lt c (width input) then given_back input c else None
-given_back (Over (Limit limit) input) c = None
-given_back (Over step input) c = given_back input c
+abbrev pub source_column : PlanTree → ℕ → Option ℕ
+source_column (Scan table columns) c = None
+source_column (Join condition left right) c = None
+source_column (Over (Map outputs) input) c = option_and_then (λ (d : ℕ). place_of d outputs) (option_and_then (origin (source_column input)) (slice_get outputs c))
+source_column (Over (Group rule) input) c = None
+source_column (Over (Window w) input) c = if nat_lt c (width input) then source_column input c else None
+source_column (Over (Limit limit) input) c = None
+source_column (Over step input) c = source_column input c
 
 -- ---- sort keys
 
 -- the columns that sort keys determine, as sort keys
 abbrev pub added_keys : PlanTree → List SortColumn → List SortColumn
-added_keys input keys = flat_map (λ (item : SortColumn). option_to_list (option_map ascending (given_back input item.column))) keys
+added_keys input keys = flat_map (λ (item : SortColumn). option_to_list (option_map ascending (source_column input item.column))) keys
 
 -- sort keys, followed by the columns that they determine
 abbrev pub keyed : PlanTree → List SortColumn → List SortColumn

@@ -128,7 +128,7 @@ fn added_keys(
 {
     let mut added = Vec::new(alloc);
     for key in keys {
-        if let Some(column) = given_back(schema, input, key.column) {
+        if let Some(column) = source_column(schema, input, key.column) {
             added.push(ascending(column))?;
         }
     }
@@ -151,29 +151,29 @@ fn ascending(column: u16) -> SortColumn
 // ---- columns that others determine
 
 /// The column of a plan from which another one of its columns is computed, so that it can be computed back.
-fn given_back(schema: &Schema, plan: &Plan, column: u16) -> Option<u16>
+fn source_column(schema: &Schema, plan: &Plan, column: u16) -> Option<u16>
     requires { fits (schema_of schema.now) (plan_of plan.now) ≡ true }
-    ensures { result ≡ spec.given_back (plan_of plan.now) column }
+    ensures { result ≡ spec.source_column (plan_of plan.now) column }
 {
     match plan {
         Plan::Scan { .. } => None,
         Plan::Join { .. } => None,
-        Plan::Filter { input, .. } => given_back(schema, input, column),
+        Plan::Filter { input, .. } => source_column(schema, input, column),
         Plan::Map { input, outputs } => {
             let output = outputs.get(usize::from(column))?;
             let below = match column_shown(output) {
-                Some(shown) => given_back(schema, input, shown)?,
+                Some(shown) => source_column(schema, input, shown)?,
                 None => shifted_column(output)?,
             };
             place_of(below, outputs)
         }
         Plan::Group { .. } => None,
         Plan::Window { input, .. } => if u32::from(column) < input.width() {
-            given_back(schema, input, column)
+            source_column(schema, input, column)
         } else {
             None
         },
-        Plan::Distinct { input } => given_back(schema, input, column),
+        Plan::Distinct { input } => source_column(schema, input, column),
         Plan::Limit { .. } => None,
     }
 }

@@ -78,7 +78,7 @@ fn narrow_plan(
         }
         Plan::Map { input, outputs } => {
             let outputs = read_outputs(alloc, &read, outputs)?;
-            let below = used_by(alloc, &outputs)?;
+            let below = uses_of(alloc, &outputs)?;
             let input = narrow_plan(alloc, schema, Box::into_inner(input), below)?;
             Ok(Plan::Map {
                 input: Box::new(alloc, input)?,
@@ -190,7 +190,7 @@ fn right_of(
 }
 
 /// What is read below a Map.
-fn used_by(alloc: Global, outputs: &[Expr]) -> Result<Option<Set>, OutOfMemory>
+fn uses_of(alloc: Global, outputs: &[Expr]) -> Result<Option<Set>, OutOfMemory>
     ensures { IfOk result (λ o. (c : ℕ) → read_of o c ≡ has (flat_map used (map expression_of outputs.now)) c) }
 {
     let mut set = Set::new(alloc);

@@ -265,12 +265,12 @@ abbrev pub group_key_facts : GroupRule → List Fact
 group_key_facts g = if are_told_apart (grouping_arguments g.calls) g.sets then key_fact member.Row (group_key g) ∷ [] else []
 
 -- from a fact whose left side is among the first columns, its targets that are such columns or the row
-abbrev pub cut_fact : ℕ → Fact → List Fact
-cut_fact columns fact = if list_all (is_column columns) fact.from then record { from = fact.from; to = filter (is_plain columns) fact.to } ∷ [] else []
+abbrev pub restrict_fact : ℕ → Fact → List Fact
+restrict_fact columns fact = if list_all (is_column columns) fact.from then record { from = fact.from; to = filter (is_plain columns) fact.to } ∷ [] else []
 
 -- with one set, the facts of the grouping columns that the child keeps
 abbrev pub facts_of_group : GroupRule → List Fact → List Fact
-facts_of_group g kept = if nat_eq (length g.sets) 1 then flat_map (cut_fact g.columns) kept else []
+facts_of_group g kept = if nat_eq (length g.sets) 1 then flat_map (restrict_fact g.columns) kept else []
 
 -- a call whose values are never NULL: COUNT and GROUPING
 abbrev pub is_group_call_not_null : Option GroupCall → Bool

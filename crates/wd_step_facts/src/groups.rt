@@ -91,7 +91,7 @@ fn are_columns(columns: u16, list: &[Member]) -> bool
 }
 
 /// The members that are one of the first `columns` columns or the row.
-pub fn cut_members(alloc: Global, columns: u16, list: &[Member]) -> Result<Vec<Member>, OutOfMemory>
+pub fn restrict_members(alloc: Global, columns: u16, list: &[Member]) -> Result<Vec<Member>, OutOfMemory>
     ensures { IfOk result (λ v. v.items ≡ filter (facts_spec.is_plain columns) list.now) }
 {
     let mut cut = Vec::new(alloc);
@@ -110,11 +110,11 @@ fn add_cut_fact(
     fact: &Given,
     list: &mut Vec<Given>,
 ) -> Result<(), OutOfMemory>
-    ensures { IfOk result (λ _. map fact_of list.new.items ≡ map fact_of list.old.items ++ spec.cut_fact columns (fact_of fact.now)) }
+    ensures { IfOk result (λ _. map fact_of list.new.items ≡ map fact_of list.old.items ++ spec.restrict_fact columns (fact_of fact.now)) }
 {
     if are_columns(columns, &fact.from) {
         let from = Vec::from_slice(alloc, &fact.from)?;
-        let to = cut_members(alloc, columns, &fact.to)?;
+        let to = restrict_members(alloc, columns, &fact.to)?;
         list.push(Given { from, to })?;
     }
     Ok(())

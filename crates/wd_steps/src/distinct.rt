@@ -83,15 +83,15 @@ fn sorted_rows(alloc: Global, rows: &RowSource) -> Result<Vec<u64>, OutOfMemory>
     let width = rows.width(0);
     if width <= 65536 && have_width(rows, width) {
         let columns = ascending_columns(alloc, width)?;
-        let order = sorted_by_values(alloc, rows, &columns)?;
+        let order = sort_by_values(alloc, rows, &columns)?;
         Ok(order)
     } else {
-        sorted_by_rows(alloc, rows)
+        sort_by_rows(alloc, rows)
     }
 }
 
 /// The positions of rows that have just these columns, sorted by all of them, which takes a column's values together.
-fn sorted_by_values(
+fn sort_by_values(
     alloc: Global,
     rows: &RowSource,
     columns: &[SortColumn],
@@ -119,7 +119,7 @@ fn ascending_columns(alloc: Global, count: usize) -> Result<Vec<SortColumn>, Out
 }
 
 /// The positions of rows of any widths, compared row by row.
-fn sorted_by_rows(alloc: Global, rows: &RowSource) -> Result<Vec<u64>, OutOfMemory>
+fn sort_by_rows(alloc: Global, rows: &RowSource) -> Result<Vec<u64>, OutOfMemory>
     ensures { IfOk result (λ v. IsRowSort rows.now v.items) }
 {
     let mut order = all_positions(alloc, rows.len())?;

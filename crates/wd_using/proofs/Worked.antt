@@ -7,11 +7,11 @@ use Rattle.wd_using.specs.Examples.{UsingComesOut}
 use Rattle.wd_using.specs.Joins.{joined_tables, source_at, table_at}
 use Rattle.wd_using.specs.Pieces.{pieces_at}
 use Rattle.wd_using.specs.Reach as level
-use Rattle.wd_using.specs.Respelled.{respelled_at}
+use Rattle.wd_using.specs.Respelled.{respell_at}
 use Rattle.wd_using.specs.Written.{qualified}
 
 pub using_comes_out : UsingComesOut
-unfolding parts_at closing_from reach_from joined_tables source_at table_at pieces_at level.reach_from respelled_at respelled_below qualified
+unfolding parts_at closing_from reach_from joined_tables source_at table_at pieces_at level.reach_from respell_at respelled_below qualified
 using_comes_out = record {
   one = λ at. refl;
   two = λ at. refl;

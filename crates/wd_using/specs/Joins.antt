@@ -163,8 +163,8 @@ with_source join tokens None = None
 with_source join tokens (Some source) = with_condition join (take source.alias.count tokens) source.alias.name source.columns (condition_at source.alias.name (drop source.alias.count tokens))
 
 -- a table, its alias, and its condition
-abbrev pub joined_at : List TableRule → Token → List Token → Option JoinedTable
-joined_at tables join tokens = with_source join tokens (source_at tables tokens)
+abbrev pub join_at : List TableRule → Token → List Token → Option JoinedTable
+join_at tables join tokens = with_source join tokens (source_at tables tokens)
 
 abbrev pub with_after : List Token → Option JoinedTable → Option (JoinedTable × List Token)
 with_after following None = None
@@ -173,7 +173,7 @@ with_after following (Some table) = Some (table, following)
 -- FROM or JOIN, a table with its condition, and the tokens after it
 unfoldable pub table_at : List TableRule → List Token → Option (JoinedTable × List Token)
 table_at tables [] = None
-table_at tables (join ∷ tokens) = if begins_table join.kind then with_after (drop (reach Table tokens) tokens) (joined_at tables join (take (reach Table tokens) tokens)) else None
+table_at tables (join ∷ tokens) = if begins_table join.kind then with_after (drop (reach Table tokens) tokens) (join_at tables join (take (reach Table tokens) tokens)) else None
 
 -- the most tables of a FROM clause (this project's choice)
 abbrev pub most_tables : ℕ

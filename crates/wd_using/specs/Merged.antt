@@ -40,9 +40,9 @@ with_merged name None merged = None
 with_merged name (Some table) merged = with_front (record { name = name; table = table }) merged
 
 -- the merged columns of these names, if each is clear
-abbrev pub merged_of : List JoinedTable → List Token → Option (List MergedColumn)
-merged_of tables [] = Some []
-merged_of tables (name ∷ names) = with_merged name (first_with name.kind tables) (merged_of tables names)
+abbrev pub merge_of : List JoinedTable → List Token → Option (List MergedColumn)
+merge_of tables [] = Some []
+merge_of tables (name ∷ names) = with_merged name (first_with name.kind tables) (merge_of tables names)
 
 -- the columns of each USING
 abbrev pub names_in : List JoinedTable → List Token

@@ -8,11 +8,11 @@ use Rattle.wd_schema.specs.Tables.{TableRule}
 use Rattle.wd_clauses.specs.declared.error.RespellError.{RespellError}
 use Rattle.wd_distinct_on.specs.Kinds.{begins, is_select}
 use Rattle.wd_distinct_on.specs.Respelled.{◌>>=◌}
-use Rattle.wd_distinct_on.specs.Selects.{respelled_backwards}
+use Rattle.wd_distinct_on.specs.Selects.{respell_backwards}
 use Rattle.wd_with.specs.Derived.{goes_on}
 use Rattle.wd_using.specs.Kinds.{begins_columns, ends_value, is_star}
 use Rattle.wd_using.specs.Joins.{JoinedTable, joined_tables, most_tables}
-use Rattle.wd_using.specs.Merged.{MergedColumn, merged_of, names_in, table_of}
+use Rattle.wd_using.specs.Merged.{MergedColumn, merge_of, names_in, table_of}
 use Rattle.wd_using.specs.Pieces.{Pieces, select_at}
 use Rattle.wd_using.specs.Written.{written}
 
@@ -47,15 +47,15 @@ abbrev pub if_clear : List Token → Pieces → List JoinedTable → List Merged
 if_clear front select tables merged = if are_few merged && are_clear merged select.select.kind select.items then Some (front ++ written merged tables select) else None
 
 abbrev pub with_tables : List Token → Pieces → List JoinedTable → Option (List Token)
-with_tables front select tables = merged_of tables (names_in tables) >>= λ merged. if_clear front select tables merged
+with_tables front select tables = merge_of tables (names_in tables) >>= λ merged. if_clear front select tables merged
 
 -- what replaces a select after these tokens
 abbrev pub respelled_select : List TableRule → List Token → Pieces → Option (List Token)
 respelled_select schema front select = joined_tables schema most_tables select.tables >>= λ tables. with_tables front select tables
 
 -- a query in which the select that begins at a place is respelled
-unfoldable pub respelled_at : List TableRule → ℕ → List Token → Option (List Token)
-respelled_at schema place tokens = select_at (drop place tokens) >>= λ select. respelled_select schema (take place tokens) select
+unfoldable pub respell_at : List TableRule → ℕ → List Token → Option (List Token)
+respell_at schema place tokens = select_at (drop place tokens) >>= λ select. respelled_select schema (take place tokens) select
 
 -- the most selects that are looked at (this project's choice)
 abbrev pub most_selects : ℕ
@@ -63,4 +63,4 @@ most_selects = 128
 
 -- a query without USING
 abbrev pub respelled : List TableRule → List Token → Result (List Token) RespellError
-respelled schema tokens = respelled_backwards (begins is_select) (respelled_at schema) most_selects tokens
+respelled schema tokens = respell_backwards (begins is_select) (respell_at schema) most_selects tokens

@@ -130,13 +130,13 @@ fn condition_at<'t>(
 }
 
 /// A table, its alias, and its condition, after FROM or JOIN.
-fn joined_at<'t>(
+fn join_at<'t>(
     alloc: Global,
     schema: &'t Schema,
     join: &'t Token,
     tokens: &'t [Token],
 ) -> Result<Option<Joined<'t>>, AllocError>
-    ensures { IfOk result (λ found. Finds named.joined_table found (spec.joined_at (schema_of schema.now) join.now tokens.now)) }
+    ensures { IfOk result (λ found. Finds named.joined_table found (spec.join_at (schema_of schema.now) join.now tokens.now)) }
 {
     let Some(Source { columns, alias }) = source_at(alloc, schema, tokens)? else {
         return Ok(None);
@@ -170,7 +170,7 @@ fn table_at<'t>(
         return Ok(None);
     }
     let (part, following) = split_at(Extent::Table, rest);
-    match joined_at(alloc, schema, join, part)? {
+    match join_at(alloc, schema, join, part)? {
         Some(table) => Ok(Some((table, following))),
         None => Ok(None),
     }

@@ -85,12 +85,12 @@ fn first_with<'t>(name: &TokenKind, tables: &[Joined<'t>]) -> Option<&'t Token>
 }
 
 /// The merged columns of these names, if each is clear.
-pub fn merged_of<'t>(
+pub fn merge_of<'t>(
     alloc: Global,
     tables: &[Joined<'t>],
     names: &[&'t Token],
 ) -> Result<Option<Vec<Merged<'t>>>, AllocError>
-    ensures { IfOk result (λ found. Finds (λ x. map merged_column x.items) found (spec.merged_of (map joined_table tables.now) (map (λ name. name.now) names.now))) }
+    ensures { IfOk result (λ found. Finds (λ x. map merged_column x.items) found (spec.merge_of (map joined_table tables.now) (map (λ name. name.now) names.now))) }
 {
     let mut merged = Vec::new(alloc);
     let mut rest = names;

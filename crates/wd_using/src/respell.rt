@@ -9,12 +9,12 @@ ghost use Rattle.wd_using.specs.Respelled as spec;
 
 use crate::join::{Joined, joined_tables};
 use crate::kind::{begins_columns, ends_value, goes_on, is_star};
-use crate::merge::{Merged, merged_of, names_in, table_of};
+use crate::merge::{Merged, merge_of, names_in, table_of};
 use crate::select::{Select, select_at};
 use crate::write::write_select;
 use std::alloc::Global;
 use wd_clauses::RespellError;
-use wd_distinct_on::{Selects, respelled_backwards, split_at_place, starts_with_select};
+use wd_distinct_on::{Selects, respell_backwards, split_at_place, starts_with_select};
 use wd_lex::{Token, TokenKind};
 use wd_schema::Schema;
 
@@ -95,7 +95,7 @@ fn with_tables(
     ensures { MayWrite (λ x. x.items) result (spec.with_tables front.now (pieces select.now) (map joined_table tables.now)) }
 {
     let names = names_in(alloc, tables)?;
-    match merged_of(alloc, tables, &names)? {
+    match merge_of(alloc, tables, &names)? {
         Some(merged) => {
             let tokens = if_clear(alloc, front, select, tables, &merged)?;
             Ok(tokens)
@@ -123,14 +123,14 @@ fn respelled_select(
 }
 
 /// The query in which the select that begins at a place is respelled.
-#[tactic(auto, unfolding(crate::specs::Respelled::respelled_at))]
-fn respelled_at(
+#[tactic(auto, unfolding(crate::specs::Respelled::respell_at))]
+fn respell_at(
     alloc: Global,
     schema: &Schema,
     place: usize,
     tokens: &[Token],
 ) -> Result<Option<Vec<Token>>, RespellError>
-    ensures { MayWrite (λ x. x.items) result (spec.respelled_at (schema_of schema.now) place tokens.now) }
+    ensures { MayWrite (λ x. x.items) result (spec.respell_at (schema_of schema.now) place tokens.now) }
 {
     let (front, rest) = split_at_place(place, tokens);
     match select_at(rest) {
@@ -155,19 +155,19 @@ impl<'s> Selects for Using<'s> {
 
     ghost starts = { λ _. begins is_select };
 
-    ghost respelled = { λ using. spec.respelled_at (schema_of using.schema.now) };
+    ghost respelled = { λ using. spec.respell_at (schema_of using.schema.now) };
 
     fn begins(&self, tokens: &[Token]) -> bool {
         starts_with_select(tokens)
     }
 
-    fn respelled_at(
+    fn respell_at(
         &self,
         alloc: Global,
         place: usize,
         tokens: &[Token],
     ) -> Result<Option<Vec<Token>>, RespellError> {
-        respelled_at(alloc, self.schema, place, tokens)
+        respell_at(alloc, self.schema, place, tokens)
     }
 }
 
@@ -179,5 +179,5 @@ pub fn without_using(
 ) -> Result<Vec<Token>, RespellError>
     ensures { Gives (λ x. x.items) result (spec.respelled (schema_of schema.now) tokens.now) }
 {
-    respelled_backwards(alloc, &Using { schema }, MOST_SELECTS, tokens)
+    respell_backwards(alloc, &Using { schema }, MOST_SELECTS, tokens)
 }

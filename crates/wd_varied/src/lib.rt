@@ -21,6 +21,6 @@ mod work;
 pub use conditions::{Compared, Equated};
 pub use pools::Suggested;
 pub use size::{pair_count, sizes};
-pub use suggested::suggested_by;
+pub use suggested::collect_suggested;
 pub use tables::vary;
 pub use work::row_work;

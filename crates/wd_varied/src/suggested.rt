@@ -20,7 +20,7 @@ use wd_value::{ColumnType, OutOfMemory, Value};
 const MOST_LITERALS: usize = 64;
 
 /// What a plan suggests for the columns of tables, by its literals and by the columns that it equates.
-pub fn suggested_by(alloc: Global, plan: &Plan) -> Result<Suggested, OutOfMemory>
+pub fn collect_suggested(alloc: Global, plan: &Plan) -> Result<Suggested, OutOfMemory>
     ensures { IfOk result (IsSuggested (plan_of plan.now)) }
 {
     let mut found = Conditions {

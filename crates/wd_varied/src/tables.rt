@@ -18,7 +18,7 @@ use crate::place::{Place, differs, source, suggestions};
 use crate::pools::Suggested;
 use crate::suggested::values_for;
 use std::alloc::Global;
-use wd_candidates::{Outline, fixed_at, fixed_columns, is_marked};
+use wd_candidates::{Outline, value_if_fixed, fixed_columns, is_marked};
 use wd_schema::{Column, Key, Schema, Table};
 use wd_value::{Instance, OutOfMemory, Row, Value};
 
@@ -151,7 +151,7 @@ fn filled_row(
         let value = cell(
             alloc,
             suggested,
-            fixed_at(fixed, c),
+            value_if_fixed(fixed, c),
             &fillings[c],
             rows,
             row,

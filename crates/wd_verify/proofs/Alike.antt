@@ -10,7 +10,7 @@ use Rattle.wd_certificate.specs.Certificates.{KeptRecord, NodeRecord, TraceRecor
 use Rattle.wd_step_facts.specs.declared.facts.Member.{Member}
 use Rattle.wd_step_facts.specs.declared.facts.Member.TheVariants as member
 use Rattle.wd_step_facts.specs.Facts.{Fact, FactList, columns_named, is_column, is_plain, key_fact, moved, moved_facts}
-use Rattle.wd_step_facts.specs.Steps.{all_columns, cut_fact, facts_of_group}
+use Rattle.wd_step_facts.specs.Steps.{all_columns, restrict_fact, facts_of_group}
 use Rattle.wd_facts.specs.Given.{given}
 use Rattle.wd_rules.specs.Rules.{kept_fact, kept_facts, trace_or}
 use Rattle.wd_verify.specs.Lean.{columns_once, lean_entry, lean_kept, lean_trace}
@@ -44,11 +44,11 @@ alike_moved by row (f ∷ fs) [] a = absurd a
 alike_moved by row (f ∷ fs) (g ∷ gs) a =
     (record { from = alike_map (moved by row) f.from g.from a.0.from; to = alike_map (moved by row) f.to g.to a.0.to }, alike_moved by row fs gs a.1)
 
-alike_cut : (columns : ℕ) (fs gs : List Fact) → AreAlike fs gs → AreAlike (flat_map (cut_fact columns) fs) (flat_map (cut_fact columns) gs)
+alike_cut : (columns : ℕ) (fs gs : List Fact) → AreAlike fs gs → AreAlike (flat_map (restrict_fact columns) fs) (flat_map (restrict_fact columns) gs)
 alike_cut columns [] [] a = tt
 alike_cut columns [] (g ∷ gs) a = absurd a
 alike_cut columns (f ∷ fs) [] a = absurd a
-alike_cut columns (f ∷ fs) (g ∷ gs) a = alike_append (cut_fact columns f) (cut_fact columns g) _ _ (by _ _ (a.0.from (is_column columns))) (alike_cut columns fs gs a.1)
+alike_cut columns (f ∷ fs) (g ∷ gs) a = alike_append (restrict_fact columns f) (restrict_fact columns g) _ _ (by _ _ (a.0.from (is_column columns))) (alike_cut columns fs gs a.1)
   where
     cut : Fact → Fact
     cut x = record { from = x.from; to = filter (is_plain columns) x.to }
@@ -62,7 +62,7 @@ alike_cut columns (f ∷ fs) (g ∷ gs) a = alike_append (cut_fact columns f) (c
 alike_of_group : (g : GroupRule) (fs gs : List Fact) → AreAlike fs gs → AreAlike (facts_of_group g fs) (facts_of_group g gs)
 alike_of_group g fs gs a = by (nat_eq (length g.sets) 1)
   where
-    by : (b : Bool) → AreAlike (cond b (flat_map (cut_fact g.columns) fs) []) (cond b (flat_map (cut_fact g.columns) gs) [])
+    by : (b : Bool) → AreAlike (cond b (flat_map (restrict_fact g.columns) fs) []) (cond b (flat_map (restrict_fact g.columns) gs) [])
     by true = alike_cut g.columns fs gs a
     by false = tt
 

@@ -20,19 +20,19 @@ use wd_plan::Plan;
 use wd_schema::Schema;
 
 /// How many of the entries are left when each node of the plan has taken one; `None` where there are too few.
-pub(crate) fn left_over(plan: &Plan, entries: usize) -> Option<usize>
+pub(crate) fn entries_left(plan: &Plan, entries: usize) -> Option<usize>
     ensures enough { IfSome result (λ n. n + node_count (plan_of plan.now) ≡ entries) }
     ensures few { IfNone result (entries < node_count (plan_of plan.now)) }
 {
     let left = match plan {
         Plan::Scan { .. } => entries,
-        Plan::Join { left, right, .. } => left_over(right, left_over(left, entries)?)?,
+        Plan::Join { left, right, .. } => entries_left(right, entries_left(left, entries)?)?,
         Plan::Filter { input, .. }
         | Plan::Map { input, .. }
         | Plan::Group { input, .. }
         | Plan::Window { input, .. }
         | Plan::Distinct { input }
-        | Plan::Limit { input, .. } => left_over(input, entries)?,
+        | Plan::Limit { input, .. } => entries_left(input, entries)?,
     };
     left.checked_sub(1)
 }

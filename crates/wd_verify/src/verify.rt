@@ -10,7 +10,7 @@ ghost use Rattle.wd_rules.specs.Validity.{IsValidCertificate, entries_refusal, f
 ghost use Rattle.wd_verify.specs.Shown.{refusal_of};
 
 use crate::evidence::refuse_unless;
-use crate::nodes::{Checked, check_nodes, left_over, look_over};
+use crate::nodes::{Checked, check_nodes, entries_left, look_over};
 use std::alloc::Global;
 use wd_certificate::{CertError, Certificate, Node};
 use wd_plan::Plan;
@@ -21,7 +21,7 @@ use wd_schema::Schema;
 fn check_form(plan: &Plan, nodes: &[Node]) -> Result<(), CertError>
     ensures { refusal_of result ≡ form_refusal (plan_of plan.now) (map node_of nodes.now) }
 {
-    if left_over(plan, nodes.len()) != Some(0) {
+    if entries_left(plan, nodes.len()) != Some(0) {
         return Err(CertError::Count);
     }
     let seen = look_over(plan, nodes, 0);

@@ -13,4 +13,4 @@ add_unions-requires c =
     let tables = schema_of c.args.schema.now in
     let f = subst (λ p. fits tables (plan_of p) ≡ true) c.in-Join.is c.requires.fits in
     let named = subst (λ p. AreOfChildren (plan_of p) (kept_by c.args.kept.now 0) (kept_by c.args.kept.now 1)) c.in-Join.is c.requires.kept in
-    rw (c.kept_of-second.ensures, c.width.ensures, c.deref.ensures) (right_kept tables (option_map expression_of c.in-Join.condition) (plan_of c.in-Join.left.value) (plan_of c.in-Join.right.value) f (kept_by c.args.kept.now 1) named.1)
+    rw (c.facts_of_child-second.ensures, c.width.ensures, c.deref.ensures) (right_kept tables (option_map expression_of c.in-Join.condition) (plan_of c.in-Join.left.value) (plan_of c.in-Join.right.value) f (kept_by c.args.kept.now 1) named.1)

@@ -6,13 +6,13 @@ use Rattle.wd_candidates.specs.Outlines.{AreTiedBy}
 use Rattle.wd_candidates.proofs.Walks.{found_narrow, ordered_found, ordered_none}
 use Rattle.wd_candidates.proofs.tied.tied_columns.Goals as goal
 
-pub tied_at-requires : goal.tied_at-requires
-tied_at-requires c = found_narrow (schema_of c.args.schema.now) (plan_of c.args.plan.now) c.args.node (plan_of c.in-Ok.found.now) c.requires (sym c.in-Ok.ensures)
+pub ties_at-requires : goal.ties_at-requires
+ties_at-requires c = found_narrow (schema_of c.args.schema.now) (plan_of c.args.plan.now) c.args.node (plan_of c.in-Ok.found.now) c.requires (sym c.in-Ok.ensures)
 
 pub returns-in-Ok : goal.returns-in-Ok
 returns-in-Ok c =
     let same = ordered_found (plan_of c.args.plan.now) c.args.node c.args.call (plan_of c.in-Ok.found.now) (sym c.in-Ok.ensures) in
-    subst (λ o. IfOk c.tied_at.result (AreTiedBy (schema_of c.args.schema.now) o)) (sym same) c.tied_at.ensures
+    subst (λ o. IfOk c.ties_at.result (AreTiedBy (schema_of c.args.schema.now) o)) (sym same) c.ties_at.ensures
 
 pub returns-in-Err : goal.returns-in-Err
 returns-in-Err c =

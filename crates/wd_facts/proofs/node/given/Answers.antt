@@ -18,14 +18,14 @@ facts_of_sides-requires-clause-left c =
     let tables = schema_of c.args.schema.now in
     let f = subst (λ p. fits tables (plan_of p) ≡ true) c.in-Join.is c.requires.fits in
     let named = subst (λ p. AreOfChildren (plan_of p) (kept_by c.args.kept.now 0) (kept_by c.args.kept.now 1)) c.in-Join.is c.requires.named in
-    rw c.kept_of-first.ensures (left_kept tables (option_map expression_of c.in-Join.condition) (plan_of c.in-Join.left.value) (plan_of c.in-Join.right.value) f (kept_by c.args.kept.now 0) named.0)
+    rw c.facts_of_child-first.ensures (left_kept tables (option_map expression_of c.in-Join.condition) (plan_of c.in-Join.left.value) (plan_of c.in-Join.right.value) f (kept_by c.args.kept.now 0) named.0)
 
 pub facts_of_sides-requires-clause-right : goal.facts_of_sides-requires-clause-right
 facts_of_sides-requires-clause-right c =
     let tables = schema_of c.args.schema.now in
     let f = subst (λ p. fits tables (plan_of p) ≡ true) c.in-Join.is c.requires.fits in
     let named = subst (λ p. AreOfChildren (plan_of p) (kept_by c.args.kept.now 0) (kept_by c.args.kept.now 1)) c.in-Join.is c.requires.named in
-    rw (c.kept_of-second.ensures, c.width.ensures, c.deref.ensures) (right_kept tables (option_map expression_of c.in-Join.condition) (plan_of c.in-Join.left.value) (plan_of c.in-Join.right.value) f (kept_by c.args.kept.now 1) named.1)
+    rw (c.facts_of_child-second.ensures, c.width.ensures, c.deref.ensures) (right_kept tables (option_map expression_of c.in-Join.condition) (plan_of c.in-Join.left.value) (plan_of c.in-Join.right.value) f (kept_by c.args.kept.now 1) named.1)
 
 pub width-requires-in-Filter : goal.width-requires-in-Filter
 width-requires-in-Filter c =
@@ -40,7 +40,7 @@ map_facts-requires-clause-kept c =
     let named = subst (λ p. AreOfChildren (plan_of p) (kept_by c.args.kept.now 0) (kept_by c.args.kept.now 1)) c.in-Map.is c.requires.named in
     let outputs = map expression_of c.in-Map.outputs.items in
     let kept = input_kept tables outputs (plan_of c.in-Map.input.value) f (kept_by c.args.kept.now 0) named in
-    rw (c.kept_of-first.ensures, c.deref-in-Map.ensures.value) (subst (λ n. list_all (is_plain_fact (65536 - n)) (kept_by c.args.kept.now 0) ≡ true) (length-map c.in-Map.outputs.items expression_of) kept)
+    rw (c.facts_of_child-first.ensures, c.deref-in-Map.ensures.value) (subst (λ n. list_all (is_plain_fact (65536 - n)) (kept_by c.args.kept.now 0) ≡ true) (length-map c.in-Map.outputs.items expression_of) kept)
 
 pub map_facts-requires-clause-used : goal.map_facts-requires-clause-used
 map_facts-requires-clause-used c =
@@ -77,7 +77,7 @@ window_facts-requires-clause-named c =
 
 pub returns-in_ok-add_keys_of_sides-in-Join : goal.returns-in_ok-add_keys_of_sides-in-Join
 returns-in_ok-add_keys_of_sides-in-Join c =
-    rw (c.split.ensures, c.in_ok-add_keys_of_sides-in-Join.ensures, c.in_ok-list-in-Join.ensures, c.kept_of-first.ensures, c.kept_of-second.ensures, c.width.ensures, c.width-in-Join.ensures, c.width-in-Join-2.ensures, c.deref.ensures, c.deref-in-Join.ensures, c.deref-in-Join-2.ensures, c.deref-in-Join-3.ensures, c.in-Join.is) refl
+    rw (c.split.ensures, c.in_ok-add_keys_of_sides-in-Join.ensures, c.in_ok-list-in-Join.ensures, c.facts_of_child-first.ensures, c.facts_of_child-second.ensures, c.width.ensures, c.width-in-Join.ensures, c.width-in-Join-2.ensures, c.deref.ensures, c.deref-in-Join.ensures, c.deref-in-Join-2.ensures, c.deref-in-Join-3.ensures, c.in-Join.is) refl
 
 pub overflow_add-len : goal.overflow_add-len
 overflow_add-len c =

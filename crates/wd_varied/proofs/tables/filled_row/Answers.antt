@@ -12,7 +12,7 @@ loop-c-preserved c =
     let f = c.index-fillings-c.result in
     let within : at < length fillings = search rules in
     let named = ap (filling_of c.args.suggested.now.all.items) c.index-fillings-c.is ∙ sym (get_or-map (filling_of c.args.suggested.now.all.items) fillings at f (filling_of c.args.suggested.now.all.items f) within) in
-    let value = c.in_ok-value.ensures ∙ (λ j. cell (c.fixed_at.ensures j) (filled (filling_of c.args.suggested.now.all.items f) c.args.rows c.args.row)) in
+    let value = c.in_ok-value.ensures ∙ (λ j. cell (c.value_if_fixed.ensures j) (filled (filling_of c.args.suggested.now.all.items f) c.args.rows c.args.row)) in
     let next = place_next _ c.loop-c.made.items _ (map (filling_of c.args.suggested.now.all.items) fillings) at (filling_of c.args.suggested.now.all.items f) c.in_ok-value.value (subst (λ n. at < n) (sym (length-map fillings (filling_of c.args.suggested.now.all.items))) within) named value c.loop-c.invariant in
     rw c.in_ok-push.ensures.items next
 
