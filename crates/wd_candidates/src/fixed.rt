@@ -194,7 +194,8 @@ pub(crate) fn add_plan_fixings(
             add_calls(&window.calls, &mut origins)?;
             Ok(origins)
         }
-        Plan::Distinct { input } => add_plan_fixings(alloc, input, list),
-        Plan::Limit { input, .. } => add_plan_fixings(alloc, input, list),
+        Plan::Distinct { input } | Plan::Limit { input, .. } => add_plan_fixings(
+            alloc, input, list,
+        ),
     }
 }

@@ -19,6 +19,6 @@ pub use origins::{
     TableColumn, group_origins, origin_in, output_origins, table_origins, window_origins,
 };
 pub use outline::{Outline, outline_of};
-pub use rows::{candidate, value_if_fixed, fixed_columns, keyed_columns};
+pub use rows::{candidate, fixed_columns, keyed_columns, value_if_fixed};
 pub use shape::{Shape, Style, shapes};
 pub use tied::{TiedColumns, tied_columns};

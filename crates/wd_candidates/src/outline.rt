@@ -52,12 +52,12 @@ fn mark_scanned(plan: &Plan, scanned: &mut [bool])
             mark_scanned(left, scanned);
             mark_scanned(right, scanned);
         }
-        Plan::Filter { input, .. } => mark_scanned(input, scanned),
-        Plan::Map { input, .. } => mark_scanned(input, scanned),
-        Plan::Group { input, .. } => mark_scanned(input, scanned),
-        Plan::Window { input, .. } => mark_scanned(input, scanned),
-        Plan::Distinct { input } => mark_scanned(input, scanned),
-        Plan::Limit { input, .. } => mark_scanned(input, scanned),
+        Plan::Filter { input, .. }
+        | Plan::Map { input, .. }
+        | Plan::Group { input, .. }
+        | Plan::Window { input, .. }
+        | Plan::Distinct { input }
+        | Plan::Limit { input, .. } => mark_scanned(input, scanned),
     }
 }
 

@@ -61,12 +61,12 @@ fn find_node(plan: &Plan, number: u64) -> Result<&Plan, u64>
             Ok(node) => Ok(node),
             Err(more) => or_own(plan, find_node(right, more)),
         },
-        Plan::Filter { input, .. } => or_own(plan, find_node(input, number)),
-        Plan::Map { input, .. } => or_own(plan, find_node(input, number)),
-        Plan::Group { input, .. } => or_own(plan, find_node(input, number)),
-        Plan::Window { input, .. } => or_own(plan, find_node(input, number)),
-        Plan::Distinct { input } => or_own(plan, find_node(input, number)),
-        Plan::Limit { input, .. } => or_own(plan, find_node(input, number)),
+        Plan::Filter { input, .. }
+        | Plan::Map { input, .. }
+        | Plan::Group { input, .. }
+        | Plan::Window { input, .. }
+        | Plan::Distinct { input }
+        | Plan::Limit { input, .. } => or_own(plan, find_node(input, number)),
     }
 }
 
@@ -194,7 +194,7 @@ fn mark_sources(
             mark_sources(alloc, right, of_right, tables)?;
             Ok(())
         }
-        Plan::Filter { input, .. } => {
+        Plan::Filter { input, .. } | Plan::Distinct { input } | Plan::Limit { input, .. } => {
             mark_sources(alloc, input, wanted, tables)?;
             Ok(())
         }
@@ -211,14 +211,6 @@ fn mark_sources(
         Plan::Window { input, window } => {
             let used = uses_of_calls(alloc, input, window, wanted)?;
             mark_sources(alloc, input, &used, tables)?;
-            Ok(())
-        }
-        Plan::Distinct { input } => {
-            mark_sources(alloc, input, wanted, tables)?;
-            Ok(())
-        }
-        Plan::Limit { input, .. } => {
-            mark_sources(alloc, input, wanted, tables)?;
             Ok(())
         }
     }

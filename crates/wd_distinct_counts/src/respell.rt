@@ -13,9 +13,7 @@ use crate::select::{Grouping, grouping_of};
 use crate::write::write_select;
 use std::alloc::{AllocError, Global};
 use wd_clauses::{RespellError, parts};
-use wd_distinct_on::{
-    Selects, added_name, respell_backwards, split_at_place, starts_with_select,
-};
+use wd_distinct_on::{Selects, added_name, respell_backwards, split_at_place, starts_with_select};
 use wd_grouping::{is_column, one_table, tables_called};
 use wd_lex::Token;
 use wd_using::{Select, select_at};

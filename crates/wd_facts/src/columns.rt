@@ -149,7 +149,6 @@ pub(crate) fn is_not_null(plan: &Plan, schema: &Schema, column: u16) -> bool
                 is_call_not_null(&window.calls, column - width(input))
             }
         }
-        Plan::Distinct { input } => is_not_null(input, schema, column),
-        Plan::Limit { input, .. } => is_not_null(input, schema, column),
+        Plan::Distinct { input } | Plan::Limit { input, .. } => is_not_null(input, schema, column),
     }
 }

@@ -81,15 +81,15 @@ pub(crate) fn nullable_keys(
     match plan {
         Plan::Scan { table, .. } => table_null_keys(alloc, schema, *table),
         Plan::Join { .. } => Ok(Vec::new(alloc)),
-        Plan::Filter { input, .. } => nullable_keys(alloc, input, schema),
+        Plan::Filter { input, .. }
+        | Plan::Window { input, .. }
+        | Plan::Distinct { input }
+        | Plan::Limit { input, .. } => nullable_keys(alloc, input, schema),
         Plan::Map { input, outputs } => {
             let keys = nullable_keys(alloc, input, schema)?;
             copied_keys(alloc, outputs, &keys)
         }
         Plan::Group { .. } => Ok(Vec::new(alloc)),
-        Plan::Window { input, .. } => nullable_keys(alloc, input, schema),
-        Plan::Distinct { input } => nullable_keys(alloc, input, schema),
-        Plan::Limit { input, .. } => nullable_keys(alloc, input, schema),
     }
 }
 

@@ -23,7 +23,7 @@ use wd_plan::Plan;
 use wd_schema::Schema;
 use wd_seek::try_candidate;
 use wd_value::OutOfMemory;
-use wd_varied::{Suggested, pair_count, row_work, sizes, collect_suggested, vary};
+use wd_varied::{Suggested, collect_suggested, pair_count, row_work, sizes, vary};
 use wd_witness_text::Witness;
 
 /// The most tries of all sizes together in one turn.

@@ -13,9 +13,7 @@ use crate::source::{OneTable, one_table, tables_called};
 use crate::write::{write_over_tables, write_select};
 use std::alloc::Global;
 use wd_clauses::{RespellError, parts};
-use wd_distinct_on::{
-    Selects, added_name, respell_backwards, split_at_place, starts_with_select,
-};
+use wd_distinct_on::{Selects, added_name, respell_backwards, split_at_place, starts_with_select};
 use wd_lex::Token;
 use wd_using::select_at;
 

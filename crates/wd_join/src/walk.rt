@@ -97,7 +97,11 @@ const ASCENDING: SortKey = SortKey {
     nulls_first: false,
 };
 
-fn sort_numbers(alloc: Global, rows: &RowSource, keys: &[SortColumn]) -> Result<Vec<u64>, OutOfMemory>
+fn sort_numbers(
+    alloc: Global,
+    rows: &RowSource,
+    keys: &[SortColumn],
+) -> Result<Vec<u64>, OutOfMemory>
     ensures { IfOk result (λ v. IsSortedBy keys.now rows.now v.items) }
 {
     let all = all_positions(alloc, rows.len())?;

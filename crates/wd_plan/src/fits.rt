@@ -68,7 +68,8 @@ impl Plan {
         match self {
             Plan::Scan { columns, .. } => u32::from(*columns),
             Plan::Join { left, right, .. } => left.width().saturating_add(right.width()),
-            Plan::Filter { input, .. } => input.width(),
+            Plan::Filter { input, .. } | Plan::Distinct { input } | Plan::Limit { input, .. } =>
+                input.width(),
             Plan::Map { outputs, .. } => saturate(outputs.len()),
             Plan::Group { group, .. } => u32::from(group.columns).saturating_add(saturate(
                 group.calls.len(),
@@ -76,8 +77,6 @@ impl Plan {
             Plan::Window { input, window } => input
                 .width()
                 .saturating_add(saturate(window.calls.len())),
-            Plan::Distinct { input } => input.width(),
-            Plan::Limit { input, .. } => input.width(),
         }
     }
 

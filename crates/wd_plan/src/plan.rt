@@ -99,13 +99,13 @@ impl Plan {
         match self {
             Plan::Scan { .. } => 0,
             Plan::Join { left, right, .. } => left.orderings().saturating_add(right.orderings()),
-            Plan::Filter { input, .. } => input.orderings(),
-            Plan::Map { input, .. } => input.orderings(),
-            Plan::Group { input, .. } => input.orderings(),
+            Plan::Filter { input, .. }
+            | Plan::Map { input, .. }
+            | Plan::Group { input, .. }
+            | Plan::Distinct { input } => input.orderings(),
             Plan::Window { input, window } => input
                 .orderings()
                 .saturating_add(saturate(window.classes.len())),
-            Plan::Distinct { input } => input.orderings(),
             Plan::Limit { input, .. } => input.orderings().saturating_add(1),
         }
     }
@@ -120,12 +120,12 @@ impl Plan {
                 .nodes()
                 .saturating_add(right.nodes())
                 .saturating_add(1),
-            Plan::Filter { input, .. } => input.nodes().saturating_add(1),
-            Plan::Map { input, .. } => input.nodes().saturating_add(1),
-            Plan::Group { input, .. } => input.nodes().saturating_add(1),
-            Plan::Window { input, .. } => input.nodes().saturating_add(1),
-            Plan::Distinct { input } => input.nodes().saturating_add(1),
-            Plan::Limit { input, .. } => input.nodes().saturating_add(1),
+            Plan::Filter { input, .. }
+            | Plan::Map { input, .. }
+            | Plan::Group { input, .. }
+            | Plan::Window { input, .. }
+            | Plan::Distinct { input }
+            | Plan::Limit { input, .. } => input.nodes().saturating_add(1),
         }
     }
 }

@@ -158,7 +158,9 @@ fn source_column(schema: &Schema, plan: &Plan, column: u16) -> Option<u16>
     match plan {
         Plan::Scan { .. } => None,
         Plan::Join { .. } => None,
-        Plan::Filter { input, .. } => source_column(schema, input, column),
+        Plan::Filter { input, .. } | Plan::Distinct { input } => source_column(
+            schema, input, column,
+        ),
         Plan::Map { input, outputs } => {
             let output = outputs.get(usize::from(column))?;
             let below = match column_shown(output) {
@@ -173,7 +175,6 @@ fn source_column(schema: &Schema, plan: &Plan, column: u16) -> Option<u16>
         } else {
             None
         },
-        Plan::Distinct { input } => source_column(schema, input, column),
         Plan::Limit { .. } => None,
     }
 }

@@ -33,7 +33,8 @@ pub(crate) fn numbers_of(schema: &Schema, plan: &Plan, column: u16) -> Option<Nu
                 numbers_of(schema, right, (u32::from(column) - width) as u16)
             }
         }
-        Plan::Filter { input, .. } => numbers_of(schema, input, column),
+        Plan::Filter { input, .. } | Plan::Distinct { input } | Plan::Limit { input, .. } =>
+            numbers_of(schema, input, column),
         Plan::Map { input, outputs } => match copied_column(outputs, column) {
             Some(below) => numbers_of(schema, input, below),
             None => None,
@@ -53,8 +54,6 @@ pub(crate) fn numbers_of(schema: &Schema, plan: &Plan, column: u16) -> Option<Nu
                 numbers_of_call(&window.calls, (u32::from(column) - width) as u16)
             }
         }
-        Plan::Distinct { input } => numbers_of(schema, input, column),
-        Plan::Limit { input, .. } => numbers_of(schema, input, column),
     }
 }
 

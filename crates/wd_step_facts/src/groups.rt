@@ -91,7 +91,11 @@ fn are_columns(columns: u16, list: &[Member]) -> bool
 }
 
 /// The members that are one of the first `columns` columns or the row.
-pub fn restrict_members(alloc: Global, columns: u16, list: &[Member]) -> Result<Vec<Member>, OutOfMemory>
+pub fn restrict_members(
+    alloc: Global,
+    columns: u16,
+    list: &[Member],
+) -> Result<Vec<Member>, OutOfMemory>
     ensures { IfOk result (λ v. v.items ≡ filter (facts_spec.is_plain columns) list.now) }
 {
     let mut cut = Vec::new(alloc);

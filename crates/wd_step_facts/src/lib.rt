@@ -17,7 +17,7 @@ mod moved;
 pub use calls::add_calls;
 pub use conditions::{add_conjuncts, add_join_conjuncts};
 pub use facts::{Facts, Given, Member};
-pub use groups::{restrict_members, group_facts};
+pub use groups::{group_facts, restrict_members};
 pub use maps::{add_outputs, copy_of, is_column};
 pub use members::{add_key, copied_facts, first_columns};
 pub use moved::{add_moved_facts, moved_member};

@@ -29,14 +29,14 @@ pub(crate) fn add_orderings<'p>(
             add_orderings(left, found)?;
             add_orderings(right, found)
         }
-        Plan::Filter { input, .. } => add_orderings(input, found),
-        Plan::Map { input, .. } => add_orderings(input, found),
-        Plan::Group { input, .. } => add_orderings(input, found),
+        Plan::Filter { input, .. }
+        | Plan::Map { input, .. }
+        | Plan::Group { input, .. }
+        | Plan::Distinct { input } => add_orderings(input, found),
         Plan::Window { input, window } => {
             add_orderings(input, found)?;
             add_classes(input, &window.classes, found)
         }
-        Plan::Distinct { input } => add_orderings(input, found),
         Plan::Limit { input, limit } => {
             add_orderings(input, found)?;
             let keys = &limit.keys;

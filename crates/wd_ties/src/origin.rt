@@ -21,7 +21,8 @@ pub(crate) fn origin_of(node: &Plan, column: u16) -> Option<TableColumn>
                 origin_of(right, column - width as u16)
             }
         }
-        Plan::Filter { input, .. } => origin_of(input, column),
+        Plan::Filter { input, .. } | Plan::Distinct { input } | Plan::Limit { input, .. } =>
+            origin_of(input, column),
         Plan::Map { input, outputs } => match outputs.get(usize::from(column)) {
             Some(Expr::Column(copied)) => origin_of(input, *copied),
             _ => None,
@@ -40,8 +41,6 @@ pub(crate) fn origin_of(node: &Plan, column: u16) -> Option<TableColumn>
                 None
             }
         }
-        Plan::Distinct { input } => origin_of(input, column),
-        Plan::Limit { input, .. } => origin_of(input, column),
     }
 }
 

@@ -77,8 +77,7 @@ pub(crate) fn add_conditions(
             let origins = add_conditions(alloc, input, found)?;
             window_origins(origins, &window.calls)
         }
-        Plan::Distinct { input } => add_conditions(alloc, input, found),
-        Plan::Limit { input, .. } => add_conditions(alloc, input, found),
+        Plan::Distinct { input } | Plan::Limit { input, .. } => add_conditions(alloc, input, found),
     }
 }
 

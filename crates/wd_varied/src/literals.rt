@@ -39,10 +39,10 @@ pub(crate) fn add_literals(
             add_literals(alloc, input, literals)?;
             add_of_outputs(alloc, outputs, literals)
         }
-        Plan::Group { input, .. } => add_literals(alloc, input, literals),
-        Plan::Window { input, .. } => add_literals(alloc, input, literals),
-        Plan::Distinct { input } => add_literals(alloc, input, literals),
-        Plan::Limit { input, .. } => add_literals(alloc, input, literals),
+        Plan::Group { input, .. }
+        | Plan::Window { input, .. }
+        | Plan::Distinct { input }
+        | Plan::Limit { input, .. } => add_literals(alloc, input, literals),
     }
 }
 

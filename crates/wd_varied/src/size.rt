@@ -121,11 +121,11 @@ fn is_past_limit(plan: &Plan, rows: u32) -> bool
         Plan::Join { left, right, .. } => {
             is_past_limit(left, rows) || is_past_limit(right, rows)
         }
-        Plan::Filter { input, .. } => is_past_limit(input, rows),
-        Plan::Map { input, .. } => is_past_limit(input, rows),
-        Plan::Group { input, .. } => is_past_limit(input, rows),
-        Plan::Window { input, .. } => is_past_limit(input, rows),
-        Plan::Distinct { input } => is_past_limit(input, rows),
+        Plan::Filter { input, .. }
+        | Plan::Map { input, .. }
+        | Plan::Group { input, .. }
+        | Plan::Window { input, .. }
+        | Plan::Distinct { input } => is_past_limit(input, rows),
         Plan::Limit { input, limit } => {
             is_past_limit(input, rows) || is_past(reach(limit), rows)
         }
@@ -153,11 +153,11 @@ pub fn pair_count(plan: &Plan, rows: u32) -> u64
         Plan::Join { left, right, .. } => {
             (pair_count(left, rows) * pair_count(right, rows)).min(MOST_COUNTED)
         }
-        Plan::Filter { input, .. } => pair_count(input, rows),
-        Plan::Map { input, .. } => pair_count(input, rows),
-        Plan::Group { input, .. } => pair_count(input, rows),
-        Plan::Window { input, .. } => pair_count(input, rows),
-        Plan::Distinct { input } => pair_count(input, rows),
-        Plan::Limit { input, .. } => pair_count(input, rows),
+        Plan::Filter { input, .. }
+        | Plan::Map { input, .. }
+        | Plan::Group { input, .. }
+        | Plan::Window { input, .. }
+        | Plan::Distinct { input }
+        | Plan::Limit { input, .. } => pair_count(input, rows),
     }
 }

@@ -18,7 +18,7 @@ use crate::place::{Place, differs, source, suggestions};
 use crate::pools::Suggested;
 use crate::suggested::values_for;
 use std::alloc::Global;
-use wd_candidates::{Outline, value_if_fixed, fixed_columns, is_marked};
+use wd_candidates::{Outline, fixed_columns, is_marked, value_if_fixed};
 use wd_schema::{Column, Key, Schema, Table};
 use wd_value::{Instance, OutOfMemory, Row, Value};
 
