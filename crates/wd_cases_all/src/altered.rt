@@ -133,7 +133,7 @@ fn is_within(asked: Asked<'_>, given: &str) -> bool {
 
 /// The number of the refusal that is given.
 fn number_in(given: &str) -> Option<u32> {
-    let (_, behind) = given.split_once("refused ")?;
-    let (number, _) = behind.split_once(' ').unwrap_or((behind, ""));
+    let (_, after) = given.split_once("refused ")?;
+    let (number, _) = after.split_once(' ').unwrap_or((after, ""));
     number.parse().ok()
 }

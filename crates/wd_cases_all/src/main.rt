@@ -1,5 +1,5 @@
 //! All cases of library calls, and of the program over its words, files and streams. A line
-//! `cases SUBJECT` says which library answers the lines behind it.
+//! `cases SUBJECT` says which library answers the lines after it.
 #![tactic(auto)]
 
 mod all;

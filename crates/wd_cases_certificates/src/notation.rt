@@ -109,7 +109,7 @@ pub fn columns_of(alloc: Global, text: &str) -> Result<Vec<u16>, Failure> {
     Ok(columns)
 }
 
-/// The facts behind the number of columns, which at a Join stands before `/` and the number of those of the left side.
+/// The facts after the number of columns, which at a Join stands before `/` and the number of those of the left side.
 pub fn facts_over(alloc: Global, text: &str) -> Result<Facts, Failure> {
     let (columns, list) = text.split_once(' ').unwrap_or((text, ""));
     let (columns, left) = columns.split_once('/').unwrap_or((columns, ""));

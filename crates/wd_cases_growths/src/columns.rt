@@ -1,4 +1,4 @@
-//! Rows that are put after those of columns.
+//! Rows that are appended to those of columns.
 use crate::tally::Tally;
 use std::alloc::Global;
 use wd_columns::{empty_columns, push_row};

@@ -5,7 +5,7 @@ use wd_sets::Set;
 use wd_step_facts::Member;
 use wd_value::OutOfMemory;
 
-/// In each round a column far behind those that are there. The members are asked for one by one, as a set has no copy.
+/// In each round a column far after those that are there. The members are asked for one by one, as a set has no copy.
 pub fn members_inserted(alloc: Global, rounds: u16) -> Result<Tally, OutOfMemory> {
     let mut tally = Tally::NONE;
     let mut set = Set::new(alloc);

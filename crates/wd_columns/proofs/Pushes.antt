@@ -31,7 +31,7 @@ long [] done = refl
 long (c ∷ columns) [] = refl
 long (c ∷ columns) (d ∷ done) = ap suc (long columns done)
 
--- a value is put after those of the column at a place, if there is one
+-- a value is appended to those of the column at a place, if there is one
 pub step : (given : List Row) (rows new : List (Vec Value Global)) (done : Row) (v : Value) (place : ℕ) → place ≡ length done → rows_of rows ≡ with_row given done
     → (place < length rows → rows_of new ≡ set (rows_of rows) place (row_at (rows_of rows) place ++ v ∷ [])) → (length rows ≤ place → new ≡ rows) → rows_of new ≡ with_row given (done ++ v ∷ [])
 step given rows new done v place at is within none_left =

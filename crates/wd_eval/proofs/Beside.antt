@@ -218,7 +218,7 @@ own_alone : (r : Result Value Fault) (x : Value) → r ≡ Ok x → value_or_nul
 own_alone (Ok y) x e = refl
 own_alone (Err fault) x e = absurd (cc)
 
--- a whole column is put after the rows the same way
+-- a whole column is appended to the rows the same way
 whole_beside : (rows : List Row) (column : List (Result Value Fault)) → IsWhole (length rows) column → with_values rows (map value_or_null column) ≡ with_column rows column
 whole_beside rows column whole =
     let n = length rows in

@@ -1,4 +1,4 @@
--- Rows with values beside them, put after their own.
+-- Rows with values beside them, appended to their own.
 use Rattle.std.specs.Prelude.{◌≡◌, ℕ, List, [], ◌∷◌, ◌++◌, map, Result, Ok, Err}
 use Rattle.std.specs.declared.alloc.Global.{Global}
 use Rattle.std.specs.declared.vec.Vec.{Vec}
@@ -41,7 +41,7 @@ abbrev pub with_values_of : List Row → List (List (Result Value Fault)) → Li
 with_values_of rows [] = rows
 with_values_of rows (column ∷ columns) = with_values_of (with_values rows (map value_or_null column)) columns
 
--- columns which make what a Window gives, put after the rows one way or the other
+-- columns which make what a Window gives, appended to the rows one way or the other
 pub record AreBeside (w : WindowRule) (rows : List Row) (orderings : List (List ℕ)) (columns : List (List (Result Value Fault))) : Type 0 where
   pub after : Ok (with_columns rows columns) ≡ window_outcome w rows orderings
   pub along : Ok (with_values_of rows columns) ≡ window_outcome w rows orderings

@@ -1,4 +1,4 @@
--- Sorted orderings put after those that are there, node by node.
+-- Sorted orderings appended to those that are there, node by node.
 use Rattle.std.specs.Prelude.{◌≡◌, ℕ, ◌+◌, ◌<◌, ◌≤◌, true, List, [], ◌++◌, drop, length, Option, ⊤}
 use Rattle.wd_value.specs.Rows.{Instance}
 use Rattle.wd_plan.specs.Outcomes.{RowsOrFault, class_among, ordering_at}
@@ -18,7 +18,7 @@ pub record AreSortedOver (classes : List ClassRule) (input : RowsOrFault) (turne
   pub long : length own ≡ n
   pub each : (k : ℕ) → k < n → IsSortedOver (class_among classes k) (turn_of turned (first + k)) input (ordering_at own k)
 
--- they were put after the orderings that were there
+-- they were appended to the orderings that were there
 pub record ArePut (classes : List ClassRule) (input : RowsOrFault) (turned : Option Turned) (n : ℕ) (old new : List (List ℕ)) : Type 0 where
   pub own : List (List ℕ)
   pub grown : new ≡ old ++ own
@@ -33,7 +33,7 @@ pub record IsStableStep (step : Step) (input : RowsOrFault) (turned : Option Tur
   pub put : AreAllPut (step_classes step) input turned old new
   pub stepped : IsStepped step input new (length old) found
 
--- the plan's sorted orderings were put after those that were there, and the outcome is that under them
+-- the plan's sorted orderings were appended to those that were there, and the outcome is that under them
 pub record IsUnderStable (plan : PlanTree) (tables instance : Instance) (turned : Option Turned) (old new : List (List ℕ)) (o : Relation) : Type 0 where
   pub own : List (List ℕ)
   pub grown : new ≡ old ++ own

@@ -49,7 +49,7 @@ IsWithin Stable = ⊤
 -- ---- a plan
 
 -- what a plan gives, as these tables show it: under the next orderings of a choice, each of them lawful, and under its sorted
--- orderings, which are put after those made before
+-- orderings, which are appended to those made before
 pub record IsWalked (plan : PlanTree) (tables instance : Instance) (old new : Orderings) (o : Relation) : Type 0 where
   pub chosen : (most : ℕ) (choice : List (List ℕ)) (first : ℕ) → IsAt old most choice first → (next : ℕ) × IsAt new most choice next × IsEvaluated most plan tables instance choice first (record { outcome = o; next = next })
   pub sorted : (kept : Bool) (turned : Option Turned) (made : List (List ℕ)) → HasMade old kept turned made → (more : List (List ℕ)) × HasMade new kept turned more × IsUnderStable plan tables instance turned made more o

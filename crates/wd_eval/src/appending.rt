@@ -1,4 +1,4 @@
-//! The values of calls, put after the rows' own.
+//! The values of calls, appended to the rows' own.
 
 ghost use Rattle.std.specs.Prelude.{◌≡◌, ℕ, List, ◌++◌, ◌<◌, ◌≤◌, IfOk, OnOk, Result, length, map, set, slice_index_or};
 ghost use Rattle.wd_plan.specs.Faults.{least_fault, unless};

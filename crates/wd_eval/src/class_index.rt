@@ -126,7 +126,7 @@ fn sorted_class_index_of(
     })
 }
 
-/// Puts the sorted ordering of each class of a Window after those made before, and gives the
+/// Appends the sorted ordering of each class of a Window to those made before, and gives the
 /// partitions under them.
 pub(crate) fn sorted_indexes(
     alloc: Global,

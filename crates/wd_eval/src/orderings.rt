@@ -28,7 +28,7 @@ pub(crate) enum Orderings<'a> {
         next: usize,
         most: u64,
     },
-    /// The sorted ones, of which one may take rows that tie in another turn. They are put after those made before.
+    /// The sorted ones, of which one may take rows that tie in another turn. They are appended to those made before.
     Sorted {
         turned: Option<Turned>,
         made: Vec<Vec<u64>>,
@@ -142,7 +142,7 @@ fn is_empty_at(choice: &[Vec<u64>], number: usize) -> bool
     }
 }
 
-/// Puts so many empty orderings after those made before.
+/// Appends so many empty orderings to those made before.
 fn put_empty(alloc: Global, count: usize, made: &mut Vec<Vec<u64>>) -> Result<(), OutOfMemory>
     ensures { OnOk result (IsPutEmpty count (orderings_of made.old.items) (orderings_of made.new.items)) }
 {

@@ -158,9 +158,9 @@ fn source_column(schema: &Schema, plan: &Plan, column: u16) -> Option<u16>
     match plan {
         Plan::Scan { .. } => None,
         Plan::Join { .. } => None,
-        Plan::Filter { input, .. } | Plan::Distinct { input } => source_column(
-            schema, input, column,
-        ),
+        Plan::Filter { input, .. } | Plan::Distinct { input } => {
+            source_column(schema, input, column)
+        }
         Plan::Map { input, outputs } => {
             let output = outputs.get(usize::from(column))?;
             let below = match column_shown(output) {

@@ -25,9 +25,9 @@ pub(crate) fn is_empty(schema: &Schema, plan: &Plan) -> bool
         Plan::Join { left, right, .. } => is_empty(schema, right) || is_empty(schema, left),
         Plan::Filter { input, condition } => is_unmet(schema, input, condition)
             || is_empty(schema, input),
-        Plan::Map { input, .. } | Plan::Window { input, .. } | Plan::Distinct { input } => is_empty(
-            schema, input,
-        ),
+        Plan::Map { input, .. } | Plan::Window { input, .. } | Plan::Distinct { input } => {
+            is_empty(schema, input)
+        }
         Plan::Group { .. } => false,
         Plan::Limit { input, limit } => takes_none(limit) || is_empty(schema, input),
     }
