@@ -152,11 +152,8 @@ pub fn combine<L: Reference>(
     let kind = operand_kind(operator, &left, &right);
     let left = left.of_kind(alloc, kind)?;
     let right = right.of_kind(alloc, kind)?;
-    TypedOperand::typed(
-        alloc,
-        over_both(operator, left, right),
-        result_kind(operator),
-    )
+    let both = over_both(operator, left, right);
+    TypedOperand::typed(alloc, both, result_kind(operator))
 }
 
 /// WHEN .. THEN ..
