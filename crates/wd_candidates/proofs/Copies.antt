@@ -17,7 +17,7 @@ use Rattle.wd_step_facts.specs.Steps.{conjuncts_of}
 use Rattle.wd_candidates.specs.declared.origins.TableColumn.{TableColumn}
 use Rattle.wd_candidates.specs.declared.fixed.Fixing.{Fixing}
 use Rattle.wd_candidates.specs.Origins.{origin, plain_column}
-use Rattle.wd_candidates.specs.Listed.{ScansBelow, origin_in, origins, output_origin, table_origins}
+use Rattle.wd_candidates.specs.AllOrigins.{ScansBelow, origin_in, origins, output_origin, table_origins}
 use Rattle.wd_candidates.specs.Fixed.{fixing, fixings, fixings_in}
 
 -- ---- origins

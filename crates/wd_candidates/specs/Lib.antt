@@ -1,5 +1,5 @@
 pub mod Origins
-pub mod Listed
+pub mod AllOrigins
 pub mod Fixed
 pub mod Filled
 pub mod Tied

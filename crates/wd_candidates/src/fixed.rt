@@ -5,7 +5,7 @@ ghost use Rattle.wd_plan.specs.Expressions.{expression_of};
 ghost use Rattle.wd_plan.specs.Plans.{plan_of};
 ghost use Rattle.wd_step_facts.specs.Steps.{conjuncts, conjuncts_of, side_of};
 ghost use Rattle.wd_candidates.specs.Fixed as spec;
-ghost use Rattle.wd_candidates.specs.Listed as listed;
+ghost use Rattle.wd_candidates.specs.AllOrigins as listed;
 
 use crate::origins::{
     TableColumn, add_calls, group_origins, origin_in, output_origins, table_origins,

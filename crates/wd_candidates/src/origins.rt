@@ -4,7 +4,7 @@ ghost use Rattle.std.specs.Prelude.{◌≡◌, ◌++◌, map, IfOk};
 ghost use Rattle.wd_plan.specs.Expressions.{expression_of};
 ghost use Rattle.wd_plan.specs.Plans.{group_call_of};
 ghost use Rattle.wd_value.specs.Bags.{positions};
-ghost use Rattle.wd_candidates.specs.Listed as spec;
+ghost use Rattle.wd_candidates.specs.AllOrigins as spec;
 
 use std::alloc::Global;
 use wd_plan::{Call, Expr, Group, GroupCall};

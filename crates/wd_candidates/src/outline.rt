@@ -5,7 +5,7 @@ ghost use Rattle.std.specs.Option.{option_or};
 ghost use Rattle.wd_candidates.specs.Filled as spec;
 ghost use Rattle.wd_candidates.specs.Filled.{AreFilled, HasSlots};
 ghost use Rattle.wd_candidates.specs.Fixed.{fixes};
-ghost use Rattle.wd_candidates.specs.Listed.{ScansBelow};
+ghost use Rattle.wd_candidates.specs.AllOrigins.{ScansBelow};
 ghost use Rattle.wd_plan.specs.Plans.{is_scanned, plan_of};
 ghost use Rattle.wd_candidates.specs.Outlines.{IsOutline};
 ghost use Rattle.wd_facts.specs.Given.{table_rule};

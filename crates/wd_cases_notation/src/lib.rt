@@ -33,4 +33,4 @@ mod words;
 
 pub use stacks::Stacks;
 pub use state::State;
-pub use words::{Cut, Line, Word};
+pub use words::{LimitWord, Line, Word};

@@ -2,7 +2,9 @@
 //! what it needs from the stacks.
 
 use crate::operators::{Binary, aggregate_of, function, neighbour, operator_of};
-use crate::words::{Cut, DEFAULT_FRAME, Word, column_of, frame_of, item_of, kind_of, table_of};
+use crate::words::{
+    DEFAULT_FRAME, LimitWord, Word, column_of, frame_of, item_of, kind_of, table_of,
+};
 use std::alloc::Global;
 use std::mem::replace;
 use wd_cases::{Failure, is_nothing, value_of};
@@ -254,11 +256,11 @@ impl Stacks {
     /// `limit(OFFSET,COUNT)`, with `all` for no count, or `limit(OFFSET,COUNT,ties)`, by all keys
     /// that stand there.
     fn push_limit(&mut self, word: Word) -> Result<(), Failure> {
-        let Cut {
+        let LimitWord {
             offset,
             count,
             ties,
-        } = word.cut().ok_or(Failure::NoCase)?;
+        } = word.limit().ok_or(Failure::NoCase)?;
         let input = self.plan()?;
         let keys = replace(&mut self.items, Vec::new(self.alloc));
         self.push_plan(Plan::Limit {

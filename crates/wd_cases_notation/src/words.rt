@@ -57,8 +57,8 @@ impl<'a> Word<'a> {
     }
 
     /// `OFFSET,COUNT` or `OFFSET,COUNT,ties`; a COUNT that is no number, as `all`, is none.
-    pub fn cut(self) -> Option<Cut> {
-        Some(Cut {
+    pub fn limit(self) -> Option<LimitWord> {
+        Some(LimitWord {
             offset: self.number(0)?,
             count: self.number(1),
             ties: self.argument(2) == Some("ties"),
@@ -72,9 +72,9 @@ impl<'a> Word<'a> {
     }
 }
 
-/// What a limit leaves.
+/// How many rows a limit leaves out and takes, and whether with ties.
 #[derive(Clone, Copy)]
-pub struct Cut {
+pub struct LimitWord {
     pub offset: u64,
     pub count: Option<u64>,
     pub ties: bool,

@@ -91,7 +91,7 @@ pub fn answer(alloc: Global, state: &State, line: Line, out: &mut String) -> Res
         "map_rows" => push_outcome(out, &map_rows(alloc, expressions, state.rows())?),
         "distinct_rows" => push_rows(out, &distinct(alloc, state.rows())?),
         "join_rows" => push_joined(alloc, state, line.word, out),
-        _ => push_cut(alloc, state, line.word, out),
+        _ => push_limit(alloc, state, line.word, out),
     }
 }
 
@@ -113,13 +113,13 @@ fn push_joined(alloc: Global, state: &State, word: Word, out: &mut String) -> Re
 }
 
 /// `cut_rows(OFFSET,COUNT) KEYS : ORDERING`, as a limit has them.
-fn push_cut(alloc: Global, state: &State, word: Word, out: &mut String) -> Result<(), Failure> {
-    let cut = word.cut().ok_or(Failure::NoCase)?;
+fn push_limit(alloc: Global, state: &State, word: Word, out: &mut String) -> Result<(), Failure> {
+    let counts = word.limit().ok_or(Failure::NoCase)?;
     let limit = Limit {
         keys: copied_keys(alloc, &state.stacks.items)?,
-        offset: cut.offset,
-        count: cut.count,
-        ties: cut.ties,
+        offset: counts.offset,
+        count: counts.count,
+        ties: counts.ties,
     };
     let kept = limit_rows(alloc, &limit, state.rows(), state.ordering())?;
     push_rows(out, &kept)

@@ -5,7 +5,7 @@ use Rattle.wd_plan.specs.Expressions.{Expression}
 use Rattle.wd_plan.specs.Plans.{PlanTree, Join}
 use Rattle.wd_candidates.specs.declared.origins.TableColumn.{TableColumn}
 use Rattle.wd_candidates.specs.Origins.{origin}
-use Rattle.wd_candidates.specs.Listed.{origin_in, origins}
+use Rattle.wd_candidates.specs.AllOrigins.{origin_in, origins}
 use Rattle.wd_candidates.proofs.Copies.{origins_are}
 use Rattle.wd_varied.specs.Literals.{compared, compared_in, equated, equated_in, in_conditions, in_join}
 use Rattle.wd_varied.specs.declared.conditions.Compared.{Compared}

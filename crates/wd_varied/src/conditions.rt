@@ -1,7 +1,7 @@
 //! What a plan's conditions suggest for columns of tables: the literals with which they are compared, and the columns that are equated.
 
 ghost use Rattle.std.specs.Prelude.{◌≡◌, ◌++◌, IfOk, option_map, option_to_list};
-ghost use Rattle.wd_candidates.specs.Listed.{origin_in, origins as origins_of};
+ghost use Rattle.wd_candidates.specs.AllOrigins.{origin_in, origins as origins_of};
 ghost use Rattle.wd_plan.specs.Expressions.{expression_of};
 ghost use Rattle.wd_plan.specs.Plans.{plan_of};
 ghost use Rattle.wd_step_facts.specs.Steps.{side_of};

@@ -1,6 +1,6 @@
 use Rattle.std.proofs.Common.{◌≡◌, map}
 use Rattle.wd_value.specs.Bags.{positions}
-use Rattle.wd_candidates.specs.Listed.{origin_in}
+use Rattle.wd_candidates.specs.AllOrigins.{origin_in}
 use Rattle.wd_candidates.proofs.origins.first_origins.Given as goal
 
 abbrev pub invariant-loop-column : goal.invariant-loop-column

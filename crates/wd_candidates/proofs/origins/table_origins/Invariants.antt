@@ -1,5 +1,5 @@
 use Rattle.std.proofs.Common.{◌≡◌}
-use Rattle.wd_candidates.specs.Listed.{table_origins}
+use Rattle.wd_candidates.specs.AllOrigins.{table_origins}
 use Rattle.wd_candidates.proofs.origins.table_origins.Given as goal
 
 abbrev pub invariant-loop-column : goal.invariant-loop-column

@@ -2,7 +2,7 @@ use Rattle.std.proofs.Common.{◌≡◌, ◌∙◌, sym, subst, length, rules}
 use Rattle.std.proofs.lemmas.List.{length-map}
 use Rattle.wd_plan.specs.Plans.{plan_of}
 use Rattle.wd_schema.specs.Schemas.{schema_of}
-use Rattle.wd_candidates.specs.Listed.{ScansBelow}
+use Rattle.wd_candidates.specs.AllOrigins.{ScansBelow}
 use Rattle.wd_candidates.proofs.Copies.{scans_below}
 use Rattle.wd_candidates.proofs.outline.outline_of.Goals as goal
 
