@@ -7,3 +7,4 @@ pub mod FramePlaces
 pub mod AnswerCalls
 pub mod Whole
 pub mod SourceCalls
+pub mod Put

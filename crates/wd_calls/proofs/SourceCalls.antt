@@ -1,14 +1,13 @@
 -- The values that sources make are the values of calls.
-use Rattle.std.proofs.Common.{◌≡◌, ◌∙◌, ℕ, ◌+◌, ◌-◌, ◌^◌, ◌<◌, ◌≤◌, ◌⊎◌, inl, inr, List, [], ◌∷◌, ◌++◌, length, map, get_or, refl, sym, ap, subst, arith, Result, Ok, Some, None}
+use Rattle.std.proofs.Common.{◌≡◌, ◌∙◌, ℕ, ◌-◌, ◌^◌, ◌<◌, ◌≤◌, ◌⊎◌, inl, inr, List, [], ◌∷◌, length, map, get_or, refl, sym, ap, arith, Ok, Some, None}
 use Rattle.std.proofs.lemmas.Bool.{cases_lt}
-use Rattle.std.proofs.lemmas.List.{get_or-map, get_or-reverse, get_or_append_left, get_or_past, get_or_push, length-map, length_push}
+use Rattle.std.proofs.lemmas.List.{get_or-map, get_or-reverse, get_or_past, length-map}
 use Rattle.std.proofs.lemmas.Option.{get_or_from_slice_get, slice_get-get_or, slice_get_within}
 use Rattle.std.specs.List.{slice_get}
 use Rattle.std.proofs.lemmas.List.Sums.{count_by-le-length, length-filter}
 use Rattle.std.proofs.lemmas.List.FromFn.{length-range_with_len}
 use Rattle.wd_value.specs.declared.value.Value.{Value}
 use Rattle.wd_value.specs.declared.value.Value.TheVariants.{Null}
-use Rattle.wd_value.specs.declared.value.Fault.{Fault}
 use Rattle.wd_value.specs.Bags.{positions}
 use Rattle.wd_value.specs.Rows.{Row, rows_at}
 use Rattle.wd_plan.specs.declared.window.Frame.{Frame}
@@ -27,7 +26,7 @@ use Rattle.wd_frame.specs.declared.extent.IndexRange.{IndexRange}
 use Rattle.wd_frame.specs.Places.{PartRule, is_member, places_of}
 use Rattle.wd_frame.specs.IndexRanges.{AreFrames, places_along}
 use Rattle.wd_calls.specs.Answers.{AreAnswersOf}
-use Rattle.wd_calls.specs.Parts.{AreValues, IsPartOf, IsValueAt}
+use Rattle.wd_calls.specs.Parts.{IsPartOf, IsValueAt}
 use Rattle.wd_calls.specs.Sources.{AreCallAnswers, number_of}
 use Rattle.wd_calls.specs.Values.{value_in, values_at}
 use Rattle.wd_calls.proofs.Columns.{flat}
@@ -97,33 +96,3 @@ taken_none row partition c places number n e =
     past : (number < length places) ⊎ (length places ≤ number) → length (map (value_in partition c) places) ≤ number
     past (inl l) = absurd (let some = slice_get-get_or places number 0 l in let no = e ∙ some in cc no)
     past (inr le) = let long = length-map places (value_in partition c) in omega arith
-
--- ---- place by place
-
-pub record AreValuesBelow (frame : Frame) (function : Function) (partition : List Row) (part : PartRule) (n : ℕ) (values : List (Result Value Fault)) : Type 0 where
-  pub long : length values ≡ n
-  pub each : (place : ℕ) (other : Result Value Fault) → place < n → IsValueAt frame function partition part place (get_or values place other)
-
-module _ (frame : Frame) (function : Function) (partition : List Row) (part : PartRule) where
-  pub AreValuesBelow-none : (values : List (Result Value Fault)) → values ≡ [] → AreValuesBelow frame function partition part 0 values
-  AreValuesBelow-none values none = record { long = ap length none; each = λ place other l. absurd (omega arith) }
-
-  pub AreValuesBelow-more : (n : ℕ) (values : List (Result Value Fault)) (value : Result Value Fault) → AreValuesBelow frame function partition part n values
-      → IsValueAt frame function partition part n value → AreValuesBelow frame function partition part (n + 1) (values ++ value ∷ [])
-  AreValuesBelow-more n values value are here = record {
-    long = length_push values value ∙ ap (λ k. k + 1) are.long;
-    each = λ place other l. by place other l (cases_lt place n);
-  }
-    where
-      by : (place : ℕ) (other : Result Value Fault) → place < n + 1 → (place < n) ⊎ (n ≤ place) → IsValueAt frame function partition part place (get_or (values ++ value ∷ []) place other)
-      by place other l (inl less) =
-          subst (IsValueAt frame function partition part place) (sym (get_or_append_left values (value ∷ []) other place (let long = are.long in omega arith))) (are.each place other less)
-      by place other l (inr more) =
-          let same : n ≡ place = omega arith in
-          rw (sym same) (subst (IsValueAt frame function partition part n) (sym (get_or_push values value other n are.long)) here)
-
-  pub AreValues-all : (n : ℕ) (values : List (Result Value Fault)) → AreValuesBelow frame function partition part n values → n ≡ length partition → AreValues frame function partition part values
-  AreValues-all n values are all = record {
-    long = are.long ∙ all;
-    each = λ place other class is within. are.each place other (omega arith) class is within;
-  }

@@ -2,3 +2,4 @@ pub mod Parts
 pub mod Values
 pub mod Answers
 pub mod Sources
+pub mod CallColumns

@@ -1,5 +1,5 @@
 -- What a call reads of a partition list: its rows, their peer groups, and their keys where its frame has an offset in RANGE.
-use Rattle.std.specs.Prelude.{◌≡◌, ℕ, pos, ◌<◌, true, List, map, length, slice_index_or, Result}
+use Rattle.std.specs.Prelude.{◌≡◌, ℕ, pos, ◌<◌, true, List, map, length, Result}
 use Rattle.wd_value.specs.declared.value.Value.{Value}
 use Rattle.wd_value.specs.declared.value.Value.TheVariants.{Int}
 use Rattle.wd_value.specs.declared.value.Fault.{Fault}
@@ -39,8 +39,3 @@ IsRankAt ranking partition part place value =
 abbrev pub IsValueAt : Frame → Function → List Row → PartRule → ℕ → Result Value Fault → Type 0
 IsValueAt frame function partition part place value =
     (class : ClassRule) → IsPartOf class frame partition part → place < length partition → value ≡ call_value class frame function partition place
-
--- the values of a call at all places
-pub record AreValues (frame : Frame) (function : Function) (partition : List Row) (part : PartRule) (values : List (Result Value Fault)) : Type 0 where
-  pub long : length values ≡ length partition
-  pub each : (place : ℕ) (other : Result Value Fault) → IsValueAt frame function partition part place (slice_index_or values place other)

@@ -1,7 +1,8 @@
 //! The values of a call.
 
-ghost use Rattle.std.specs.Prelude.{◌≡◌, ◌<◌, ◌^◌, length, pos, IfOk};
-ghost use Rattle.wd_calls.specs.Parts.{AreValues, IsValueAt, partition_of};
+ghost use Rattle.std.specs.Prelude.{◌≡◌, ◌<◌, ◌^◌, length, pos, IfOk, OnOk};
+ghost use Rattle.wd_calls.specs.CallColumns.{PutsCalls};
+ghost use Rattle.wd_calls.specs.Parts.{IsValueAt, partition_of};
 ghost use Rattle.wd_calls.specs.Sources as spec;
 ghost use Rattle.wd_calls.specs.Sources.{IsSourceOf};
 ghost use Rattle.wd_calls.specs.Values.{IsRising, IsStart};
@@ -16,6 +17,7 @@ ghost use Rattle.wd_calls.specs.Values.{values_at};
 ghost use Rattle.wd_value.specs.declared.value.Value.TheVariants as value;
 
 use crate::aggregate::{answers, value_of};
+use crate::column::CallColumn;
 use crate::partition::{Partition, copy_at};
 use crate::places::{count_at, place_at};
 use crate::ranking::{group_start, ranking_value};
@@ -36,39 +38,43 @@ enum Source<'a> {
     Answers(Vec<Answer<'a>>),
 }
 
-/// The value of a call at each place of a partition, or its fault there: a sum that 64 bits don't hold (SQL, window function; PG,
-/// Window Functions). `part` has the partition's peer groups and, where the frame has an offset in RANGE, its keys. All values together
-/// take time linear in the partition, whatever the frame.
-pub fn call_values(
+/// Puts the values of a call at the places of a partition into a column, at the rows' positions; past the column's last row nothing. A
+/// sum that 64 bits don't hold is a fault (SQL, window function; PG, Window Functions). `part` has the partition's peer groups and,
+/// where the frame has an offset in RANGE, its keys. All values together take time linear in the partition, whatever the frame.
+///
+/// # Errors
+/// Where memory runs out.
+pub fn put_values(
     alloc: Global,
     call: &Call,
     partition: &Partition,
     part: &Part,
-) -> Result<Vec<Result<Value, Fault>>, OutOfMemory>
-    ensures { IfOk result (λ v. AreValues call.now.frame call.now.function (partition_of partition.now) (part_of part.now) v.items) }
+    column: &mut CallColumn,
+) -> Result<(), OutOfMemory>
+    ensures { OnOk result (PutsCalls call.now.frame call.now.function partition.now (part_of part.now) column.old column.new) }
 {
     let null = Value::Null;
     let zero = Value::Int(0);
     let source = source_of(alloc, &*call, &*partition, part, &null, &zero)?;
-    values_from(alloc, &source, partition, part)
+    put_from(alloc, &source, partition, part, column)
 }
 
-fn values_from(
+fn put_from(
     alloc: Global,
     source: &Source,
     partition: &Partition,
     part: &Part,
-) -> Result<Vec<Result<Value, Fault>>, OutOfMemory>
-    ensures { IfOk result (λ v. (f : frame.Frame) (function : function.Function) → IsSourceOf f function (partition_of partition.now) (part_of part.now) source.now → AreValues f function (partition_of partition.now) (part_of part.now) v.items) }
+    column: &mut CallColumn,
+) -> Result<(), OutOfMemory>
+    ensures { OnOk result ((f : frame.Frame) (function : function.Function) → IsSourceOf f function (partition_of partition.now) (part_of part.now) source.now → PutsCalls f function partition.now (part_of part.now) column.old column.new) }
 {
-    let mut values = Vec::with_capacity(alloc, partition.positions.len())?;
     let mut start = 0;
     for place in 0..partition.positions.len() {
         start = group_start(part, start, place);
         let value = value_from(alloc, source, partition, part, place, start)?;
-        values.push(value)?;
+        column.put(partition.positions[place], value);
     }
-    Ok(values)
+    Ok(())
 }
 
 fn source_of<'a>(

@@ -1,8 +1,8 @@
 //! Frames, and window calls over the part that a line has set.
 
-use crate::shown::{push, push_between, push_value_or_fault};
+use crate::shown::{push, push_between, push_fault, push_value};
 use std::alloc::Global;
-use wd_calls::{Partition, call_values};
+use wd_calls::{CallColumn, Partition, put_values};
 use wd_cases::Failure;
 use wd_cases_notation::{Line, State};
 use wd_columns::RowSource;
@@ -22,7 +22,7 @@ pub fn frame_members(
     Ok(())
 }
 
-/// `call_values FRAME CALL : POSITIONS`
+/// `call_values FRAME CALL : POSITIONS`: the values there, and whether one is out of range
 pub fn answer(alloc: Global, state: &State, out: &mut String) -> Result<(), Failure> {
     let call = state.stacks.window.calls.first().ok_or(Failure::NoCase)?;
     let source = RowSource::of_rows(state.rows());
@@ -30,14 +30,20 @@ pub fn answer(alloc: Global, state: &State, out: &mut String) -> Result<(), Fail
         rows: &source,
         positions: state.ordering(),
     };
-    let values = call_values(alloc, call, &partition, &state.part())?;
-    push_values(out, &values)
+    let mut column = CallColumn::blank(alloc, state.rows().len())?;
+    put_values(alloc, call, &partition, &state.part(), &mut column)?;
+    push_values(out, &column.values, state.ordering())?;
+    if column.out_of_range {
+        push(out, "; ")?;
+        push_fault(out, Fault::OutOfRange)?;
+    }
+    Ok(())
 }
 
-fn push_values(out: &mut String, values: &[Result<Value, Fault>]) -> Result<(), Failure> {
-    for (i, value) in values.iter().enumerate() {
+fn push_values(out: &mut String, values: &[Value], positions: &[u64]) -> Result<(), Failure> {
+    for (i, position) in positions.iter().enumerate() {
         push_between(out, i, ",")?;
-        push_value_or_fault(out, value)?;
+        push_value(out, values.get(*position as usize).unwrap_or(&Value::Null))?;
     }
-    push(out, if values.is_empty() { "-" } else { "" })
+    push(out, if positions.is_empty() { "-" } else { "" })
 }

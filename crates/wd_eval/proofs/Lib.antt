@@ -3,7 +3,7 @@ pub mod Beside
 pub mod Serving
 pub mod Naming
 pub mod Filled
-pub mod CallColumns
+pub mod Pushing
 pub mod Asking
 pub mod Sizes
 pub mod Wrong

@@ -1,15 +1,12 @@
--- The partitions of a Window's classes, and the values of its calls.
-use Rattle.std.specs.Prelude.{◌≡◌, ℕ, ◌+◌, ◌<◌, ◌≤◌, Bool, ◌&&◌, true, nat_eq, List, [], length, map, slice_index_or, Result, Ok}
+-- The partitions of a Window's classes.
+use Rattle.std.specs.Prelude.{◌≡◌, ℕ, ◌+◌, ◌<◌, ◌≤◌, Bool, ◌&&◌, true, nat_eq, List, [], length, slice_index_or, Result, Ok}
 use Rattle.std.specs.List.{list_any}
 use Rattle.std.specs.declared.alloc.Global.{Global}
 use Rattle.std.specs.declared.vec.Vec.{Vec}
-use Rattle.wd_value.specs.declared.value.Fault.{Fault}
-use Rattle.wd_value.specs.Bags.{positions}
 use Rattle.wd_value.specs.Rows.{Row}
 use Rattle.wd_plan.specs.declared.window.Call.{Call}
 use Rattle.wd_plan.specs.declared.window.Frame.{Frame}
-use Rattle.wd_plan.specs.Faults.{all_ok}
-use Rattle.wd_plan.specs.Outcomes.{RowsOrFault, call_at, class_at, ordering_at}
+use Rattle.wd_plan.specs.Outcomes.{class_at, ordering_at}
 use Rattle.wd_plan.specs.Plans.{ClassRule, WindowRule}
 use Rattle.wd_plan.specs.Sorting.{IsOrdering}
 use Rattle.wd_frame.specs.Laws.{has_range_offset, is_descending}
@@ -64,14 +61,6 @@ pub record AreIndexed (w : WindowRule) (rows : List Row) (orderings : List (List
 -- what is so for all orderings of a Window's classes that make these partitions
 abbrev pub WhereIndexed : WindowRule → List Row → List ClassIndex → (List (List ℕ) → Type 0) → Type 0
 WhereIndexed w rows indexes Holds = (orderings : List (List ℕ)) → AreIndexed w rows orderings indexes → Holds orderings
-
--- the values of the calls at a row, or their least fault
-abbrev pub calls_at : WindowRule → List Row → List (List ℕ) → ℕ → Result Row Fault
-calls_at w rows orderings p = all_ok (map (call_at w rows orderings p) w.calls)
-
--- the values of the calls at each of the first n rows, or the least fault of all
-abbrev pub first_calls : WindowRule → List Row → List (List ℕ) → ℕ → RowsOrFault
-first_calls w rows orderings n = all_ok (map (calls_at w rows orderings) (positions n))
 
 -- the ordering with this number is there and empty
 pub record IsEmptyAt (choice : List (List ℕ)) (number : ℕ) : Type 0 where

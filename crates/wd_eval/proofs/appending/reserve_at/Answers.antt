@@ -1,4 +1,4 @@
-use Rattle.wd_eval.proofs.Beside.{same_row}
+use Rattle.wd_eval.proofs.Pushing.{same_row}
 use Rattle.wd_eval.proofs.appending.reserve_at.Goals as goal
 
 pub returns-clause-same : goal.returns-clause-same

@@ -1,33 +1,20 @@
-use Rattle.std.proofs.Common.{◌≡◌, ◌∙◌, None, sym, subst, length, map, arith}
-use Rattle.wd_value.specs.Bags.{positions}
-use Rattle.wd_plan.specs.Faults.{least_fault}
+use Rattle.std.proofs.Common.{◌≡◌, ◌∙◌, sym, ap, true, false}
+use Rattle.std.specs.List.{list_any}
 use Rattle.wd_plan.specs.Plans.{window_of}
-use Rattle.wd_eval.specs.Columns.{AreColumns, columns_of}
-use Rattle.wd_eval.specs.ClassIndexes.{calls_at}
-use Rattle.wd_eval.proofs.Beside.{window_along_columns, window_fault, window_from_columns}
+use Rattle.wd_calls.specs.declared.column.CallColumn.{CallColumn}
+use Rattle.wd_eval.proofs.Beside.{window_fault, window_values}
 use Rattle.wd_eval.proofs.calls.values_beside.Goals as goal
 
-pub returns-in-Some : goal.returns-in-Some
-returns-in-Some c = λ orderings listed. (
-    let w = window_of c.args.window.now in
-    let rows = c.args.rows.now in
+pub returns-then-is_out_of_range : goal.returns-then-is_out_of_range
+returns-then-is_out_of_range c = λ orderings listed. (
+    let tells = λ (column : CallColumn). column.out_of_range in
     let columns = c.in_ok-columns.columns.items in
-    let are : AreColumns w rows orderings (columns_of columns) = c.in_ok-columns.ensures orderings listed in
-    let are_there = subst (λ cs. AreColumns w rows orderings (columns_of cs)) (sym c.deref.ensures.value) are in
-    let least = c.fault_among.ensures w rows orderings are_there (omega arith) in
-    window_fault w rows orderings (columns_of columns) are c.len.result c.in-Some.fault (omega arith) (sym least ∙ c.in-Some.is))
+    let found : list_any tells columns ≡ true = ap (list_any tells) (sym c.deref.ensures.value) ∙ sym c.is_out_of_range.ensures ∙ c.if-is_out_of_range.true in
+    window_fault (window_of c.args.window.now) c.args.rows.now orderings columns (c.in_ok-columns.ensures orderings listed) found)
 
-pub returns-in-None : goal.returns-in-None
-returns-in-None c = λ orderings listed. (
-    let w = window_of c.args.window.now in
-    let rows = c.args.rows.now in
+pub returns : goal.returns
+returns c = λ orderings listed. (
+    let tells = λ (column : CallColumn). column.out_of_range in
     let columns = c.in_ok-columns.columns.items in
-    let are : AreColumns w rows orderings (columns_of columns) = c.in_ok-columns.ensures orderings listed in
-    let are_there = subst (λ cs. AreColumns w rows orderings (columns_of cs)) (sym c.deref.ensures.value) are in
-    let least = c.fault_among.ensures w rows orderings are_there (omega arith) in
-    let long : c.len.result ≡ length rows = c.len.ensures in
-    let none : least_fault (map (calls_at w rows orderings) (positions c.len.result)) ≡ None = sym least ∙ c.in-None.is in
-    record {
-      after = window_from_columns w rows orderings (columns_of columns) are c.len.result long none;
-      along = window_along_columns w rows orderings (columns_of columns) are (subst (λ n. least_fault (map (calls_at w rows orderings) (positions n)) ≡ None) long none);
-    })
+    let found : list_any tells columns ≡ false = ap (list_any tells) (sym c.deref.ensures.value) ∙ sym c.is_out_of_range.ensures ∙ c.if-is_out_of_range.false in
+    window_values (window_of c.args.window.now) c.args.rows.now orderings columns (c.in_ok-columns.ensures orderings listed) found)

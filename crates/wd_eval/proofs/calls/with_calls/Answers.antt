@@ -25,4 +25,4 @@ returns-in_ok-extended-in-Ok c = λ orderings listed. (
     let found = c.in_ok-fault.ensures orderings there in
     let beside : IsBeside w c.of_rows.result orderings (Ok c.in-Ok.columns) = subst (IsBeside w c.of_rows.result orderings) c.in-Ok.is found in
     let own : IsBeside w rows orderings (Ok c.in-Ok.columns) = subst (λ rs. IsBeside w rs orderings (Ok c.in-Ok.columns)) source beside in
-    ap Ok c.in_ok-extended-in-Ok.ensures ∙ own.after)
+    ap Ok c.in_ok-extended-in-Ok.ensures ∙ own)

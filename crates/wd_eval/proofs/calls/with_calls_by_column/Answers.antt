@@ -24,4 +24,4 @@ returns-in_ok-extended-in-Ok c = λ orderings listed. (
     let found = c.in_ok-fault.ensures orderings there in
     let beside : IsBeside w c.of_columns.result orderings (Ok c.in-Ok.columns) = subst (IsBeside w c.of_columns.result orderings) c.in-Ok.is found in
     let own : IsBeside w rows orderings (Ok c.in-Ok.columns) = subst (λ rs. IsBeside w rs orderings (Ok c.in-Ok.columns)) source beside in
-    ap Ok c.in_ok-extended-in-Ok.ensures ∙ own.along)
+    ap Ok c.in_ok-extended-in-Ok.ensures ∙ own)

@@ -16,5 +16,6 @@ returns c = λ w needs orderings listed. (
     let filled = c.in_ok-column.ensures (class_at w k) (asks_keys w k) (ordering_at orderings k) needs is in
     record {
       long = filled.long;
-      each = λ p other within. filled.each p other within (first_below (class_at w k) rows (ordering_at orderings k) is.lawful p within);
+      each = λ p within all. filled.each p within (first_below (class_at w k) rows (ordering_at orderings k) is.lawful p within);
+      said = λ h. (let found = filled.said h in (found.0, found.1, tt, found.3));
     })
