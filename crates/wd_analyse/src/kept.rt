@@ -1,7 +1,7 @@
 //! What a node keeps of what columns determine.
 
 ghost use Rattle.std.specs.Prelude.{◌≡◌, ℕ, ◌++◌, map, filter, IfOk};
-ghost use Rattle.wd_certificate.specs.Certificates.{facts_of_child};
+ghost use Rattle.wd_certificate.specs.Certificates.{kept_of};
 ghost use Rattle.wd_step_facts.specs.Facts.{columns_named, fact_of};
 ghost use Rattle.wd_step_facts.specs.Steps.{all_columns};
 ghost use Rattle.wd_sets.specs.Sets.{has_column, is_in};
@@ -100,7 +100,7 @@ fn targets(alloc: Global, members: &[Member]) -> Result<Vec<Target>, OutOfMemory
 
 /// What a node keeps of what columns determine, shown by the trace with this number.
 fn kept_record(alloc: Global, claim: &Closed, width: u16, trace: u64) -> Result<Kept, OutOfMemory>
-    ensures { IfOk result (λ k. facts_of_child k ≡ record { to = map spec.target_of (spec.kept_members width (closing_of claim.now)); trace = trace }) }
+    ensures { IfOk result (λ k. kept_of k ≡ record { to = map spec.target_of (spec.kept_members width (closing_of claim.now)); trace = trace }) }
 {
     let members = kept_members(alloc, claim, width)?;
     let to = targets(alloc, &members)?;
@@ -109,7 +109,7 @@ fn kept_record(alloc: Global, claim: &Closed, width: u16, trace: u64) -> Result<
 
 /// What a node with `width` columns keeps, for its entry; each claim is shown by the trace with the claim's number.
 pub(crate) fn keep(alloc: Global, claims: &[Closed], width: u16) -> Result<Vec<Kept>, OutOfMemory>
-    ensures { IfOk result (λ v. map facts_of_child v.items ≡ spec.keep_by width 0 (map closing_of claims.now)) }
+    ensures { IfOk result (λ v. map kept_of v.items ≡ spec.keep_by width 0 (map closing_of claims.now)) }
 {
     let mut list = Vec::with_capacity(alloc, claims.len())?;
     for claim in claims {
