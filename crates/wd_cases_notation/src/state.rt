@@ -54,14 +54,6 @@ impl State {
         }
     }
 
-    /// The first row, without values where there is none.
-    pub fn row(&self) -> &[Value] {
-        match self.rows().first() {
-            Some(row) => row,
-            None => &[],
-        }
-    }
-
     /// The partition that `part` has set.
     pub fn part(&self) -> Part<'_> {
         Part {

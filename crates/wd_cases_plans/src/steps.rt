@@ -4,9 +4,10 @@ use crate::shown::{push, push_fault, push_outcome, push_rows, push_truth, push_v
 use std::alloc::Global;
 use wd_cases::Failure;
 use wd_cases_notation::{Line, State, Word};
-use wd_join::{StepError, join_rows};
+use wd_columns::RowSource;
+use wd_join::{Pair, StepError, all_pairs, join_pairs, paired_rows};
 use wd_plan::{Expr, Limit, Outcome};
-use wd_scalar::{has_arithmetic, is_true, value_of};
+use wd_scalar::{has_arithmetic, is_true, value_at};
 use wd_steps::{copy_filtered, distinct_rows, filter_rows, limit_rows, map_rows, with_fault};
 use wd_value::{Fault, OutOfMemory, Row, SortColumn, Value, copy_row};
 
@@ -20,7 +21,7 @@ pub fn expression_answer(
     let expression = state.stacks.expressions.first().ok_or(Failure::NoCase)?;
     match name {
         "has_arithmetic" => push_truth(out, has_arithmetic(expression)),
-        "value_of" | "is_true" => push_value_of(alloc, expression, state.row(), name, out),
+        "value_of" | "is_true" => push_value_of(alloc, expression, state.rows(), name, out),
         "filter_rows" => push_filtered(alloc, expression, state.rows(), out),
         "copy_filtered" => push_copies(alloc, expression, state.rows(), out),
         _ => Err(Failure::NoCase),
@@ -30,11 +31,11 @@ pub fn expression_answer(
 fn push_value_of(
     alloc: Global,
     expression: &Expr,
-    row: &[Value],
+    rows: &[Row],
     name: &str,
     out: &mut String,
 ) -> Result<(), Failure> {
-    let value = value_of(alloc, expression, row)?;
+    let value = value_at(alloc, expression, &RowSource::of_rows(rows), 0)?;
     if name == "is_true" {
         push_is_true(out, &value)
     } else {
@@ -105,10 +106,32 @@ fn distinct(alloc: Global, rows: &[Row]) -> Result<Vec<Row>, OutOfMemory> {
 fn push_joined(alloc: Global, state: &State, word: Word, out: &mut String) -> Result<(), Failure> {
     let most = word.number(0).ok_or(Failure::NoCase)?;
     let condition = state.stacks.expressions.first();
-    match join_rows(alloc, condition, state.rows(), &state.right, most) {
-        Ok(outcome) => push_outcome(out, &outcome),
+    let left = RowSource::of_rows(state.rows());
+    let right = RowSource::of_rows(&state.right);
+    match pairs(alloc, condition, &left, &right, most) {
+        Ok(Ok(pairs)) => push_rows(out, &paired_rows(alloc, &left, &right, &pairs)?),
+        Ok(Err(fault)) => push_fault(out, fault),
         Err(StepError::TooManyRows) => push(out, "too many rows"),
         Err(StepError::OutOfMemory) => Err(Failure::OUT_OF_MEMORY),
+    }
+}
+
+fn pairs(
+    alloc: Global,
+    condition: Option<&Expr>,
+    left: &RowSource,
+    right: &RowSource,
+    most: u64,
+) -> Result<Result<Vec<Pair>, Fault>, StepError> {
+    match condition {
+        Some(condition) => join_pairs(alloc, condition, left, right, most),
+        None => {
+            let all = all_pairs(alloc, left, right)?;
+            if all.len() as u64 > most {
+                return Err(StepError::TooManyRows);
+            }
+            Ok(Ok(all))
+        }
     }
 }
 

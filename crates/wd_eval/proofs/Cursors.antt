@@ -138,25 +138,26 @@ module _ (w : WindowRule) (rows : List Row) (new : Orderings) (indexes : List Cl
   pub name_indexes : (old : Orderings) → NamesClasses w → AreNextIndexes w rows old new indexes → NameBelow (length indexes) w.calls
   name_indexes old named a = subst (λ n. NameBelow n w.calls) (sym (long_indexes old a)) named
 
-module _ (w : WindowRule) (old new : Orderings) where
-  pub rows_given : (rows : List Row) (indexes : List ClassIndex) (found : RowsOrFault) → AreNextIndexes w rows old new indexes → WhereIndexed w rows indexes (λ orderings. found ≡ window_outcome w rows orderings) → Gives (Window w) (Ok rows) old new found
-  rows_given rows indexes found a is = record {
-    chosen = λ most choice first at. (let x = a.chosen most choice first at in (x.0, rows_done w rows choice first indexes found x.1 is));
-    sorted = λ kept turned made has. (let x = a.sorted kept turned made has in (x.0, x.1, record { put = x.2; stepped = rows_done w rows x.0 (length made) indexes found x.3 is }));
+pub rows_given : (w : WindowRule) (old new : Orderings) (rows : List Row) (indexes : List ClassIndex) (found : RowsOrFault) → AreNextIndexes w rows old new indexes → WhereIndexed w rows indexes (λ orderings. found ≡ window_outcome w rows orderings) → Gives (Window w) (Ok rows) old new found
+rows_given w old new rows indexes found a is = record {
+  chosen = λ most choice first at. (let x = a.chosen most choice first at in (x.0, rows_done w rows choice first indexes found x.1 is));
+  sorted = λ kept turned made has. (let x = a.sorted kept turned made has in (x.0, x.1, record { put = x.2; stepped = rows_done w rows x.0 (length made) indexes found x.3 is }));
+}
+
+-- ---- a step over a fault
+
+module _ (step : Step) (fault : Fault) (old new : Orderings) (n : ℕ) (long : n ≡ length (step_classes step)) where
+  pub fault_given : AreNextEmpty n old new → Gives step (Err fault) old new (Err fault)
+  fault_given a = record {
+    chosen = λ most choice first at. (let x = a.chosen most choice first at in (subst (λ k. IsAt new most choice (first + k)) long x.0, fault_done step fault choice first n long x.1));
+    sorted = λ kept turned made has. (let x = a.sorted kept turned made has in (x.0, x.1, fault_tied step fault turned n made x.0 long x.2));
   }
 
-  module _ (fault : Fault) (n : ℕ) (long : n ≡ length w.classes) where
-    pub fault_given : AreNextEmpty n old new → Gives (Window w) (Err fault) old new (Err fault)
-    fault_given a = record {
-      chosen = λ most choice first at. (let x = a.chosen most choice first at in (subst (λ k. IsAt new most choice (first + k)) long x.0, fault_done w fault choice first n long x.1));
-      sorted = λ kept turned made has. (let x = a.sorted kept turned made has in (x.0, x.1, fault_tied w fault turned n made x.0 long x.2));
-    }
-
-    pub fault_stops : (e : EvalError) → AreNotEmpty n old e → Stops (Window w) (Err fault) old e
-    fault_stops e a = record {
-      chosen = λ most choice first at. fault_unserved w fault choice first n long e (a.chosen most choice first at);
-      sorted = λ kept turned made has. a.sorted kept turned made has;
-    }
+  pub fault_stops : (e : EvalError) → AreNotEmpty n old e → Stops step (Err fault) old e
+  fault_stops e a = record {
+    chosen = λ most choice first at. fault_unserved step fault choice first n long e (a.chosen most choice first at);
+    sorted = λ kept turned made has. a.sorted kept turned made has;
+  }
 
 -- under a choice's orderings from a number on
 pub extended_under : {X : Type 0} (view : X → RowsOrFault) (w : WindowRule) (input : RowsOrFault) (choice : Bor (List (Vec ℕ Global))) (first most : ℕ) (new : Orderings) (r : Result X EvalError)

@@ -10,13 +10,12 @@ use Rattle.wd_join.specs.declared.error.StepError.{StepError}
 use Rattle.wd_join.specs.declared.error.StepError.TheVariants as error
 use Rattle.wd_eval.specs.Errors.{error_of}
 use Rattle.wd_eval.specs.Steps.{has_larger_step, is_larger}
-use Rattle.wd_nodes.specs.Relation.{relation_of, IsSmall, IsLarge, group_over, join_over}
+use Rattle.wd_nodes.specs.Relation.{RelationOrFault, relation_or_fault_of, IsSmall, IsLarge, group_over, join_over}
 use Rattle.wd_eval.specs.Nodes.{Evaluated, IsEvaluated, IsStopped}
 use Rattle.wd_eval.specs.Windows.{AreUnserved, IsLeast, IsStepped, IsWrongIn, step_over}
 use Rattle.wd_eval.specs.Wrong.{IsWrongFrom}
 use Rattle.wd_eval.specs.declared.error.EvalError.{EvalError}
 use Rattle.wd_eval.specs.declared.error.EvalError.TheVariants.{NotValid, TooManyRows, OutOfMemory}
-use Rattle.wd_nodes.specs.declared.relation.Relation.{Relation}
 use Rattle.wd_eval.proofs.Wrong.{none_wrong, wrong_within}
 use Rattle.wd_eval.specs.Walks.{IsFew}
 use Rattle.wd_eval.proofs.Sizes.{fewer_step}
@@ -44,7 +43,7 @@ module _ (most : ℕ) (tables instance : Instance) (choice : List (List ℕ)) (f
 
   -- ---- Scan
 
-  pub scan_done : (table columns : ℕ) (o : Relation) → IsSmall most (Ok (table_at instance table)) (relation_of tables o) → IsEvaluated most (Scan table columns) tables instance choice first (record { outcome = o; next = first })
+  pub scan_done : (table columns : ℕ) (o : RelationOrFault) → IsSmall most (Ok (table_at instance table)) (relation_or_fault_of tables o) → IsEvaluated most (Scan table columns) tables instance choice first (record { outcome = o; next = first })
   scan_done table columns o s = record { is = s.is; next = omega arith; served = record { present = omega arith; lawful = tt }; small = s.small; each = s.small }
 
   pub scan_stopped : (table columns : ℕ) (e : StepError) → IsLarge most (Ok (table_at instance table)) e → IsStopped most (Scan table columns) instance choice first (error_of e)
@@ -69,13 +68,13 @@ module _ (most : ℕ) (tables instance : Instance) (choice : List (List ℕ)) (f
       own_is : take (length (step_classes step)) (drop below.next choice) ≡ own_orderings step input rest
       own_is = ap (take (length (step_classes step))) (after (ordering_count input) below.next b.next)
 
-      pub step_done : (o : Relation) (next : ℕ) → first ≤ length choice → IsFew most step (relation_of tables below.outcome) → IsStepped step (relation_of tables below.outcome) choice below.next (relation_of tables o) → next ≡ below.next + length (step_classes step)
+      pub step_done : (o : RelationOrFault) (next : ℕ) → first ≤ length choice → IsFew most step (relation_or_fault_of tables below.outcome) → IsStepped step (relation_or_fault_of tables below.outcome) choice below.next (relation_or_fault_of tables o) → next ≡ below.next + length (step_classes step)
           → IsEvaluated most (Over step input) tables instance choice first (record { outcome = o; next = next })
       step_done o next within few x e =
           let long = long_rest within in
           let there = x.served.present in
           let at = b.next in
-          let lawful = subst (λ (r : RowsOrFault). AreOrderingsOver (step_classes step) r (own_orderings step input rest)) b.is (subst (AreOrderingsOver (step_classes step) (relation_of tables below.outcome)) own_is x.served.lawful) in
+          let lawful = subst (λ (r : RowsOrFault). AreOrderingsOver (step_classes step) r (own_orderings step input rest)) b.is (subst (AreOrderingsOver (step_classes step) (relation_or_fault_of tables below.outcome)) own_is x.served.lawful) in
           let small = fewer_step most step (own_orderings step input rest) (outcome input instance rest) (subst (IsFew most step) b.is few) lawful b.small in
           record {
             is = x.is ∙ (λ i. step_over step (own_is i) (b.is i));
@@ -85,7 +84,7 @@ module _ (most : ℕ) (tables instance : Instance) (choice : List (List ℕ)) (f
             each = neither (has_larger_step most input instance rest) (is_larger most (Over step input) instance rest) b.each small;
           }
 
-      pub step_stopped : (e : EvalError) → AreUnserved (step_classes step) (relation_of tables below.outcome) choice below.next e → IsStopped most (Over step input) instance choice first e
+      pub step_stopped : (e : EvalError) → AreUnserved (step_classes step) (relation_or_fault_of tables below.outcome) choice below.next e → IsStopped most (Over step input) instance choice first e
       step_stopped (NotValid p) h =
           let own = subst (λ (n : ℕ). IsLeast (IsWrongIn (step_classes step) (outcome input instance rest) choice n) p) b.next (subst (λ (r : RowsOrFault). IsLeast (IsWrongIn (step_classes step) r choice below.next) p) b.is h) in (
             inr own.0,
@@ -98,7 +97,7 @@ module _ (most : ℕ) (tables instance : Instance) (choice : List (List ℕ)) (f
       step_stopped OutOfMemory h = tt
 
   -- a Group of too many rows
-  pub group_stopped : (rule : GroupRule) (input : PlanTree) (below : Evaluated) → IsEvaluated most input tables instance choice first below → (e : StepError) → IsLarge most (group_over rule (relation_of tables below.outcome)) e → IsStopped most (Over (Group rule) input) instance choice first (error_of e)
+  pub group_stopped : (rule : GroupRule) (input : PlanTree) (below : Evaluated) → IsEvaluated most input tables instance choice first below → (e : StepError) → IsLarge most (group_over rule (relation_or_fault_of tables below.outcome)) e → IsStopped most (Over (Group rule) input) instance choice first (error_of e)
   group_stopped rule input below b error.TooManyRows h = or_right (has_larger_step most input instance rest) (is_larger most (Over (Group rule) input) instance rest) (ap (λ r. has_more_rows most (group_over rule r)) (sym b.is) ∙ h)
   group_stopped rule input below b error.OutOfMemory h = tt
 
@@ -142,15 +141,15 @@ module _ (most : ℕ) (tables instance : Instance) (choice : List (List ℕ)) (f
 
     module _ (r : Evaluated) (b : IsEvaluated most right tables instance choice l.next r) where
       abbrev below : RowsOrFault
-      below = join_over condition (relation_of tables l.outcome) (relation_of tables r.outcome)
+      below = join_over condition (relation_or_fault_of tables l.outcome) (relation_or_fault_of tables r.outcome)
 
       below_is : below ≡ outcome (Join condition left right) instance all
       below_is = λ i. join_over condition (a.is i) (right_outcome i)
         where
-          right_outcome : relation_of tables r.outcome ≡ outcome right instance on_right
+          right_outcome : relation_or_fault_of tables r.outcome ≡ outcome right instance on_right
           right_outcome = b.is ∙ ap (outcome right instance) right_is
 
-      pub join_done : (o : Relation) → IsSmall most below (relation_of tables o) → IsEvaluated most (Join condition left right) tables instance choice first (record { outcome = o; next = r.next })
+      pub join_done : (o : RelationOrFault) → IsSmall most below (relation_or_fault_of tables o) → IsEvaluated most (Join condition left right) tables instance choice first (record { outcome = o; next = r.next })
       join_done o s =
           let here = a.next in
           let there = b.next in

@@ -43,7 +43,7 @@ all_put classes input turned old new p =
     let taken : take (length classes) (drop (length old) new) ≡ own = ap (λ n. take n (drop (length old) new)) (sym size) ∙ taken_back old own new p.grown in
     record { present = omega arith; lawful = subst (AreOrderingsOver classes input) (sym taken) (lawful_all classes input turned (length old) own p.sorted) }
 
--- ---- a Window over a fault
+-- ---- a step over a fault
 
 empty_put : (classes : List ClassRule) (fault : Fault) (turned : Option Turned) (count : ℕ) (old new : List (List ℕ)) → count ≡ length classes → IsPutEmpty count old new → AreAllPut classes (Err fault) turned old new
 empty_put classes fault turned count old new e p = record {
@@ -52,10 +52,10 @@ empty_put classes fault turned count old new e p = record {
   sorted = record { long = p.long ∙ e; each = λ k h. p.empty k (omega arith) };
 }
 
-pub fault_tied : (w : WindowRule) (fault : Fault) (turned : Option Turned) (count : ℕ) (old new : List (List ℕ)) → count ≡ length w.classes → IsPutEmpty count old new → IsStableStep (Window w) (Err fault) turned old new (Err fault)
-fault_tied w fault turned count old new e p =
-    let put = empty_put w.classes fault turned count old new e p in
-    record { put = put; stepped = record { served = all_put w.classes (Err fault) turned old new put; is = refl } }
+pub fault_tied : (step : Step) (fault : Fault) (turned : Option Turned) (count : ℕ) (old new : List (List ℕ)) → count ≡ length (step_classes step) → IsPutEmpty count old new → IsStableStep step (Err fault) turned old new (Err fault)
+fault_tied step fault turned count old new e p =
+    let put = empty_put (step_classes step) fault turned count old new e p in
+    record { put = put; stepped = record { served = all_put (step_classes step) (Err fault) turned old new put; is = refl } }
 
 pub none_empty : (old : List (List ℕ)) → IsPutEmpty 0 old old
 none_empty old = record { own = []; grown = sym (append-nil old); long = refl; empty = λ k h. absurd (omega arith) }

@@ -100,21 +100,22 @@ each_from_all [] k a = refl
 each_from_all (x ∷ xs) zero a = a.0
 each_from_all (x ∷ xs) (suc k) a = each_from_all xs k a.1
 
-module _ (w : WindowRule) (fault : Fault) (choice : List (List ℕ)) (first n : ℕ) (long : n ≡ length w.classes) where
-  pub fault_done : AreEmpty n choice first → IsStepped (WindowStep w) (Err fault) choice first (Err fault)
+module _ (step : Step) (fault : Fault) (choice : List (List ℕ)) (first n : ℕ) (long : n ≡ length (step_classes step)) where
+  pub fault_done : AreEmpty n choice first → IsStepped step (Err fault) choice first (Err fault)
   fault_done a =
       let there = a.present in
-      let enough : first + length w.classes ≤ length choice = omega arith in
-      let size = length_own choice first (length w.classes) enough in
+      let count = length (step_classes step) in
+      let enough : first + count ≤ length choice = omega arith in
+      let size = length_own choice first count enough in
       record {
         served = record {
           present = enough;
-          lawful = all_from_each (take (length w.classes) (drop first choice)) (λ k h. (let lt : k < length w.classes = omega arith in own_at choice first (length w.classes) k lt ∙ a.empty k (omega arith)));
+          lawful = all_from_each (take count (drop first choice)) (λ k h. (let lt : k < count = omega arith in own_at choice first count k lt ∙ a.empty k (omega arith)));
         };
         is = refl;
       }
 
-  pub fault_unserved : (e : EvalError) → IsUnserved (IsLeast (IsNotEmptyIn n choice first)) e → AreUnserved w.classes (Err fault) choice first e
+  pub fault_unserved : (e : EvalError) → IsUnserved (IsLeast (IsNotEmptyIn n choice first)) e → AreUnserved (step_classes step) (Err fault) choice first e
   fault_unserved TooManyRows h = absurd h
   fault_unserved OutOfMemory h = tt
   fault_unserved (NotValid place) h =

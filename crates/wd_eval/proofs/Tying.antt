@@ -14,7 +14,7 @@ use Rattle.wd_join.specs.declared.error.StepError.TheVariants as error
 use Rattle.wd_eval.specs.Errors.{error_of}
 use Rattle.wd_eval.specs.Judged.{IsOutcome}
 use Rattle.wd_eval.specs.Runs.{IsUnderTurned}
-use Rattle.wd_nodes.specs.Relation.{relation_of, IsLarge, IsSmall, group_over, join_over, most_rows}
+use Rattle.wd_nodes.specs.Relation.{RelationOrFault, relation_or_fault_of, IsLarge, IsSmall, group_over, join_over, most_rows}
 use Rattle.wd_eval.specs.Nodes.{Evaluated, IsEvaluated}
 use Rattle.wd_eval.specs.Windows.{step_over}
 use Rattle.wd_eval.specs.Steps.{has_large_step, is_large}
@@ -22,7 +22,6 @@ use Rattle.wd_eval.specs.Tied.{AreTied, IsSortedOver, IsValidTurnedChoice, turn_
 use Rattle.wd_eval.specs.Ties.{IsUnderStable, IsStableStep, IsUntied}
 use Rattle.wd_eval.specs.declared.error.EvalError.{EvalError}
 use Rattle.wd_eval.specs.declared.error.EvalError.TheVariants.{NotValid, TooManyRows, OutOfMemory}
-use Rattle.wd_nodes.specs.declared.relation.Relation.{Relation}
 use Rattle.wd_partition.specs.declared.turn.Turn.{Turn}
 use Rattle.wd_eval.specs.declared.turned.Turned.{Turned}
 use Rattle.wd_eval.proofs.Nodes.{or_left, or_right, scan_done, step_done, join_done}
@@ -121,7 +120,7 @@ module _ (tables instance : Instance) (turned : Option Turned) (old : List (List
   grown_long : (mid own : List (List ℕ)) → mid ≡ old ++ own → length old ≤ length mid
   grown_long mid own e = let long = ap length e ∙ length-append old own in omega arith
 
-  pub scan_tied : (table columns : ℕ) (o : Relation) → IsSmall most_rows (Ok (table_at instance table)) (relation_of tables o) → IsUnderStable (Scan table columns) tables instance turned old old o
+  pub scan_tied : (table columns : ℕ) (o : RelationOrFault) → IsSmall most_rows (Ok (table_at instance table)) (relation_or_fault_of tables o) → IsUnderStable (Scan table columns) tables instance turned old old o
   scan_tied table columns o s = record {
     own = [];
     grown = sym (append-nil old);
@@ -134,19 +133,19 @@ module _ (tables instance : Instance) (turned : Option Turned) (old : List (List
   step_untied_below step input TooManyRows h = λ choice long s. or_left (has_large_step input instance choice) (is_large (Over step input) instance choice) (h choice (omega arith) s.0)
   step_untied_below step input OutOfMemory h = tt
 
-  module _ (rule : GroupRule) (input : PlanTree) (new : List (List ℕ)) (below : Relation) (b : IsUnderStable input tables instance turned old new below) where
-    large_group : has_more_rows most_rows (group_over rule (relation_of tables below)) ≡ true → (choice : List (List ℕ)) → ordering_count input ≤ length choice → AreTied input instance turned (length old) choice → is_large (Over (Group rule) input) instance choice ≡ true
+  module _ (rule : GroupRule) (input : PlanTree) (new : List (List ℕ)) (below : RelationOrFault) (b : IsUnderStable input tables instance turned old new below) where
+    large_group : has_more_rows most_rows (group_over rule (relation_or_fault_of tables below)) ≡ true → (choice : List (List ℕ)) → ordering_count input ≤ length choice → AreTied input instance turned (length old) choice → is_large (Over (Group rule) input) instance choice ≡ true
     large_group h choice long s =
         let same : outcome input instance choice ≡ outcome input instance (drop (length old) new) = one_outcome instance turned input (length old) choice (drop (length old) new) long b.evaluated.served.present s b.tied in
         ap (λ r. has_more_rows most_rows (group_over rule r)) (same ∙ sym b.evaluated.is) ∙ h
 
-    pub group_untied : (e : StepError) → IsLarge most_rows (group_over rule (relation_of tables below)) e → IsUntied (Over (Group rule) input) instance turned (length old) (error_of e)
+    pub group_untied : (e : StepError) → IsLarge most_rows (group_over rule (relation_or_fault_of tables below)) e → IsUntied (Over (Group rule) input) instance turned (length old) (error_of e)
     group_untied error.TooManyRows h = λ choice long s. or_right (has_large_step input instance choice) (is_large (Over (Group rule) input) instance choice) (large_group h choice (omega arith) s.0)
     group_untied error.OutOfMemory h = tt
 
   -- ---- what stands after the orderings of a node below
 
-  module _ (plan : PlanTree) (mid own new : List (List ℕ)) (o : Relation) (b : IsUnderStable plan tables instance turned old mid o) (e : new ≡ mid ++ own) where
+  module _ (plan : PlanTree) (mid own new : List (List ℕ)) (o : RelationOrFault) (b : IsUnderStable plan tables instance turned old mid o) (e : new ≡ mid ++ own) where
     abbrev at_mid : Evaluated
     at_mid = record { outcome = o; next = length mid }
 
@@ -169,14 +168,14 @@ module _ (tables instance : Instance) (turned : Option Turned) (old : List (List
         ∙ ap (λ ch. get_or ch (length mid + k) []) e
         ∙ get_or-append-add mid own k []
 
-    pub below_is : relation_of tables o ≡ outcome plan instance (drop (length old) new)
+    pub below_is : relation_or_fault_of tables o ≡ outcome plan instance (drop (length old) new)
     below_is = still.is
 
     pub grown_more : new ≡ old ++ (b.own ++ own)
     grown_more = e ∙ ap (λ ch. ch ++ own) b.grown ∙ append_assoc old b.own own
 
-  pub step_tied : (step : Step) (input : PlanTree) (mid new : List (List ℕ)) (below o : Relation) → IsUnderStable input tables instance turned old mid below → IsFew most_rows step (relation_of tables below)
-      → IsStableStep step (relation_of tables below) turned mid new (relation_of tables o) → IsUnderStable (Over step input) tables instance turned old new o
+  pub step_tied : (step : Step) (input : PlanTree) (mid new : List (List ℕ)) (below o : RelationOrFault) → IsUnderStable input tables instance turned old mid below → IsFew most_rows step (relation_or_fault_of tables below)
+      → IsStableStep step (relation_or_fault_of tables below) turned mid new (relation_or_fault_of tables o) → IsUnderStable (Over step input) tables instance turned old new o
   step_tied step input mid new below o b few x =
       let own = x.put.own in
       let e = x.put.grown in
@@ -196,7 +195,7 @@ module _ (tables instance : Instance) (turned : Option Turned) (old : List (List
               let number : length mid + k ≡ length old + ordering_count input + k = omega arith in
               subst (IsSortedOver (class k) (turn_of turned (length old + ordering_count input + k)) (outcome input instance (drop (length old) new))) (sym (put_at input mid own new below b e k))
               (subst (λ (r : RowsOrFault). IsSortedOver (class k) (turn_of turned (length old + ordering_count input + k)) r (ordering_at own k)) (below_is input mid own new below b e)
-              (subst (λ (n : ℕ). IsSortedOver (class k) (turn_of turned n) (relation_of tables below) (ordering_at own k)) number (x.put.sorted.each k l)))),
+              (subst (λ (n : ℕ). IsSortedOver (class k) (turn_of turned n) (relation_or_fault_of tables below) (ordering_at own k)) number (x.put.sorted.each k l)))),
         );
       }
 
@@ -211,7 +210,7 @@ module _ (tables instance : Instance) (turned : Option Turned) (old : List (List
         or_left (on_left || on_right) (is_large (Join condition left right) instance choice) (or_left on_left on_right (h choice (omega arith) s.0)))
     join_untied_left OutOfMemory h = tt
 
-    module _ (mid : List (List ℕ)) (lo : Relation) (l : IsUnderStable left tables instance turned old mid lo) where
+    module _ (mid : List (List ℕ)) (lo : RelationOrFault) (l : IsUnderStable left tables instance turned old mid lo) where
       pub join_untied_right : (e : EvalError) → IsUntied right instance turned (length mid) e → IsUntied (Join condition left right) instance turned (length old) e
       join_untied_right (NotValid p) h = h
       join_untied_right TooManyRows h = λ choice long s. (
@@ -223,7 +222,7 @@ module _ (tables instance : Instance) (turned : Option Turned) (old : List (List
           (or_right on_left on_right (h (drop n choice) (omega arith) (subst (λ (k : ℕ). AreTied right instance turned k (drop n choice)) (sym l.evaluated.next) s.1))))
       join_untied_right OutOfMemory h = tt
 
-      module _ (new : List (List ℕ)) (ro : Relation) (r : IsUnderStable right tables instance turned mid new ro) where
+      module _ (new : List (List ℕ)) (ro : RelationOrFault) (r : IsUnderStable right tables instance turned mid new ro) where
         right_rest : drop (ordering_count left) (drop (length old) new) ≡ drop (length mid) new
         right_rest = drop-drop (ordering_count left) (length old) new ∙ ap (λ k. drop k new) (sym l.evaluated.next)
 
@@ -233,7 +232,7 @@ module _ (tables instance : Instance) (turned : Option Turned) (old : List (List
         both_tied : AreTied (Join condition left right) instance turned (length old) (drop (length old) new)
         both_tied = (still_tied left mid r.own new lo l r.grown, right_tied)
 
-        pub join_tied : (o : Relation) → IsSmall most_rows (join_over condition (relation_of tables lo) (relation_of tables ro)) (relation_of tables o) → IsUnderStable (Join condition left right) tables instance turned old new o
+        pub join_tied : (o : RelationOrFault) → IsSmall most_rows (join_over condition (relation_or_fault_of tables lo) (relation_or_fault_of tables ro)) (relation_or_fault_of tables o) → IsUnderStable (Join condition left right) tables instance turned old new o
         join_tied o s = record {
           own = l.own ++ r.own;
           grown = grown_more left mid r.own new lo l r.grown;
@@ -241,24 +240,24 @@ module _ (tables instance : Instance) (turned : Option Turned) (old : List (List
           tied = both_tied;
         }
 
-        large_here : has_more_rows most_rows (join_over condition (relation_of tables lo) (relation_of tables ro)) ≡ true → (choice : List (List ℕ)) → ordering_count left + ordering_count right ≤ length choice → AreTied (Join condition left right) instance turned (length old) choice → is_large (Join condition left right) instance choice ≡ true
+        large_here : has_more_rows most_rows (join_over condition (relation_or_fault_of tables lo) (relation_or_fault_of tables ro)) ≡ true → (choice : List (List ℕ)) → ordering_count left + ordering_count right ≤ length choice → AreTied (Join condition left right) instance turned (length old) choice → is_large (Join condition left right) instance choice ≡ true
         large_here h choice long s =
             let next = l.evaluated.next in
             let last = r.evaluated.next in
             let size = length-drop (length old) new in
             let enough : ordering_count left + ordering_count right ≤ length (drop (length old) new) = omega arith in
             let same : outcome (Join condition left right) instance choice ≡ outcome (Join condition left right) instance (drop (length old) new) = one_outcome instance turned (Join condition left right) (length old) choice (drop (length old) new) long enough s both_tied in
-            let on_left : relation_of tables lo ≡ outcome left instance (drop (length old) new) = below_is left mid r.own new lo l r.grown in
-            let on_right : relation_of tables ro ≡ outcome right instance (drop (ordering_count left) (drop (length old) new)) = r.evaluated.is ∙ ap (outcome right instance) (sym right_rest) in
+            let on_left : relation_or_fault_of tables lo ≡ outcome left instance (drop (length old) new) = below_is left mid r.own new lo l r.grown in
+            let on_right : relation_or_fault_of tables ro ≡ outcome right instance (drop (ordering_count left) (drop (length old) new)) = r.evaluated.is ∙ ap (outcome right instance) (sym right_rest) in
             ap (has_more_rows most_rows) same ∙ (λ i. has_more_rows most_rows (join_over condition (sym on_left i) (sym on_right i))) ∙ h
 
-        pub join_untied : (e : StepError) → IsLarge most_rows (join_over condition (relation_of tables lo) (relation_of tables ro)) e → IsUntied (Join condition left right) instance turned (length old) (error_of e)
+        pub join_untied : (e : StepError) → IsLarge most_rows (join_over condition (relation_or_fault_of tables lo) (relation_or_fault_of tables ro)) e → IsUntied (Join condition left right) instance turned (length old) (error_of e)
         join_untied error.TooManyRows h = λ choice long s. or_right (has_large_step left instance choice || has_large_step right instance (drop (ordering_count left) choice)) (is_large (Join condition left right) instance choice) (large_here h choice long s)
         join_untied error.OutOfMemory h = tt
 
 -- ---- whole plans
 
-module _ (plan : PlanTree) (tables instance : Instance) (turned : Option Turned) (new : List (List ℕ)) (g : Relation) (t : IsUnderStable plan tables instance turned [] new g) where
+module _ (plan : PlanTree) (tables instance : Instance) (turned : Option Turned) (new : List (List ℕ)) (g : RelationOrFault) (t : IsUnderStable plan tables instance turned [] new g) where
   pub tied_valid : IsValidTurnedChoice plan instance turned new
   tied_valid = record {
     tied = record { number = t.evaluated.next ∙ omega arith; tied = t.tied };
@@ -266,8 +265,8 @@ module _ (plan : PlanTree) (tables instance : Instance) (turned : Option Turned)
     small = t.evaluated.each;
   }
 
-  pub stable_outcome : (o : RowsOrFault) → o ≡ relation_of tables g → IsOutcome plan instance new o
+  pub stable_outcome : (o : RowsOrFault) → o ≡ relation_or_fault_of tables g → IsOutcome plan instance new o
   stable_outcome o e = record { valid = tied_valid.valid; small = t.evaluated.each; is = e ∙ t.evaluated.is }
 
-  pub under_turned : IsUnderTurned plan instance turned new (relation_of tables g)
+  pub under_turned : IsUnderTurned plan instance turned new (relation_or_fault_of tables g)
   under_turned = record { choice = tied_valid; is = t.evaluated.is }

@@ -10,15 +10,14 @@ use Rattle.wd_join.specs.Joins.{has_more_rows}
 use Rattle.wd_nodes.specs.Results.{OkOr}
 use Rattle.wd_eval.specs.Windows.{HasOrdering, IsLeast, IsUnserved, IsWrong}
 use Rattle.wd_eval.specs.Steps.{has_larger_step}
-use Rattle.wd_nodes.specs.Relation.{relation_of}
+use Rattle.wd_nodes.specs.Relation.{RelationOrFault, relation_or_fault_of}
 use Rattle.wd_eval.specs.Wrong.{IsWrongFrom}
 use Rattle.wd_eval.specs.declared.error.EvalError.{EvalError}
 use Rattle.wd_eval.specs.declared.error.EvalError.TheVariants.{NotValid, TooManyRows, OutOfMemory}
-use Rattle.wd_nodes.specs.declared.relation.Relation.{Relation}
 
 -- what a node gives, and the number of the next ordering
 pub record Evaluated : Type 0 where
-  pub outcome : Relation
+  pub outcome : RelationOrFault
   pub next : ℕ
 
 -- the plan's orderings are there, each of them lawful
@@ -29,7 +28,7 @@ pub record IsServed (plan : PlanTree) (instance : Instance) (choice : List (List
 -- the plan's outcome over the instance under the orderings from `first` on, as these tables show it, with the number of the next
 -- one; no step has more than `most` rows
 pub record IsEvaluated (most : ℕ) (plan : PlanTree) (tables instance : Instance) (choice : List (List ℕ)) (first : ℕ) (e : Evaluated) : Type 0 where
-  pub is : relation_of tables e.outcome ≡ outcome plan instance (drop first choice)
+  pub is : relation_or_fault_of tables e.outcome ≡ outcome plan instance (drop first choice)
   pub next : e.next ≡ first + ordering_count plan
   pub served : IsServed plan instance (drop first choice)
   pub small : has_more_rows most (outcome plan instance (drop first choice)) ≡ false

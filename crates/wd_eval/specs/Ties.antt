@@ -3,14 +3,13 @@ use Rattle.std.specs.Prelude.{◌≡◌, ℕ, ◌+◌, ◌<◌, ◌≤◌, true,
 use Rattle.wd_value.specs.Rows.{Instance}
 use Rattle.wd_plan.specs.Outcomes.{RowsOrFault, class_among, ordering_at}
 use Rattle.wd_plan.specs.Plans.{ClassRule, PlanTree, Step, step_classes, ordering_count}
-use Rattle.wd_nodes.specs.Relation.{most_rows}
+use Rattle.wd_nodes.specs.Relation.{RelationOrFault, most_rows}
 use Rattle.wd_eval.specs.Nodes.{IsEvaluated}
 use Rattle.wd_eval.specs.Windows.{IsStepped}
 use Rattle.wd_eval.specs.Steps.{has_large_step}
 use Rattle.wd_eval.specs.Tied.{AreTied, IsSortedOver, turn_of}
 use Rattle.wd_eval.specs.declared.error.EvalError.{EvalError}
 use Rattle.wd_eval.specs.declared.turned.Turned.{Turned}
-use Rattle.wd_nodes.specs.declared.relation.Relation.{Relation}
 use Rattle.wd_eval.specs.declared.error.EvalError.TheVariants.{NotValid, TooManyRows, OutOfMemory}
 
 -- the sorted orderings of the first n of some classes over an input, the first of them with this number
@@ -34,7 +33,7 @@ pub record IsStableStep (step : Step) (input : RowsOrFault) (turned : Option Tur
   pub stepped : IsStepped step input new (length old) found
 
 -- the plan's sorted orderings were appended to those that were there, and the outcome is that under them
-pub record IsUnderStable (plan : PlanTree) (tables instance : Instance) (turned : Option Turned) (old new : List (List ℕ)) (o : Relation) : Type 0 where
+pub record IsUnderStable (plan : PlanTree) (tables instance : Instance) (turned : Option Turned) (old new : List (List ℕ)) (o : RelationOrFault) : Type 0 where
   pub own : List (List ℕ)
   pub grown : new ≡ old ++ own
   pub evaluated : IsEvaluated most_rows plan tables instance new (length old) (record { outcome = o; next = length new })

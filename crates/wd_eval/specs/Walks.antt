@@ -7,8 +7,7 @@ use Rattle.wd_plan.specs.Outcomes.{RowsOrFault}
 use Rattle.wd_plan.specs.Plans.{Step, Filter, Map, Group, Window, Distinct, Limit, PlanTree, WindowRule, step_classes}
 use Rattle.wd_join.specs.Joins.{has_more_rows}
 use Rattle.wd_nodes.specs.Results.{OkOr}
-use Rattle.wd_nodes.specs.Relation.{most_rows}
-use Rattle.wd_nodes.specs.declared.relation.Relation.{Relation}
+use Rattle.wd_nodes.specs.Relation.{RelationOrFault, most_rows}
 use Rattle.wd_eval.specs.ClassIndexes.{AreClassIndexes, AreEmpty, IsNotEmptyIn}
 use Rattle.wd_eval.specs.Nodes.{IsEvaluated, IsStopped}
 use Rattle.wd_eval.specs.Ties.{AreAllPut, IsOutOfMemory, IsPutEmpty, IsStableStep, IsUnderStable, IsUntied}
@@ -50,7 +49,7 @@ IsWithin Stable = ⊤
 
 -- what a plan gives, as these tables show it: under the next orderings of a choice, each of them lawful, and under its sorted
 -- orderings, which are appended to those made before
-pub record IsWalked (plan : PlanTree) (tables instance : Instance) (old new : Orderings) (o : Relation) : Type 0 where
+pub record IsWalked (plan : PlanTree) (tables instance : Instance) (old new : Orderings) (o : RelationOrFault) : Type 0 where
   pub chosen : (most : ℕ) (choice : List (List ℕ)) (first : ℕ) → IsAt old most choice first → (next : ℕ) × IsAt new most choice next × IsEvaluated most plan tables instance choice first (record { outcome = o; next = next })
   pub sorted : (kept : Bool) (turned : Option Turned) (made : List (List ℕ)) → HasMade old kept turned made → (more : List (List ℕ)) × HasMade new kept turned more × IsUnderStable plan tables instance turned made more o
 
@@ -59,7 +58,7 @@ pub record IsHalted (plan : PlanTree) (instance : Instance) (old : Orderings) (e
   pub chosen : (most : ℕ) (choice : List (List ℕ)) (first : ℕ) → IsAt old most choice first → IsStopped most plan instance choice first e
   pub sorted : (kept : Bool) (turned : Option Turned) (made : List (List ℕ)) → HasMade old kept turned made → IsUntied plan instance turned (length made) e
 
-abbrev pub IsWalkedOrHalted : PlanTree → Instance → Instance → Orderings → Orderings → Result Relation EvalError → Type 0
+abbrev pub IsWalkedOrHalted : PlanTree → Instance → Instance → Orderings → Orderings → Result RelationOrFault EvalError → Type 0
 IsWalkedOrHalted plan tables instance old new r = OkOr (IsWalked plan tables instance old new) (IsHalted plan instance old) r
 
 -- ---- a step

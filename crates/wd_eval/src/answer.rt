@@ -1,17 +1,16 @@
 //! What a plan gives, however its rows are kept.
 
-ghost use Rattle.std.specs.Prelude.{◌≡◌, IfOk};
+ghost use Rattle.std.specs.Prelude.{◌≡◌, IfOk, Ok};
 ghost use Rattle.wd_eval.specs.KeptRows.{outcome_kept};
-ghost use Rattle.wd_nodes.specs.Relation.{relation_of};
+ghost use Rattle.wd_nodes.specs.Relation.{relation_of, relation_or_fault_of};
 ghost use Rattle.wd_plan.specs.Outcomes.{outcome_of};
-ghost use Rattle.wd_value.specs.Rows.{instance_of};
 
 use std::alloc::Global;
 use std::marker::Model;
 use wd_columns::{Columns, RowSource};
-use wd_nodes::{Relation, outcome_from};
+use wd_nodes::{Relation, StoredRows, Tables, into_own_rows, store};
 use wd_plan::Outcome;
-use wd_value::{Fault, OutOfMemory, Row};
+use wd_value::{Fault, OutOfMemory};
 
 /// How the rows of an answer are kept.
 #[derive(Drop)]
@@ -78,20 +77,29 @@ fn outcome_in(alloc: Global, kept: KeptRows) -> Result<Outcome, OutOfMemory>
 /// What is produced as an answer; columns stay columns.
 pub(crate) fn answer_of(
     alloc: Global,
-    instance: &[Vec<Row>],
-    relation: Relation,
+    tables: &Tables,
+    given: Result<Relation, Fault>,
 ) -> Result<Answer, OutOfMemory>
-    ensures { IfOk result (λ a. a ≡ relation_of (instance_of instance.now) relation) }
+    ensures { IfOk result (λ a. a ≡ relation_or_fault_of tables.now given) }
 {
-    match relation {
-        Relation::ByColumn(columns) => Ok(Answer {
-            kept: KeptRows::ByColumn(columns),
+    match given {
+        Ok(relation) => Ok(Answer {
+            kept: kept_rows(alloc, tables, relation)?,
         }),
+        Err(fault) => Ok(Answer {
+            kept: KeptRows::Made(Outcome::Fault(fault)),
+        }),
+    }
+}
+
+fn kept_rows(alloc: Global, tables: &Tables, relation: Relation) -> Result<KeptRows, OutOfMemory>
+    ensures { IfOk result (λ k. outcome_kept k ≡ Ok (relation_of tables.now relation)) }
+{
+    match store(alloc, tables, relation)? {
+        StoredRows::Columns(columns) => Ok(KeptRows::ByColumn(columns)),
         other => {
-            let outcome = outcome_from(alloc, instance, other, 0)?;
-            Ok(Answer {
-                kept: KeptRows::Made(outcome),
-            })
+            let rows = into_own_rows(alloc, tables, other)?;
+            Ok(KeptRows::Made(Outcome::Rows(rows)))
         }
     }
 }

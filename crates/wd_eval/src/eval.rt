@@ -5,7 +5,7 @@ ghost use Rattle.wd_eval.specs.Judged.{IsAllowedOrRefused, IsOutcome, IsOutcomeO
 ghost use Rattle.wd_eval.specs.Windows.{orderings_of};
 ghost use Rattle.wd_eval.specs.Runs.{IsRunOrRefused, IsStableOutcomeOrRefused, IsTurnedOutcomeOrRefused, IsUnderTurned};
 ghost use Rattle.wd_eval.specs.Tied.{IsStableChoiceOrRefused, IsTurnedOrRefused, IsTurnedRefused};
-ghost use Rattle.wd_nodes.specs.Relation.{most_rows, relation_of};
+ghost use Rattle.wd_nodes.specs.Relation.{most_rows, relation_or_fault_of};
 ghost use Rattle.wd_plan.specs.Fits.{fits};
 ghost use Rattle.wd_plan.specs.Outcomes.{outcome_of};
 ghost use Rattle.wd_plan.specs.Plans.{plan_of};
@@ -19,10 +19,10 @@ use crate::orderings::{MOST_ROWS, Orderings};
 use crate::turned::{Turned, reverse_at};
 use std::alloc::Global;
 use wd_columns::Columns;
-use wd_nodes::{MovedIn, Relation, outcome_from, take_tables};
+use wd_nodes::{MovedIn, Relation, Tables, into_outcome, take_tables};
 use wd_plan::{Choice, Outcome, Plan};
 use wd_schema::Schema;
-use wd_value::{Instance, OutOfMemory};
+use wd_value::{Fault, Instance};
 
 /// The outcome of a plan over an instance under a choice of orderings (SQL, query expression and
 /// window clause). The steps are judged in postorder, each step's orderings before the number of
@@ -55,8 +55,8 @@ pub fn eval_within(
     requires bounded { most ≤ most_rows }
     ensures { IsOutcomeWithinOrRefused most (plan_of plan.now) (instance_of instance.now.items) (orderings_of choice.now.orderings.items) result }
 {
-    let relation = relation_within(alloc, plan, schema, instance, choice, most)?;
-    let outcome = outcome_from(alloc, instance, relation, 0)?;
+    let given = given_within(alloc, plan, schema, instance, choice, most)?;
+    let outcome = into_outcome(alloc, &Tables::of_rows(instance), given)?;
     Ok(outcome)
 }
 
@@ -72,23 +72,23 @@ pub fn answer_with(
     ensures outcome { IfOk result (λ a. IsOutcome (plan_of plan.now) (instance_of instance.now.items) (orderings_of choice.now.orderings.items) a) }
     ensures refused { IfErr result (λ e. IsRefused (plan_of plan.now) (instance_of instance.now.items) (orderings_of choice.now.orderings.items) e) }
 {
-    let relation = relation_within(alloc, plan, schema, instance, choice, MOST_ROWS)?;
-    let answer = answer_of(alloc, instance, relation)?;
+    let given = given_within(alloc, plan, schema, instance, choice, MOST_ROWS)?;
+    let answer = answer_of(alloc, &Tables::of_rows(instance), given)?;
     Ok(answer)
 }
 
 /// What the plan's last step gives under a choice, where a step may have at most `most` rows.
-fn relation_within(
+fn given_within(
     alloc: Global,
     plan: &Plan,
     schema: &Schema,
     instance: &Instance,
     choice: &Choice,
     most: usize,
-) -> Result<Relation, EvalError>
+) -> Result<Result<Relation, Fault>, EvalError>
     requires fits { fits (schema_of schema.now) (plan_of plan.now) ≡ true }
     requires bounded { most ≤ most_rows }
-    ensures outcome { IfOk result (λ p. IsOutcomeWithin most (plan_of plan.now) (instance_of instance.now.items) (orderings_of choice.now.orderings.items) (relation_of (instance_of instance.now.items) p)) }
+    ensures outcome { IfOk result (λ p. IsOutcomeWithin most (plan_of plan.now) (instance_of instance.now.items) (orderings_of choice.now.orderings.items) (relation_or_fault_of (instance_of instance.now.items) p)) }
     ensures refused { IfErr result (λ e. IsRefusedWithin most (plan_of plan.now) (instance_of instance.now.items) (orderings_of choice.now.orderings.items) e) }
 {
     let mut chosen = Orderings::Chosen {
@@ -96,11 +96,12 @@ fn relation_within(
         next: 0,
         most: most as u64,
     };
+    let tables = Tables::of_rows(instance);
     let nothing = &mut MovedIn::nothing(alloc);
-    let relation = evaluate(alloc, plan, instance, nothing, &mut chosen)?;
+    let given = evaluate(alloc, plan, &tables, nothing, &mut chosen)?;
     match chosen.left_over() {
         Some(number) => Err(EvalError::NotValid(number)),
-        None => Ok(relation),
+        None => Ok(given),
     }
 }
 
@@ -201,8 +202,8 @@ pub fn eval_turned(
     requires { fits (schema_of schema.now) (plan_of plan.now) ≡ true }
     ensures { IsTurnedOutcomeOrRefused (plan_of plan.now) (instance_of instance.now.items) turned result }
 {
-    let (choice, relation) = walk_turned(alloc, plan, schema, instance, turned)?;
-    let outcome = outcome_from(alloc, instance, relation, 0)?;
+    let (choice, given) = walk_turned(alloc, plan, schema, instance, turned)?;
+    let outcome = into_outcome(alloc, &Tables::of_rows(instance), given)?;
     Ok(StableOutcome { choice, outcome })
 }
 
@@ -214,19 +215,20 @@ fn walk_turned(
     schema: &Schema,
     instance: &Instance,
     turned: Option<Turned>,
-) -> Result<(Choice, Relation), EvalError>
+) -> Result<(Choice, Result<Relation, Fault>), EvalError>
     requires { fits (schema_of schema.now) (plan_of plan.now) ≡ true }
-    ensures walked { IfOk result (λ r. IsUnderTurned (plan_of plan.now) (instance_of instance.now.items) turned (orderings_of r.0.orderings.items) (relation_of (instance_of instance.now.items) r.1)) }
+    ensures walked { IfOk result (λ r. IsUnderTurned (plan_of plan.now) (instance_of instance.now.items) turned (orderings_of r.0.orderings.items) (relation_or_fault_of (instance_of instance.now.items) r.1)) }
     ensures refused { IfErr result (λ e. IsTurnedRefused (plan_of plan.now) (instance_of instance.now.items) turned e) }
 {
     let mut sorted = Orderings::Sorted {
         turned,
         made: Vec::new(alloc),
     };
+    let tables = Tables::of_rows(instance);
     let nothing = &mut MovedIn::nothing(alloc);
-    let relation = evaluate(alloc, plan, instance, nothing, &mut sorted)?;
+    let given = evaluate(alloc, plan, &tables, nothing, &mut sorted)?;
     let orderings = sorted.into_made(alloc);
-    Ok((Choice { orderings }, relation))
+    Ok((Choice { orderings }, given))
 }
 
 /// The outcome of a plan over an instance under the choice that leaves rows that tie as they are.
@@ -255,20 +257,8 @@ pub fn run_columns(
     ensures { IsRunOrRefused (λ a. a) (plan_of plan.now) tables.items result }
 {
     let (mut moved_in, left) = take_tables(alloc, plan, tables)?;
-    let others = rows_of_all(alloc, left)?;
-    let relation = evaluate(alloc, plan, &others, &mut moved_in, &mut Orderings::Stable)?;
-    let answer = answer_of(alloc, &others, relation)?;
+    let others = Tables::of_columns(&left);
+    let given = evaluate(alloc, plan, &others, &mut moved_in, &mut Orderings::Stable)?;
+    let answer = answer_of(alloc, &others, given)?;
     Ok(answer)
-}
-
-/// The rows of each table.
-fn rows_of_all(alloc: Global, tables: Vec<Columns>) -> Result<Instance, OutOfMemory>
-    ensures { IfOk result (λ v. instance_of v.items ≡ tables.items) }
-{
-    let mut instance = Vec::with_capacity(alloc, tables.len())?;
-    for table in tables {
-        let rows = table.into_rows(alloc, 0)?;
-        instance.push(rows)?;
-    }
-    Ok(instance)
 }

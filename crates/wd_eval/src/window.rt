@@ -3,41 +3,41 @@
 ghost use Rattle.std.specs.Prelude.{◌≡◌, ◌-◌, ◌^◌, ◌<◌, ◌≤◌, Ok, length};
 ghost use Rattle.wd_eval.specs.Walks.{GivesOrStops, IsWithin};
 ghost use Rattle.wd_eval.specs.Windows.{AreFew, IsExtendedOrUnserved, orderings_of};
-ghost use Rattle.wd_nodes.specs.Relation.{relation_of};
+ghost use Rattle.wd_nodes.specs.Relation.{relation_of, relation_or_fault_of};
 ghost use Rattle.wd_plan.specs.Outcomes.{outcome_of};
 ghost use Rattle.wd_plan.specs.Plans as tree;
 ghost use Rattle.wd_plan.specs.Plans.{NamesClasses, window_of};
-ghost use Rattle.wd_value.specs.Rows.{Instance, instance_of};
+ghost use Rattle.wd_value.specs.Rows.{Instance, rows_of};
 
 use crate::calls::{with_calls, with_calls_by_column};
 use crate::error::EvalError;
 use crate::orderings::{MOST_ROWS, Orderings};
 use std::alloc::Global;
 use wd_columns::{Columns, RowSource};
-use wd_nodes::{Relation, outcome_from};
+use wd_nodes::{Relation, StoredRows, Tables, from_outcome, into_own_rows, store};
 use wd_plan::{Outcome, Window};
-use wd_value::Row;
+use wd_value::{Fault, Row};
 
-/// The input's rows with the values of the calls after each of them, under the next orderings: one for each class, each lawful, and
-/// empty where the input is a fault. Rows that are kept column by column stay so.
+/// The input's rows with the values of the calls after each of them, under the next orderings: one for each class, each lawful. Rows
+/// that are kept column by column stay so.
 pub(crate) fn extend_rows(
     alloc: Global,
-    instance: &[Vec<Row>],
+    tables: &Tables,
     window: &Window,
     input: Relation,
     orderings: &mut Orderings,
-) -> Result<Relation, EvalError>
-    requires few { AreFew (2 ^ 32 - 1) (relation_of (instance_of instance.now) input) }
+) -> Result<Result<Relation, Fault>, EvalError>
+    requires few { length (relation_of tables.now input) < 2 ^ 32 }
     requires within { IsWithin orderings.old }
     requires named { NamesClasses (window_of window.now) }
-    ensures { GivesOrStops (relation_of (instance_of instance.now)) (tree.Window (window_of window.now)) (relation_of (instance_of instance.now) input) orderings.old orderings.new result }
+    ensures { GivesOrStops (relation_or_fault_of tables.now) (tree.Window (window_of window.now)) (Ok (relation_of tables.now input)) orderings.old orderings.new result }
 {
-    match input {
-        Relation::ByColumn(columns) => extend_columns(alloc, window, columns, orderings),
+    match store(alloc, tables, input)? {
+        StoredRows::Columns(columns) => extend_columns(alloc, window, columns, orderings),
         other => {
-            let input = outcome_from(alloc, instance, other, window.calls.len())?;
-            let outcome = extend_outcome(alloc, window, input, orderings)?;
-            Ok(Relation::Made(outcome))
+            let rows = into_own_rows(alloc, tables, other)?;
+            let outcome = extend_list(alloc, window, rows, orderings)?;
+            Ok(from_outcome(outcome))
         }
     }
 }
@@ -48,17 +48,34 @@ fn extend_columns(
     window: &Window,
     rows: Columns,
     orderings: &mut Orderings,
-) -> Result<Relation, EvalError>
+) -> Result<Result<Relation, Fault>, EvalError>
     requires few { length rows < 2 ^ 32 }
     requires within { IsWithin orderings.old }
     requires named { NamesClasses (window_of window.now) }
-    ensures { (instance : Instance) → GivesOrStops (relation_of instance) (tree.Window (window_of window.now)) (Ok rows) orderings.old orderings.new result }
+    ensures { (instance : Instance) → GivesOrStops (relation_or_fault_of instance) (tree.Window (window_of window.now)) (Ok rows) orderings.old orderings.new result }
 {
     let indexes = orderings.next_indexes(alloc, window, &RowSource::of_columns(&rows))?;
     match with_calls_by_column(alloc, window, rows, &indexes)? {
-        Ok(extended) => Ok(Relation::ByColumn(extended)),
-        Err(fault) => Ok(Relation::Made(Outcome::Fault(fault))),
+        Ok(extended) => Ok(Ok(Relation::Stored(StoredRows::Columns(extended)))),
+        Err(fault) => Ok(Err(fault)),
     }
+}
+
+/// The rows of a list, each followed by the values of the calls.
+fn extend_list(
+    alloc: Global,
+    window: &Window,
+    rows: Vec<Row>,
+    orderings: &mut Orderings,
+) -> Result<Outcome, EvalError>
+    requires few { length rows.items < 2 ^ 32 }
+    requires within { IsWithin orderings.old }
+    requires named { NamesClasses (window_of window.now) }
+    ensures { GivesOrStops outcome_of (tree.Window (window_of window.now)) (Ok (rows_of rows.items)) orderings.old orderings.new result }
+{
+    let indexes = orderings.next_indexes(alloc, window, &RowSource::of_rows(&rows))?;
+    let outcome = with_calls(alloc, window, rows, &indexes)?;
+    Ok(outcome)
 }
 
 /// The rows of an outcome, each followed by the values of the calls; a fault stays one.
@@ -78,11 +95,7 @@ fn extend_outcome(
             orderings.next_empty(alloc, window.classes.len())?;
             Ok(Outcome::Fault(fault))
         }
-        Outcome::Rows(rows) => {
-            let indexes = orderings.next_indexes(alloc, window, &RowSource::of_rows(&rows))?;
-            let outcome = with_calls(alloc, window, rows, &indexes)?;
-            Ok(outcome)
-        }
+        Outcome::Rows(rows) => extend_list(alloc, window, rows, orderings),
     }
 }
 

@@ -1,35 +1,37 @@
 -- Pairs of rows, one left row on, and what is kept of them, one pair on and at the end.
-use Rattle.std.proofs.Common.{◌≡◌, ℕ, zero, suc, ◌+◌, ◌*◌, ◌<◌, ◌≤◌, Bool, true, false, cond, ◌||◌, List, [], ◌∷◌, ◌++◌, map, filter, take, drop, length, get_or, Option, None, Ok, refl, sym, ap, ◌∙◌, arith, inl, inr}
-use Rattle.std.specs.declared.alloc.Global.{Global}
-use Rattle.std.specs.declared.vec.Vec.{Vec}
-use Rattle.std.proofs.lemmas.List.{append-nil, append_assoc, flat_map_more, take_all, take-append-le, length-append, length-map, length-take, length_push, map_push}
+use Rattle.std.proofs.Common.{◌≡◌, ℕ, zero, suc, ◌+◌, ◌*◌, ◌<◌, ◌≤◌, Bool, true, false, cond, ◌&&◌, ◌||◌, List, [], ◌∷◌, ◌++◌, map, filter, take, drop, length, Option, Some, None, Result, Ok, Err, refl, sym, ap, subst, ◌∙◌, arith, inl, inr}
+use Rattle.std.proofs.lemmas.List.{append-nil, append_assoc, flat_map_more, take_all, take-append-le, length-append, length-map, length-take, length_push, map-append, map_push, take_more}
 use Rattle.std.proofs.lemmas.List.Elements.{filter-append}
 use Rattle.std.specs.List.{list_any}
+use Rattle.std.specs.Prelude.{IfErr, IfOk, nat_le, nat_lt}
+use Rattle.std.specs.declared.alloc.Global.{Global}
+use Rattle.std.specs.declared.vec.Vec.{Vec}
 use Rattle.wd_value.specs.declared.value.Value.{Value}
-use Rattle.wd_value.specs.Rows.{Row, rows_of}
+use Rattle.wd_value.specs.Rows.{Row, row_at}
 use Rattle.wd_value.specs.declared.value.Fault.{Fault}
 use Rattle.wd_value.specs.declared.value.Fault.TheVariants.{DivisionByZero, OutOfRange}
 use Rattle.wd_plan.specs.Expressions.{Expression, value_of}
 use Rattle.wd_plan.specs.Faults.{has_fault, least_fault, unless}
-use Rattle.wd_plan.specs.Outcomes.{filter_outcome, pairs, passes}
+use Rattle.wd_plan.specs.Outcomes.{RowsOrFault, filter_outcome, pairs, passes}
 use Rattle.wd_scalar.specs.Arithmetic.{has_arithmetic}
 use Rattle.wd_scalar.proofs.Faultless.{never_faults}
 use Rattle.wd_steps.specs.Faults.{with_result}
-use Rattle.wd_join.specs.Joins.{AreKept, with_row}
-use Rattle.std.proofs.lemmas.Bool.{cases_lt, le-leb, lt-leb}
-use Rattle.wd_steps.proofs.Filtering.{items}
-use Rattle.wd_steps.proofs.Results.{least_fault-push, map_more, map-map_more}
+use Rattle.wd_join.specs.declared.error.StepError.{StepError}
+use Rattle.wd_join.specs.declared.error.StepError.TheVariants.{TooManyRows}
+use Rattle.wd_join.specs.declared.paired.Pair.{Pair}
+use Rattle.wd_join.specs.Joins.{AreKept, has_more_rows, pairs_or_fault_of, result_of, with_next, within}
+use Rattle.std.proofs.lemmas.Bool.{cases_lt, le-leb, lt-leb, lt-ltb, ltb-false, ltb-true}
+use Rattle.wd_steps.proofs.Results.{least_fault-push}
 
 -- the pairs of one left row
 abbrev pub pairs_with : Row → List Row → List Row
 pairs_with l right = map (λ r. l ++ r) right
 
-pub pairs_more : (left right : List (Vec Value Global)) (i j : ℕ) (first : Vec Value Global) → i < length left → first ≡ get_or left i first → length right ≤ j
-    → pairs (rows_of (take i left)) (rows_of right) ++ pairs_with first.items (rows_of (take j right)) ≡ pairs (rows_of (take (i + 1) left)) (rows_of right)
-pairs_more left right i j first within is all =
-    ap (λ rs. pairs (rows_of (take i left)) (rows_of right) ++ pairs_with first.items (rows_of rs)) (take_all j right all)
-    ∙ flat_map_more (λ l. pairs_with l (rows_of right)) [] (rows_of (take i left)) first.items
-    ∙ ap (λ ls. pairs ls (rows_of right)) (sym (map_more items left i first within is))
+pub pairs_more : (left right : List Row) (i j : ℕ) → i < length left → length right ≤ j → pairs (take i left) right ++ pairs_with (row_at left i) (take j right) ≡ pairs (take (i + 1) left) right
+pairs_more left right i j within all =
+    ap (λ rs. pairs (take i left) right ++ pairs_with (row_at left i) rs) (take_all j right all)
+    ∙ flat_map_more (λ l. pairs_with l right) [] (take i left) (row_at left i)
+    ∙ ap (λ ls. pairs ls right) (sym (take_more left i [] within))
 
 pub length-pairs : (left right : List Row) → length (pairs left right) ≡ length left * length right
 length-pairs [] right = omega arith
@@ -37,10 +39,6 @@ length-pairs (l ∷ left) right =
     let here = length-map right (λ r. l ++ r) in
     let later = length-pairs left right in
     length-append (pairs_with l right) (pairs left right) ∙ omega arith
-
-pub length-rows_pairs : (left right : List (Vec Value Global)) → length (pairs (rows_of left) (rows_of right)) ≡ length left * length right
-length-rows_pairs left right =
-    length-pairs (rows_of left) (rows_of right) ∙ ap (λ n. n * length (rows_of right)) (length-map left items) ∙ ap (λ n. length left * n) (length-map right items)
 
 -- ---- where no pair can fault, pairs after the rows asked for change nothing
 
@@ -76,16 +74,50 @@ AreKept-enough condition most left right rows i fault sure enough kept =
     }
 
 -- rows that are fewer than asked for are all that pass
-pub AreKept-all : (condition : Expression) (most : ℕ) (all rows : List Row) (fault : Option Fault) → length rows ≤ most → AreKept condition most all rows fault → unless fault rows ≡ filter_outcome condition all
+AreKept-all : (condition : Expression) (most : ℕ) (all rows : List Row) (fault : Option Fault) → length rows ≤ most → AreKept condition most all rows fault → unless fault rows ≡ filter_outcome condition all
 AreKept-all condition most all rows fault short kept =
     let passed = filter (λ row. passes (value_of condition row)) all in
     let long = ap length kept.rows_are ∙ length-take (most + 1) passed in
     let whole : rows ≡ passed = kept.rows_are ∙ take_all (most + 1) passed (omega arith) in
     λ i. unless (kept.fault_is i) (whole i)
 
+-- ---- within the most that are asked for
+
+module _ (condition : Expression) (most : ℕ) (all rows : List Row) where
+  abbrev passed : List Row
+  passed = filter (λ row. passes (value_of condition row)) all
+
+  -- the outcome, or too many rows
+  abbrev IsDecided : Result RowsOrFault StepError → Type 0
+  IsDecided r = IfOk r (λ x. x ≡ filter_outcome condition all) × IfErr r (λ e. has_more_rows most (filter_outcome condition all) ≡ true)
+
+  decided : (fault : Option Fault) → AreKept condition most all rows fault → IsDecided (within most rows fault)
+  decided (Some f) kept = (ap (λ o. unless o passed) kept.fault_is, tt)
+  decided None kept = of_bool (nat_lt most (length rows)) refl
+    where
+      of_bool : (b : Bool) → nat_lt most (length rows) ≡ b → IsDecided (cond b (Err TooManyRows) (Ok (Ok rows)))
+      of_bool false e = (AreKept-all condition most all rows None (ltb-false most (length rows) e) kept, tt)
+      of_bool true e =
+          let more = ltb-true most (length rows) e in
+          let long = ap length kept.rows_are ∙ length-take (most + 1) passed in
+          (tt, ap (λ o. has_more_rows most (unless o passed)) (sym kept.fault_is) ∙ lt-ltb most (length passed) (omega arith))
+
+  pub kept_within : (left right : List Row) (fault : Option Fault) (r : Result (Result (Vec Pair Global) Fault) StepError) → AreKept condition most all rows fault → result_of left right r ≡ within most rows fault
+      → IfOk r (λ x. pairs_or_fault_of left right x ≡ filter_outcome condition all) × IfErr r (λ e. has_more_rows most (filter_outcome condition all) ≡ true)
+  kept_within left right fault (Ok x) kept is = ((subst IsDecided (sym is) (decided fault kept)).0, tt)
+  kept_within left right fault (Err e) kept is = (tt, (subst IsDecided (sym is) (decided fault kept)).1)
+
 -- ---- one pair more
 
-kept_step : (t : Row → Bool) (most : ℕ) (all : List Row) (row : Row) (b : Bool) → t row ≡ b → with_row most b (take (most + 1) (filter t all)) row ≡ take (most + 1) (filter t (all ++ row ∷ []))
+-- what is made of a list with one more element
+pub map-with_next : {A B : Type 0} (f : A → B) (most : ℕ) (b : Bool) (xs : List A) (x : A) → map f (with_next most b xs x) ≡ with_next most b (map f xs) (f x)
+map-with_next f most b xs x = of_cond (b && nat_le (length xs) most) ∙ ap (λ n. cond (b && nat_le n most) (map f xs ++ f x ∷ []) (map f xs)) (sym (length-map xs f))
+  where
+    of_cond : (c : Bool) → map f (cond c (xs ++ x ∷ []) xs) ≡ cond c (map f xs ++ f x ∷ []) (map f xs)
+    of_cond true = map_push f xs x
+    of_cond false = refl
+
+kept_step : (t : Row → Bool) (most : ℕ) (all : List Row) (row : Row) (b : Bool) → t row ≡ b → with_next most b (take (most + 1) (filter t all)) row ≡ take (most + 1) (filter t (all ++ row ∷ []))
 kept_step t most all row false e = ap (take (most + 1)) (sym (filter-append t all (row ∷ []) ∙ ap (λ b. filter t all ++ cond b (row ∷ []) []) e ∙ append-nil (filter t all)))
 kept_step t most all row true e =
     let passed = filter t all in
@@ -105,16 +137,15 @@ kept_step t most all row true e =
     ]
 
 pub AreKept-more : (condition : Expression) (most : ℕ) (all rows next : List Row) (fault after : Option Fault) (row : Row) (b : Bool) → AreKept condition most all rows fault
-    → passes (value_of condition row) ≡ b → next ≡ with_row most b rows row → after ≡ with_result fault (value_of condition row)
+    → passes (value_of condition row) ≡ b → next ≡ with_next most b rows row → after ≡ with_result fault (value_of condition row)
     → AreKept condition most (all ++ row ∷ []) next after
 AreKept-more condition most all rows next fault after row b kept passed grown looked = record {
-  rows_are = grown ∙ ap (λ rs. with_row most b rs row) kept.rows_are ∙ kept_step (λ r. passes (value_of condition r)) most all row b passed;
+  rows_are = grown ∙ ap (λ rs. with_next most b rs row) kept.rows_are ∙ kept_step (λ r. passes (value_of condition r)) most all row b passed;
   fault_is = looked ∙ ap (λ f. with_result f (value_of condition row)) kept.fault_is ∙ sym (ap least_fault (map_push (value_of condition) all row) ∙ least_fault-push (map (value_of condition) all) (value_of condition row));
 }
 
 -- the pairs of one left row, one right row on
-pub pairs_next : (front : List Row) (l : Row) (right : List (Vec Value Global)) (j : ℕ) (second : Vec Value Global) → j < length right → second ≡ get_or right j second
-    → (front ++ pairs_with l (rows_of (take j right))) ++ (l ++ second.items) ∷ [] ≡ front ++ pairs_with l (rows_of (take (j + 1) right))
-pairs_next front l right j second within is =
-    append_assoc front (pairs_with l (rows_of (take j right))) ((l ++ second.items) ∷ [])
-    ∙ ap (λ ps. front ++ ps) (sym (map-map_more (λ r. l ++ r) items right j second within is))
+pub pairs_next : (front : List Row) (l : Row) (right : List Row) (j : ℕ) → j < length right → (front ++ pairs_with l (take j right)) ++ (l ++ row_at right j) ∷ [] ≡ front ++ pairs_with l (take (j + 1) right)
+pairs_next front l right j within =
+    append_assoc front (pairs_with l (take j right)) ((l ++ row_at right j) ∷ [])
+    ∙ ap (λ ps. front ++ ps) (sym (ap (pairs_with l) (take_more right j [] within) ∙ map-append (λ r. l ++ r) (take j right) (row_at right j ∷ [])))

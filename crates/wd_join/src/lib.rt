@@ -1,9 +1,9 @@
 //! Joins of two lists of rows.
 //!
-//! `join` builds the pairs for which a condition is true. Where the condition has equalities of a left and a right column that every
-//! such pair meets (`matching`), or consists of nothing else (`exact`), `walk` finds the pairs that agree on these columns by a walk
-//! over both sides in sorted order; otherwise all `pairs` are tested. `paired` keeps pairs as positions, which copies no values;
-//! `narrow` leaves out pairs that a condition further up cannot be true for.
+//! Pairs are kept as positions (`paired`), which copies no values. `join` finds those for which a condition is true. Where the condition
+//! has equalities of a left and a right column that every such pair meets (`matching`), or consists of nothing else (`exact`), `walk`
+//! finds the pairs that agree on these columns by a walk over both sides in sorted order; otherwise all pairs are tested. `narrow` leaves
+//! out pairs that a condition further up cannot be true for.
 #![tactic(auto)]
 
 mod error;
@@ -12,11 +12,9 @@ mod join;
 mod matching;
 mod narrow;
 mod paired;
-mod pairs;
 mod walk;
 
 pub use error::StepError;
-pub use join::{filter_pairs, has_more_pairs, join_rows};
+pub use join::{filter_pairs, join_pairs};
 pub use narrow::narrow_pairs;
-pub use paired::{Pair, equal_pairs, paired_columns, paired_rows};
-pub use pairs::all_pairs;
+pub use paired::{Pair, all_pairs, paired_columns, paired_rows};

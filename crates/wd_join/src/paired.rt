@@ -9,16 +9,16 @@ ghost use Rattle.wd_join.specs.Matching.{matching};
 ghost use Rattle.wd_join.specs.Paired.{IsOfEqualities, row_paired, rows_paired, with_each};
 ghost use Rattle.wd_join.specs.declared.error.StepError.TheVariants as error;
 ghost use Rattle.wd_value.specs.Rows.{column_of, columns_of, rows_of};
-ghost use Rattle.wd_value.specs.declared.value.Value.TheVariants as value;
 
 use crate::error::StepError;
 use crate::exact::exact_columns;
 use crate::matching::JoinColumns;
-use crate::pairs::copy_joined_row;
 use crate::walk::{agreeing_rows, positions_in};
 use std::alloc::Global;
-use wd_columns::{Columns, RowSource, row_in};
+use wd_columns::{Columns, RowSource};
 use wd_plan::Expr;
+use wd_scalar::value_in_pair;
+use wd_steps::push_values;
 use wd_value::{OutOfMemory, Row, Value};
 
 /// The positions of a left and of a right row.
@@ -31,7 +31,7 @@ pub struct Pair {
 /// The pairs of a left and a right row, the left one outermost, for which the condition is true, by their positions, where it consists
 /// of equalities of a left and a right column; `None` exactly where it does not, or where rows of a side differ in width. The error is
 /// `TooManyRows` where there are more than `most` pairs, which are then not made.
-pub fn equal_pairs(
+pub(crate) fn equal_pairs(
     alloc: Global,
     condition: &Expr,
     left: &RowSource,
@@ -53,7 +53,7 @@ pub fn equal_pairs(
 }
 
 /// The pairs that agree on the columns. Takes the time of sorting either side, and time linear in the number of pairs.
-fn agreeing_pairs(
+pub(crate) fn agreeing_pairs(
     alloc: Global,
     columns: &[JoinColumns],
     left: &RowSource,
@@ -87,6 +87,26 @@ fn push_each(pairs: &mut Vec<Pair>, left: u64, positions: &[u64]) -> Result<(), 
         })?;
     }
     Ok(())
+}
+
+/// All pairs of a left and a right row, the left one outermost.
+pub fn all_pairs(
+    alloc: Global,
+    left: &RowSource,
+    right: &RowSource,
+) -> Result<Vec<Pair>, OutOfMemory>
+    ensures { IfOk result (λ v. rows_paired left.now right.now v.items ≡ spec.pairs left.now right.now) }
+{
+    let mut pairs = Vec::new(alloc);
+    for first in 0..left.len() {
+        for second in 0..right.len() {
+            pairs.push(Pair {
+                left: first as u64,
+                right: second as u64,
+            })?;
+        }
+    }
+    Ok(pairs)
 }
 
 /// The rows of the pairs, with only these of their columns; the left row's columns are numbered first.
@@ -135,42 +155,40 @@ fn copy_value(
     ensures { IfOk result (λ v. v ≡ column_of (row_paired left.now right.now pair) column) }
 {
     let null = Value::Null;
-    let value = paired_value(left, right, pair, column, &null).copy(alloc)?;
+    let value = value_in_pair(left, pair.left, right, pair.right, column, &null).copy(alloc)?;
     Ok(value)
-}
-
-/// A reference to the value of a pair in a column; `null` past the last.
-fn paired_value<'a>(
-    left: &'a RowSource,
-    right: &'a RowSource,
-    pair: Pair,
-    column: usize,
-    null: &'a Value,
-) -> &'a Value
-    requires { null.now ≡ value.Null }
-    ensures { result.now ≡ column_of (row_paired left.now right.now pair) column }
-{
-    let width = left.width(pair.left);
-    if column < width {
-        left.value_at(pair.left, column, null)
-    } else {
-        right.value_at(pair.right, column - width, null)
-    }
 }
 
 /// The rows of the pairs.
 pub fn paired_rows(
     alloc: Global,
-    left: &[Row],
-    right: &[Row],
+    left: &RowSource,
+    right: &RowSource,
     pairs: &[Pair],
 ) -> Result<Vec<Row>, OutOfMemory>
-    ensures { IfOk result (λ v. rows_of v.items ≡ rows_paired (rows_of left.now) (rows_of right.now) pairs.now) }
+    ensures { IfOk result (λ v. rows_of v.items ≡ rows_paired left.now right.now pairs.now) }
 {
     let mut rows = Vec::with_capacity(alloc, pairs.len())?;
     for pair in pairs {
-        let row = copy_joined_row(alloc, row_in(left, pair.left), row_in(right, pair.right))?;
-        rows.push(row)?;
+        rows.push(paired_row(alloc, left, right, *pair)?)?;
     }
     Ok(rows)
+}
+
+/// The row of a pair.
+fn paired_row(
+    alloc: Global,
+    left: &RowSource,
+    right: &RowSource,
+    pair: Pair,
+) -> Result<Row, OutOfMemory>
+    ensures { IfOk result (λ r. r.items ≡ row_paired left.now right.now pair) }
+{
+    let width = left
+        .width(pair.left)
+        .saturating_add(right.width(pair.right));
+    let mut row = Vec::with_capacity(alloc, width)?;
+    push_values(alloc, &mut row, left, pair.left)?;
+    push_values(alloc, &mut row, right, pair.right)?;
+    Ok(row)
 }

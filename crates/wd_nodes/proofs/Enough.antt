@@ -1,17 +1,15 @@
 -- Pairs that are not made yet: those that serve below a condition, and how many they are.
-use Rattle.std.proofs.Common.{◌≡◌, ℕ, ◌*◌, ◌/◌, ◌<◌, false, List, [], ◌∷◌, ◌++◌, length, None, Ok, Err, refl, sym, ap, subst, ◌∙◌, arith, inl, inr}
+use Rattle.std.proofs.Common.{◌≡◌, ℕ, ◌*◌, ◌/◌, ◌<◌, false, List, [], ◌∷◌, ◌++◌, length, refl, sym, ap, ◌∙◌, arith, inl, inr}
 use Rattle.std.specs.Prelude.{nat_lt}
 use Rattle.std.proofs.lemmas.Bool.{cases_lt, le-ltb, lt-ltb}
 use Rattle.std.proofs.lemmas.List.{append_assoc, map-append}
 use Rattle.std.proofs.lemmas.Nat.{div_below, le-div}
 use Rattle.wd_value.specs.Rows.{Row}
 use Rattle.wd_plan.specs.Expressions.{Expression}
-use Rattle.wd_plan.specs.Outcomes.{RowsOrFault, filter_outcome, pairs}
-use Rattle.wd_join.specs.Joins.{has_more_rows}
+use Rattle.wd_plan.specs.Outcomes.{filter_outcome, pairs}
+use Rattle.wd_join.specs.Joins.{AreEnough}
 use Rattle.wd_join.proofs.Agreeing.{pairs_append}
 use Rattle.wd_join.proofs.Joining.{length-pairs, pairs_with}
-use Rattle.wd_nodes.specs.Enough.{IsEnough}
-use Rattle.wd_nodes.specs.Relation.{join_over}
 
 -- ---- products of three
 
@@ -29,14 +27,8 @@ pairs_assoc (x ∷ a) b c = pairs_append (pairs_with x b) (pairs a b) c ∙ (λ 
 
 -- ---- what serves below a condition
 
-pub IsEnough-pairs : (e : Expression) (all some right o : RowsOrFault) → IsEnough e all some → IsEnough e (join_over None some right) o → IsEnough e (join_over None all right) o
-IsEnough-pairs e (Ok all) (Ok some) (Ok right) (Ok rows) h k = λ more.
-    k more ∙ ap (filter_outcome e) (pairs_assoc some right more) ∙ h (pairs right more) ∙ sym (ap (filter_outcome e) (pairs_assoc all right more))
-IsEnough-pairs e (Ok all) (Ok some) (Ok right) (Err fault) h k = k
-IsEnough-pairs e (Ok all) (Ok some) (Err found) o h k = k
-IsEnough-pairs e (Ok all) (Err fault) right o h k = absurd h
-IsEnough-pairs e (Err fault) (Ok some) right o h k = absurd h
-IsEnough-pairs e (Err fault) (Err found) right o h k = subst (λ f. IsEnough e (Err f) o) h k
+pub AreEnough-pairs : (e : Expression) (all some right rows : List Row) → AreEnough e all some → AreEnough e (pairs some right) rows → AreEnough e (pairs all right) rows
+AreEnough-pairs e all some right rows h k = λ more. k more ∙ ap (filter_outcome e) (pairs_assoc some right more) ∙ h (pairs right more) ∙ sym (ap (filter_outcome e) (pairs_assoc all right more))
 
 -- ---- how many there are
 
@@ -46,13 +38,11 @@ more_than most r l some = elim (cases_lt most (l * r)) [
   | inr more ↦ le-ltb (most / r) l (le-div l most r some more) ∙ sym (le-ltb most (l * r) more)
 ]
 
-pub more_pairs : (most : ℕ) (left : RowsOrFault) (right : List Row) → 0 < length right → has_more_rows (most / length right) left ≡ has_more_rows most (join_over None left (Ok right))
-more_pairs most (Ok left) right some = more_than most (length right) (length left) some ∙ sym (ap (nat_lt most) (length-pairs left right))
-more_pairs most (Err fault) right some = refl
+pub more_pairs : (most : ℕ) (left right : List Row) → 0 < length right → nat_lt (most / length right) (length left) ≡ nat_lt most (length (pairs left right))
+more_pairs most left right some = more_than most (length right) (length left) some ∙ sym (ap (nat_lt most) (length-pairs left right))
 
-pub no_more_pairs : (most : ℕ) (left : RowsOrFault) (right : List Row) → length right ≡ 0 → false ≡ has_more_rows most (join_over None left (Ok right))
-no_more_pairs most (Ok left) right none =
+pub no_more_pairs : (most : ℕ) (left right : List Row) → length right ≡ 0 → false ≡ nat_lt most (length (pairs left right))
+no_more_pairs most left right none =
     let long = length-pairs left right in
     let all : length left * length right ≡ 0 = ap (λ n. length left * n) none ∙ omega arith in
     sym (le-ltb most (length (pairs left right)) (omega arith))
-no_more_pairs most (Err fault) right none = refl

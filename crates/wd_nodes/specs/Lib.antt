@@ -1,5 +1,5 @@
 pub mod Results
+pub mod Tables
 pub mod Relation
 pub mod Held
 pub mod Taken
-pub mod Enough

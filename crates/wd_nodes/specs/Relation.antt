@@ -1,15 +1,11 @@
 -- What a node of a plan gives to the step above it, as contracts see it, and the steps over that.
-use Rattle.std.specs.Prelude.{◌≡◌, ℕ, true, false, List, Option, None, option_map, Result, Ok, Err, ⊤}
-use Rattle.std.specs.Borrow.{Bor}
-use Rattle.std.specs.declared.alloc.Global.{Global}
-use Rattle.std.specs.declared.vec.Vec.{Vec}
-use Rattle.wd_value.specs.declared.value.Value.{Value}
+use Rattle.std.specs.Prelude.{◌≡◌, ℕ, true, false, List, Option, option_map, Result, Ok, Err, ⊤}
 use Rattle.wd_value.specs.declared.value.Fault.{Fault}
 use Rattle.wd_value.specs.Rows.{Instance, Row, rows_of, table_at}
 use Rattle.wd_plan.specs.declared.expression.Expr.{Expr}
 use Rattle.wd_plan.specs.Expressions.{Expression, expression_of}
 use Rattle.wd_plan.specs.Faults.{and_then}
-use Rattle.wd_plan.specs.Outcomes.{RowsOrFault, group_outcome, join_outcome, outcome_of, pairs}
+use Rattle.wd_plan.specs.Outcomes.{RowsOrFault, group_outcome, join_outcome, pairs}
 use Rattle.wd_plan.specs.Plans.{GroupRule}
 use Rattle.wd_join.specs.declared.error.StepError.{StepError}
 use Rattle.wd_join.specs.declared.error.StepError.TheVariants.{TooManyRows, OutOfMemory}
@@ -17,54 +13,37 @@ use Rattle.wd_join.specs.Joins.{has_more_rows}
 use Rattle.wd_join.specs.Paired.{rows_paired}
 use Rattle.wd_nodes.specs.Results.{OkOr}
 use Rattle.wd_nodes.specs.declared.relation.Relation.{Relation}
-use Rattle.wd_nodes.specs.declared.relation.Relation.TheVariants.{Table, Made, ByColumn, Pairs', Joined}
-use Rattle.wd_nodes.specs.declared.relation.ListedRelation.{ListedRelation}
-use Rattle.wd_nodes.specs.declared.relation.ListedRelation.TheVariants as list
-use Rattle.wd_nodes.specs.declared.stored.RowList.{RowList}
-use Rattle.wd_nodes.specs.declared.stored.RowList.TheVariants as listed
+use Rattle.wd_nodes.specs.declared.relation.Relation.TheVariants.{Stored, Pairs', Joined}
 use Rattle.wd_nodes.specs.declared.stored.StoredRows.{StoredRows}
-use Rattle.wd_nodes.specs.declared.stored.StoredRows.TheVariants as stored
+use Rattle.wd_nodes.specs.declared.stored.StoredRows.TheVariants.{Table, Rows, Columns}
+
+-- rows that are there: those of a table of the instance, or rows of their own
+abbrev pub stored_rows_of : Instance → StoredRows → List Row
+stored_rows_of instance (Table number) = table_at instance number
+stored_rows_of instance (Rows rows) = rows_of rows.items
+stored_rows_of instance (Columns rows) = rows
+
+-- such rows, or pairs
+abbrev pub relation_of : Instance → Relation → List Row
+relation_of instance (Stored s) = stored_rows_of instance s
+relation_of instance (Pairs' p left right) = pairs (relation_of instance left) (stored_rows_of instance right)
+relation_of instance (Joined left right pairs) = rows_paired (stored_rows_of instance left) (stored_rows_of instance right) pairs.items
+
+-- what a node gives: a relation, or a fault
+abbrev pub RelationOrFault : Type 0
+RelationOrFault = Result Relation Fault
+
+abbrev pub relation_or_fault_of : Instance → RelationOrFault → RowsOrFault
+relation_or_fault_of instance (Ok relation) = Ok (relation_of instance relation)
+relation_or_fault_of instance (Err fault) = Err fault
 
 -- what a Join gives over what is below it
 abbrev pub join_over : Option Expression → RowsOrFault → RowsOrFault → RowsOrFault
 join_over condition left right = and_then left (λ ls. and_then right (λ rs. join_outcome condition (pairs ls rs)))
 
--- what a step reads: the rows of a table of the instance, or what a step made
-abbrev pub listed_relation_of : Instance → ListedRelation → RowsOrFault
-listed_relation_of instance (list.Table table) = Ok (table_at instance table)
-listed_relation_of instance (list.Made o) = outcome_of o
-
--- the rows of a list: those of a table of the instance, or those that a step made
-abbrev pub row_list_of : Instance → RowList → List Row
-row_list_of instance (listed.Table table) = table_at instance table
-row_list_of instance (listed.Rows rows) = rows_of rows.items
-
--- the rows of a side of a join: a list, or the rows along columns
-abbrev pub stored_rows_of : Instance → StoredRows → List Row
-stored_rows_of instance (stored.RowList l) = row_list_of instance l
-stored_rows_of instance (stored.ByColumn rows) = rows
-
--- such a side, or a fault
-abbrev pub stored_or_fault_of : Instance → Result StoredRows Fault → RowsOrFault
-stored_or_fault_of instance (Ok s) = Ok (stored_rows_of instance s)
-stored_or_fault_of instance (Err fault) = Err fault
-
--- what a node gives: the same, or pairs
-abbrev pub relation_of : Instance → Relation → RowsOrFault
-relation_of instance (Table table) = Ok (table_at instance table)
-relation_of instance (Made o) = outcome_of o
-relation_of instance (ByColumn rows) = Ok rows
-relation_of instance (Pairs' p left right) = join_over None (relation_of instance left) (listed_relation_of instance right)
-relation_of instance (Joined left right pairs) = Ok (rows_paired (stored_rows_of instance left) (stored_rows_of instance right) pairs.items)
-
 -- what a Group gives over what is below it
 abbrev pub group_over : GroupRule → RowsOrFault → RowsOrFault
 group_over rule input = and_then input (group_outcome rule)
-
--- rows by reference, or a fault
-abbrev pub rows_or_fault_of : Result (Bor (List (Vec Value Global))) Fault → RowsOrFault
-rows_or_fault_of (Ok rows) = Ok (rows_of rows.now)
-rows_or_fault_of (Err fault) = Err fault
 
 -- ---- steps over the outcomes below them
 
@@ -87,5 +66,5 @@ abbrev pub IsSmallOrLarge : {X : Type 0} → ℕ → RowsOrFault → (X → Rows
 IsSmallOrLarge most expected view r = OkOr (λ x. IsSmall most expected (view x)) (IsLarge most expected) r
 
 -- what a Join gives, of its condition and inputs in the code
-abbrev pub joined_of : Instance → Option Expr → Relation → Relation → RowsOrFault
-joined_of instance condition left right = join_over (option_map expression_of condition) (relation_of instance left) (relation_of instance right)
+abbrev pub joined_of : Instance → Option Expr → RelationOrFault → RelationOrFault → RowsOrFault
+joined_of instance condition left right = join_over (option_map expression_of condition) (relation_or_fault_of instance left) (relation_or_fault_of instance right)

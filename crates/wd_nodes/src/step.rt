@@ -1,230 +1,235 @@
-//! Each step of a plan over the outcomes below it, but for a Window and a Limit.
+//! Each step of a plan over the rows below it, but for a Window and a Limit.
 
-ghost use Rattle.std.specs.Prelude.{◌≡◌, ◌↔◌, ◌<◌, ◌^◌, ℕ, List, true, false, get_or, length, IfNone, IfOk, IfSome, IsTrue, map, None, Ok, Some};
+ghost use Rattle.std.specs.Prelude.{◌≡◌, ◌↔◌, ◌<◌, ◌^◌, ℕ, List, true, false, get_or, length, IfNone, IfOk, IfSome, IsTrue, map, nat_lt, None, Ok, option_map, Some};
 ghost use Rattle.wd_columns.specs.Moves.{AreDifferent};
 ghost use Rattle.wd_nodes.specs.Held.{read_at};
-ghost use Rattle.wd_nodes.specs.Relation.{IsSmallOrLarge, listed_relation_of, group_over, join_over, joined_of, relation_of, stored_rows_of};
+ghost use Rattle.wd_nodes.specs.Relation.{IsSmallOrLarge, joined_of, relation_of, relation_or_fault_of, stored_rows_of};
 ghost use Rattle.wd_plan.specs.Expressions.{Column, expression_of};
-ghost use Rattle.wd_plan.specs.Faults.{and_then};
 ghost use Rattle.wd_plan.specs.Outcomes as spec;
-ghost use Rattle.wd_plan.specs.Outcomes.{outcome_of};
 ghost use Rattle.wd_plan.specs.Plans.{HaveMasks, grouping_of};
-ghost use Rattle.wd_join.specs.Joins.{has_more_rows};
 ghost use Rattle.wd_join.specs.Paired.{rows_paired};
-ghost use Rattle.wd_value.specs.Rows.{Instance, instance_of};
+ghost use Rattle.wd_value.specs.Rows.{Instance};
 
-use crate::pairs::{has_more, narrow};
-use crate::relation::{ListedRelation, Relation, listed_rows, make_list, table_in};
-use crate::stored::{
-    StoredRows, list_from, make_joined_rows, narrow_stored, pick_rows, rows_in, source, store,
-};
+use crate::relation::{Relation, from_outcome, has_more, joined, narrow, store};
+use crate::stored::{StoredRows, pick_rows, store_pairs};
+use crate::tables::Tables;
 use std::alloc::Global;
 use wd_columns::{Columns, RowSource};
 use wd_group::group_rows;
-use wd_join::{Pair, StepError, equal_pairs, filter_pairs, join_rows, paired_columns};
-use wd_plan::{Expr, Group, Outcome};
+use wd_join::{Pair, StepError, filter_pairs, join_pairs, paired_columns};
+use wd_plan::{Expr, Group};
 use wd_steps::{distinct_positions, map_columns, map_own_rows, passing_positions, shown_columns};
-use wd_value::{OutOfMemory, Row};
+use wd_value::{Fault, OutOfMemory};
 
 /// The table that is moved in, and else the one with this number, or the error that these are more
 /// than `most` rows.
 pub fn scan_table(
-    tables: &[Vec<Row>],
+    tables: &Tables,
     moved_in: Option<Columns>,
     table: u16,
     most: u64,
 ) -> Result<Relation, StepError>
-    ensures { IsSmallOrLarge most (Ok (read_at (instance_of tables.now) moved_in table)) (relation_of (instance_of tables.now)) result }
+    ensures { IsSmallOrLarge most (Ok (read_at tables.now moved_in table)) (λ r. Ok (relation_of tables.now r)) result }
 {
     let read = match moved_in {
-        Some(columns) => Relation::ByColumn(columns),
-        None => Relation::Table(table),
+        Some(columns) => StoredRows::Columns(columns),
+        None => StoredRows::Table(table),
     };
-    if has_more(tables, &read, most) {
-        return Err(StepError::TooManyRows);
-    }
-    Ok(read)
+    within(tables, Relation::Stored(read), most)
 }
 
-/// All pairs of a left and a right row for which the condition is true, or the error that there
-/// are more than `most`. Without a condition they are not made yet, nor where the condition consists of
-/// equalities.
+/// The relation, or the error that it has more than `most` rows.
+fn within(tables: &Tables, relation: Relation, most: u64) -> Result<Relation, StepError>
+    ensures { IsSmallOrLarge most (Ok (relation_of tables.now relation)) (λ r. Ok (relation_of tables.now r)) result }
+{
+    if has_more(tables, &relation, most) {
+        Err(StepError::TooManyRows)
+    } else {
+        Ok(relation)
+    }
+}
+
+/// All pairs of a left and a right row for which the condition is true, which are not made yet, or the error that there are more than
+/// `most`. A fault of the left side, or else of the right one, is the fault.
 pub fn join_inputs(
     alloc: Global,
-    instance: &[Vec<Row>],
+    tables: &Tables,
+    condition: &Option<Expr>,
+    left: Result<Relation, Fault>,
+    right: Result<Relation, Fault>,
+    most: u64,
+) -> Result<Result<Relation, Fault>, StepError>
+    ensures { IsSmallOrLarge most (joined_of tables.now condition.now left right) (relation_or_fault_of tables.now) result }
+{
+    match (left, right) {
+        (Err(fault), _) => Ok(Err(fault)),
+        (Ok(_), Err(fault)) => Ok(Err(fault)),
+        (Ok(left), Ok(right)) => join_relations(alloc, tables, condition, left, right, most),
+    }
+}
+
+fn join_relations(
+    alloc: Global,
+    tables: &Tables,
     condition: &Option<Expr>,
     left: Relation,
     right: Relation,
     most: u64,
-) -> Result<Relation, StepError>
-    ensures { IsSmallOrLarge most (joined_of (instance_of instance.now) condition.now left right) (relation_of (instance_of instance.now)) result }
+) -> Result<Result<Relation, Fault>, StepError>
+    ensures { IsSmallOrLarge most (spec.join_outcome (option_map expression_of condition.now) (spec.pairs (relation_of tables.now left) (relation_of tables.now right))) (relation_or_fault_of tables.now) result }
 {
+    let right = store(alloc, tables, right)?;
     match condition {
         None => {
-            let right = make_list(alloc, instance, right, 0)?;
-            pairs_of(alloc, instance, left, right, most)
+            let pairs = Relation::Pairs(Box::new(alloc, left)?, right);
+            Ok(Ok(within(tables, pairs, most)?))
         }
-        Some(condition) => join_where(alloc, instance, condition, left, right, most),
+        Some(condition) => {
+            let left = narrow(alloc, tables, condition, left)?;
+            join_stored(alloc, tables, condition, left, right, most)
+        }
     }
 }
 
-/// All pairs, or the error that there are too many.
-fn pairs_of(
-    alloc: Global,
-    instance: &[Vec<Row>],
-    left: Relation,
-    right: ListedRelation,
-    most: u64,
-) -> Result<Relation, StepError>
-    ensures { IsSmallOrLarge most (join_over None (relation_of (instance_of instance.now) left) (listed_relation_of (instance_of instance.now) right)) (relation_of (instance_of instance.now)) result }
-{
-    let pairs = Relation::Pairs(Box::new(alloc, left)?, right);
-    if has_more(instance, &pairs, most) {
-        Err(StepError::TooManyRows)
-    } else {
-        Ok(pairs)
-    }
-}
-
-/// The pairs for which the condition is true, or the error that there are too many.
-fn join_where(
-    alloc: Global,
-    instance: &[Vec<Row>],
-    condition: &Expr,
-    left: Relation,
-    right: Relation,
-    most: u64,
-) -> Result<Relation, StepError>
-    ensures { IsSmallOrLarge most (join_over (Some (expression_of condition.now)) (relation_of (instance_of instance.now) left) (relation_of (instance_of instance.now) right)) (relation_of (instance_of instance.now)) result }
-{
-    let left = narrow_stored(alloc, instance, condition, left)?;
-    let right = store(alloc, instance, right)?;
-    match (left, right) {
-        (Err(fault), _) => Ok(Relation::Made(Outcome::Fault(fault))),
-        (Ok(_), Err(fault)) => Ok(Relation::Made(Outcome::Fault(fault))),
-        (Ok(left), Ok(right)) => join_stored(alloc, instance, condition, left, right, most),
-    }
-}
-
-/// The pairs of two sides for which the condition is true, by positions where the condition consists of equalities.
+/// The pairs of two sides for which the condition is true.
 fn join_stored(
     alloc: Global,
-    instance: &[Vec<Row>],
+    tables: &Tables,
     condition: &Expr,
     left: StoredRows,
     right: StoredRows,
     most: u64,
-) -> Result<Relation, StepError>
-    ensures { IsSmallOrLarge most (spec.join_outcome (Some (expression_of condition.now)) (spec.pairs (stored_rows_of (instance_of instance.now) left) (stored_rows_of (instance_of instance.now) right))) (relation_of (instance_of instance.now)) result }
+) -> Result<Result<Relation, Fault>, StepError>
+    ensures { IsSmallOrLarge most (spec.filter_outcome (expression_of condition.now) (spec.pairs (stored_rows_of tables.now left) (stored_rows_of tables.now right))) (relation_or_fault_of tables.now) result }
 {
-    let found = equal_pairs(
+    let found = join_pairs(
         alloc,
         condition,
-        &source(&left, instance),
-        &source(&right, instance),
+        &tables.source(&left),
+        &tables.source(&right),
         most,
     )?;
-    match found {
-        Some(pairs) => Ok(Relation::Joined(left, right, pairs)),
-        None => {
-            let outcome = join_lists(alloc, instance, condition, left, right, most)?;
-            Ok(Relation::Made(outcome))
-        }
-    }
+    Ok(joined(left, right, found))
 }
 
-/// The pairs for which the condition is true, as rows.
-fn join_lists(
-    alloc: Global,
-    instance: &[Vec<Row>],
-    condition: &Expr,
-    left: StoredRows,
-    right: StoredRows,
-    most: u64,
-) -> Result<Outcome, StepError>
-    ensures { IsSmallOrLarge most (spec.join_outcome (Some (expression_of condition.now)) (spec.pairs (stored_rows_of (instance_of instance.now) left) (stored_rows_of (instance_of instance.now) right))) outcome_of result }
-{
-    let left = list_from(alloc, left)?;
-    let right = list_from(alloc, right)?;
-    let outcome = join_rows(
-        alloc,
-        Some(condition),
-        rows_in(&left, instance),
-        rows_in(&right, instance),
-        most,
-    )?;
-    Ok(outcome)
-}
-
-/// The rows of the input for which the condition is true.
+/// The rows of the input for which the condition is true, or the least fault.
 pub fn filter_input(
     alloc: Global,
-    instance: &[Vec<Row>],
+    tables: &Tables,
     condition: &Expr,
     input: Relation,
-) -> Result<Relation, OutOfMemory>
-    ensures { IfOk result (λ o. relation_of (instance_of instance.now) o ≡ and_then (relation_of (instance_of instance.now) input) (spec.filter_outcome (expression_of condition.now))) }
+) -> Result<Result<Relation, Fault>, OutOfMemory>
+    ensures { IfOk result (λ r. relation_or_fault_of tables.now r ≡ spec.filter_outcome (expression_of condition.now) (relation_of tables.now input)) }
 {
     match input {
         Relation::Pairs(left, right) => {
-            let left = narrow(alloc, instance, condition, Box::into_inner(left))?;
-            let outcome = pairs_where(alloc, instance, condition, &left, &right)?;
-            Ok(Relation::Made(outcome))
+            let left = narrow(alloc, tables, condition, Box::into_inner(left))?;
+            passing_pairs(alloc, tables, condition, left, right)
         }
-        other => match store(alloc, instance, other)? {
-            Ok(stored) => passing(alloc, instance, condition, stored),
-            Err(fault) => Ok(Relation::Made(Outcome::Fault(fault))),
-        },
+        other => {
+            let stored = store(alloc, tables, other)?;
+            passing_rows(alloc, tables, condition, stored)
+        }
     }
+}
+
+/// The pairs of two sides for which the condition is true, however many there are.
+fn passing_pairs(
+    alloc: Global,
+    tables: &Tables,
+    condition: &Expr,
+    left: StoredRows,
+    right: StoredRows,
+) -> Result<Result<Relation, Fault>, OutOfMemory>
+    ensures { IfOk result (λ r. relation_or_fault_of tables.now r ≡ spec.filter_outcome (expression_of condition.now) (spec.pairs (stored_rows_of tables.now left) (stored_rows_of tables.now right))) }
+{
+    let found = filter_pairs(
+        alloc,
+        condition,
+        &tables.source(&left),
+        &tables.source(&right),
+    )?;
+    Ok(joined(left, right, found))
 }
 
 /// The rows for which the condition is true.
-fn passing(
+fn passing_rows(
     alloc: Global,
-    instance: &[Vec<Row>],
+    tables: &Tables,
     condition: &Expr,
     stored: StoredRows,
-) -> Result<Relation, OutOfMemory>
-    ensures { IfOk result (λ o. relation_of (instance_of instance.now) o ≡ spec.filter_outcome (expression_of condition.now) (stored_rows_of (instance_of instance.now) stored)) }
+) -> Result<Result<Relation, Fault>, OutOfMemory>
+    ensures { IfOk result (λ r. relation_or_fault_of tables.now r ≡ spec.filter_outcome (expression_of condition.now) (stored_rows_of tables.now stored)) }
 {
-    match passing_positions(alloc, condition, &source(&stored, instance))? {
-        Ok(kept) => pick_rows(alloc, instance, stored, &kept),
-        Err(fault) => Ok(Relation::Made(Outcome::Fault(fault))),
+    match passing_positions(alloc, condition, &tables.source(&stored))? {
+        Ok(kept) => {
+            let passing = pick_rows(alloc, tables, stored, &kept)?;
+            Ok(Ok(Relation::Stored(passing)))
+        }
+        Err(fault) => Ok(Err(fault)),
     }
 }
 
-/// The pairs for which the condition is true, of pairs that are not made yet.
-fn pairs_where(
-    alloc: Global,
-    instance: &[Vec<Row>],
-    condition: &Expr,
-    left: &ListedRelation,
-    right: &ListedRelation,
-) -> Result<Outcome, OutOfMemory>
-    ensures { IfOk result (λ o. outcome_of o ≡ and_then (join_over None (listed_relation_of (instance_of instance.now) left.now) (listed_relation_of (instance_of instance.now) right.now)) (spec.filter_outcome (expression_of condition.now))) }
-{
-    match (listed_rows(left, instance), listed_rows(right, instance)) {
-        (Err(fault), _) => Ok(Outcome::Fault(fault)),
-        (Ok(_), Err(fault)) => Ok(Outcome::Fault(fault)),
-        (Ok(left), Ok(right)) => filter_pairs(alloc, condition, left, right),
-    }
-}
-
-/// The values of the outputs over each row of the input.
+/// The values of the outputs over each row of the input, or the least fault.
 pub fn map_input(
     alloc: Global,
-    instance: &[Vec<Row>],
+    tables: &Tables,
     outputs: &[Expr],
     input: Relation,
-) -> Result<Relation, OutOfMemory>
-    ensures { IfOk result (λ o. relation_of (instance_of instance.now) o ≡ and_then (relation_of (instance_of instance.now) input) (spec.map_outcome (map expression_of outputs.now))) }
+) -> Result<Result<Relation, Fault>, OutOfMemory>
+    ensures { IfOk result (λ r. relation_or_fault_of tables.now r ≡ spec.map_outcome (map expression_of outputs.now) (relation_of tables.now input)) }
 {
     match input {
-        Relation::ByColumn(columns) => map_stored_columns(alloc, outputs, columns),
         Relation::Joined(left, right, pairs) => {
-            map_pairs(alloc, instance, outputs, left, right, &pairs)
+            map_pairs(alloc, tables, outputs, &left, &right, &pairs)
         }
-        other => map_listed(alloc, instance, outputs, other),
+        other => {
+            let stored = store(alloc, tables, other)?;
+            map_stored(alloc, tables, outputs, stored)
+        }
+    }
+}
+
+/// The values of the outputs over pairs that are not made yet: where the outputs are columns, only these are made.
+fn map_pairs(
+    alloc: Global,
+    tables: &Tables,
+    outputs: &[Expr],
+    left: &StoredRows,
+    right: &StoredRows,
+    pairs: &[Pair],
+) -> Result<Result<Relation, Fault>, OutOfMemory>
+    ensures { IfOk result (λ r. relation_or_fault_of tables.now r ≡ spec.map_outcome (map expression_of outputs.now) (rows_paired (stored_rows_of tables.now left.now) (stored_rows_of tables.now right.now) pairs.now)) }
+{
+    match shown_columns(alloc, outputs)? {
+        Some(columns) => {
+            let (first, second) = (tables.source(left), tables.source(right));
+            let picked = paired_columns(alloc, &first, &second, pairs, &columns)?;
+            Ok(Ok(Relation::Stored(StoredRows::Columns(picked))))
+        }
+        None => {
+            let rows = store_pairs(alloc, tables, left, right, pairs)?;
+            map_stored(alloc, tables, outputs, rows)
+        }
+    }
+}
+
+/// The values of the outputs over stored rows.
+fn map_stored(
+    alloc: Global,
+    tables: &Tables,
+    outputs: &[Expr],
+    stored: StoredRows,
+) -> Result<Result<Relation, Fault>, OutOfMemory>
+    ensures { IfOk result (λ r. relation_or_fault_of tables.now r ≡ spec.map_outcome (map expression_of outputs.now) (stored_rows_of tables.now stored)) }
+{
+    match stored {
+        StoredRows::Table(number) => map_source(alloc, outputs, &tables.table(number)),
+        StoredRows::Rows(rows) => {
+            let outcome = map_own_rows(alloc, outputs, rows)?;
+            Ok(from_outcome(outcome))
+        }
+        StoredRows::Columns(columns) => map_stored_columns(alloc, outputs, columns),
     }
 }
 
@@ -234,50 +239,29 @@ fn map_stored_columns(
     alloc: Global,
     outputs: &[Expr],
     columns: Columns,
-) -> Result<Relation, OutOfMemory>
-    ensures { IfOk result (λ o. (instance : Instance) → relation_of instance o ≡ spec.map_outcome (map expression_of outputs.now) columns) }
+) -> Result<Result<Relation, Fault>, OutOfMemory>
+    ensures { IfOk result (λ r. (instance : Instance) → relation_or_fault_of instance r ≡ spec.map_outcome (map expression_of outputs.now) columns) }
 {
     match selected_columns(alloc, outputs)? {
         Some(selected) => {
             let columns = columns.select(alloc, &selected)?;
-            Ok(Relation::ByColumn(columns))
+            Ok(Ok(Relation::Stored(StoredRows::Columns(columns))))
         }
         None => map_source(alloc, outputs, &RowSource::of_columns(&columns)),
     }
 }
 
 /// The values of the outputs over rows, column by column.
-fn map_source(alloc: Global, outputs: &[Expr], rows: &RowSource) -> Result<Relation, OutOfMemory>
-    ensures { IfOk result (λ o. (instance : Instance) → relation_of instance o ≡ spec.map_outcome (map expression_of outputs.now) rows.now) }
+fn map_source(
+    alloc: Global,
+    outputs: &[Expr],
+    rows: &RowSource,
+) -> Result<Result<Relation, Fault>, OutOfMemory>
+    ensures { IfOk result (λ r. (instance : Instance) → relation_or_fault_of instance r ≡ spec.map_outcome (map expression_of outputs.now) rows.now) }
 {
     match map_columns(alloc, outputs, rows)? {
-        Ok(columns) => Ok(Relation::ByColumn(columns)),
-        Err(fault) => Ok(Relation::Made(Outcome::Fault(fault))),
-    }
-}
-
-/// The values of the outputs over pairs that are not made yet: where the outputs are columns, only these are made.
-fn map_pairs(
-    alloc: Global,
-    instance: &[Vec<Row>],
-    outputs: &[Expr],
-    left: StoredRows,
-    right: StoredRows,
-    pairs: &[Pair],
-) -> Result<Relation, OutOfMemory>
-    ensures { IfOk result (λ o. relation_of (instance_of instance.now) o ≡ spec.map_outcome (map expression_of outputs.now) (rows_paired (stored_rows_of (instance_of instance.now) left) (stored_rows_of (instance_of instance.now) right) pairs.now)) }
-{
-    match shown_columns(alloc, outputs)? {
-        Some(columns) => {
-            let (first, second) = (source(&left, instance), source(&right, instance));
-            let picked = paired_columns(alloc, &first, &second, pairs, &columns)?;
-            Ok(Relation::ByColumn(picked))
-        }
-        None => {
-            let rows = make_joined_rows(alloc, instance, left, right, pairs)?;
-            let outcome = map_own_rows(alloc, outputs, rows)?;
-            Ok(Relation::Made(outcome))
-        }
+        Ok(columns) => Ok(Ok(Relation::Stored(StoredRows::Columns(columns)))),
+        Err(fault) => Ok(Err(fault)),
     }
 }
 
@@ -330,98 +314,30 @@ fn stands_before(numbers: &[u64], place: usize) -> bool
     false
 }
 
-/// The values of the outputs over each row of an input that is a table or was made row by row.
-fn map_listed(
-    alloc: Global,
-    instance: &[Vec<Row>],
-    outputs: &[Expr],
-    input: Relation,
-) -> Result<Relation, OutOfMemory>
-    ensures { IfOk result (λ o. relation_of (instance_of instance.now) o ≡ and_then (relation_of (instance_of instance.now) input) (spec.map_outcome (map expression_of outputs.now))) }
-{
-    match make_list(alloc, instance, input, 0)? {
-        ListedRelation::Table(table) => {
-            let rows = table_in(instance, table);
-            map_source(alloc, outputs, &RowSource::of_rows(rows))
-        }
-        ListedRelation::Made(Outcome::Rows(rows)) => {
-            let outcome = map_own_rows(alloc, outputs, rows)?;
-            Ok(Relation::Made(outcome))
-        }
-        ListedRelation::Made(Outcome::Fault(fault)) => Ok(Relation::Made(Outcome::Fault(fault))),
-    }
-}
-
 /// The rows of a Group's sets over the input's rows, or the error that there are more than `most`.
 pub fn group_input(
     alloc: Global,
-    instance: &[Vec<Row>],
+    tables: &Tables,
     group: &Group,
     input: Relation,
     most: u64,
-) -> Result<Outcome, StepError>
+) -> Result<Result<Relation, Fault>, StepError>
     requires few { most < 2 ^ 32 }
-    requires small { has_more_rows most (relation_of (instance_of instance.now) input) ≡ false }
+    requires small { nat_lt most (length (relation_of tables.now input)) ≡ false }
     requires masks { HaveMasks (grouping_of group.now) }
-    ensures { IsSmallOrLarge most (group_over (grouping_of group.now) (relation_of (instance_of instance.now) input)) outcome_of result }
+    ensures { IsSmallOrLarge most (spec.group_outcome (grouping_of group.now) (relation_of tables.now input)) (relation_or_fault_of tables.now) result }
 {
-    match input {
-        Relation::ByColumn(columns) => {
-            let outcome = group_rows(alloc, group, &RowSource::of_columns(&columns), most)?;
-            Ok(outcome)
-        }
-        other => {
-            let list = make_list(alloc, instance, other, 0)?;
-            group_listed(alloc, instance, group, &list, most)
-        }
-    }
-}
-
-/// The rows of a Group's sets over a list of rows.
-fn group_listed(
-    alloc: Global,
-    instance: &[Vec<Row>],
-    group: &Group,
-    input: &ListedRelation,
-    most: u64,
-) -> Result<Outcome, StepError>
-    requires few { most < 2 ^ 32 }
-    requires small { has_more_rows most (listed_relation_of (instance_of instance.now) input.now) ≡ false }
-    requires masks { HaveMasks (grouping_of group.now) }
-    ensures { IsSmallOrLarge most (group_over (grouping_of group.now) (listed_relation_of (instance_of instance.now) input.now)) outcome_of result }
-{
-    match listed_rows(input, instance) {
-        Err(fault) => Ok(Outcome::Fault(fault)),
-        Ok(rows) => {
-            let outcome = group_rows(alloc, group, &RowSource::of_rows(rows), most)?;
-            Ok(outcome)
-        }
-    }
+    let stored = store(alloc, tables, input)?;
+    let outcome = group_rows(alloc, group, &tables.source(&stored), most)?;
+    Ok(from_outcome(outcome))
 }
 
 /// The first of the input's rows that are not distinct.
-pub fn distinct(
-    alloc: Global,
-    instance: &[Vec<Row>],
-    input: Relation,
-) -> Result<Relation, OutOfMemory>
-    ensures { IfOk result (λ o. relation_of (instance_of instance.now) o ≡ and_then (relation_of (instance_of instance.now) input) (λ rows. Ok (spec.distinct rows))) }
+pub fn distinct(alloc: Global, tables: &Tables, input: Relation) -> Result<Relation, OutOfMemory>
+    ensures { IfOk result (λ r. relation_of tables.now r ≡ spec.distinct (relation_of tables.now input)) }
 {
-    match store(alloc, instance, input)? {
-        Ok(stored) => first_of(alloc, instance, stored),
-        Err(fault) => Ok(Relation::Made(Outcome::Fault(fault))),
-    }
-}
-
-/// The first of rows that are not distinct.
-fn first_of(
-    alloc: Global,
-    instance: &[Vec<Row>],
-    stored: StoredRows,
-) -> Result<Relation, OutOfMemory>
-    ensures { IfOk result (λ o. relation_of (instance_of instance.now) o ≡ Ok (spec.distinct (stored_rows_of (instance_of instance.now) stored))) }
-{
-    let kept = distinct_positions(alloc, &source(&stored, instance))?;
-    let first = pick_rows(alloc, instance, stored, &kept)?;
-    Ok(first)
+    let stored = store(alloc, tables, input)?;
+    let kept = distinct_positions(alloc, &tables.source(&stored))?;
+    let first = pick_rows(alloc, tables, stored, &kept)?;
+    Ok(Relation::Stored(first))
 }

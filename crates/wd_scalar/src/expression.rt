@@ -20,31 +20,8 @@ use wd_value::{Fault, OutOfMemory, Value};
 /// How many operands deep an expression is evaluated by recursion, which takes no memory from the allocator. Few are deeper.
 const NEAR: u8 = 32;
 
-/// The value of an expression over a row, or its fault: operands are evaluated from left to right, and the first fault is the
-/// expression's. A column past the row's last is NULL.
-pub fn value_of(
-    alloc: Global,
-    expression: &Expr,
-    row: &[Value],
-) -> Result<Result<Value, Fault>, OutOfMemory>
-    ensures { IfOk result (λ r. r ≡ spec.value_of (expression_of expression.now) row.now) }
-{
-    value_over(alloc, expression, &RowView::of_row(row))
-}
-
-/// The value of an expression over two rows concatenated, or its fault. The rows are not copied.
-pub fn value_of_pair(
-    alloc: Global,
-    expression: &Expr,
-    first: &[Value],
-    second: &[Value],
-) -> Result<Result<Value, Fault>, OutOfMemory>
-    ensures { IfOk result (λ r. r ≡ spec.value_of (expression_of expression.now) (first.now ++ second.now)) }
-{
-    value_over(alloc, expression, &RowView::of_pair(first, second))
-}
-
-/// The value of an expression over the row at a position, or its fault, however the rows are kept.
+/// The value of an expression over the row at a position, or its fault: operands are evaluated from left to right, and the first fault
+/// is the expression's. A column past the row's last is NULL.
 pub fn value_at(
     alloc: Global,
     expression: &Expr,
@@ -54,6 +31,24 @@ pub fn value_at(
     ensures { IfOk result (λ r. r ≡ spec.value_of (expression_of expression.now) (row_at rows.now position)) }
 {
     value_over(alloc, expression, &RowView::at(rows, position))
+}
+
+/// The value of an expression over a left and a right row concatenated, each at its position, or its fault.
+pub fn value_of_pair(
+    alloc: Global,
+    expression: &Expr,
+    left: &RowSource,
+    first: u64,
+    right: &RowSource,
+    second: u64,
+) -> Result<Result<Value, Fault>, OutOfMemory>
+    ensures { IfOk result (λ r. r ≡ spec.value_of (expression_of expression.now) (row_at left.now first ++ row_at right.now second)) }
+{
+    value_over(
+        alloc,
+        expression,
+        &RowView::of_pair(left, first, right, second),
+    )
 }
 
 /// The value of an expression over a view of a row, or its fault.

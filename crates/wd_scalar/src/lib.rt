@@ -11,5 +11,6 @@ mod expression;
 mod truth;
 mod view;
 
-pub use expression::{has_arithmetic, value_at, value_of, value_of_pair};
+pub use expression::{has_arithmetic, value_at, value_of_pair};
 pub use truth::is_true;
+pub use view::value_in_pair;

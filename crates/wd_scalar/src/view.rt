@@ -12,10 +12,10 @@ use wd_value::Value;
 /// Where the values of a row are.
 #[derive(Drop)]
 enum Held<'a> {
-    /// Those of a first row, and after them those of a second one.
-    Pair(&'a [Value], &'a [Value]),
-    /// Those of the row at a position, however the rows are kept.
+    /// In the row at a position.
     At(&'a RowSource<'a>, u64),
+    /// In the row at a position, and after them in the row at a position of other rows.
+    Pair(&'a RowSource<'a>, u64, &'a RowSource<'a>, u64),
 }
 
 /// The values of a row, without a copy. Contracts see the row.
@@ -35,28 +35,26 @@ impl<'a> Model for RowView<'a> {
 }
 
 impl<'a> RowView<'a> {
-    /// A row alone.
-    pub fn of_row(row: &'a [Value]) -> RowView<'a>
-        ensures { result ≡ row.now }
-    {
-        RowView::of_pair(row, &[])
-    }
-
-    /// The values of both rows.
-    pub fn of_pair(first: &'a [Value], second: &'a [Value]) -> RowView<'a>
-        ensures { result ≡ first.now ++ second.now }
-    {
-        RowView {
-            held: Held::Pair(first, second),
-        }
-    }
-
     /// The row at a position.
     pub fn at(rows: &'a RowSource<'a>, position: u64) -> RowView<'a>
         ensures { result ≡ row_at rows.now position }
     {
         RowView {
             held: Held::At(rows, position),
+        }
+    }
+
+    /// The values of the row at a position, and after them those of the row at a position of other rows.
+    pub fn of_pair(
+        left: &'a RowSource<'a>,
+        first: u64,
+        right: &'a RowSource<'a>,
+        second: u64,
+    ) -> RowView<'a>
+        ensures { result ≡ row_at left.now first ++ row_at right.now second }
+    {
+        RowView {
+            held: Held::Pair(left, first, right, second),
         }
     }
 
@@ -74,23 +72,29 @@ fn held_value<'a>(held: &'a Held, column: usize, null: &'a Value) -> &'a Value
     ensures { result.now ≡ column_of (row_held held.now) column }
 {
     match held {
-        Held::Pair(first, second) => value_in(first, second, column, null),
         Held::At(rows, position) => rows.value_at(*position, column, null),
+        Held::Pair(left, first, right, second) => {
+            value_in_pair(left, *first, right, *second, column, null)
+        }
     }
 }
 
-fn value_in<'a>(
-    first: &'a [Value],
-    second: &'a [Value],
+/// The value in a column of a left and a right row concatenated, each at its position, and `null` past the last column.
+pub fn value_in_pair<'a>(
+    left: &'a RowSource,
+    first: u64,
+    right: &'a RowSource,
+    second: u64,
     column: usize,
     null: &'a Value,
 ) -> &'a Value
     requires { null.now ≡ value.Null }
-    ensures { result.now ≡ column_of (first.now ++ second.now) column }
+    ensures { result.now ≡ column_of (row_at left.now first ++ row_at right.now second) column }
 {
-    if column < first.len() {
-        first.get(column).unwrap_or(null)
+    let width = left.width(first);
+    if column < width {
+        left.value_at(first, column, null)
     } else {
-        second.get(column - first.len()).unwrap_or(null)
+        right.value_at(second, column - width, null)
     }
 }

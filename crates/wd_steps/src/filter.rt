@@ -35,9 +35,10 @@ pub fn filter_rows(alloc: Global, condition: &Expr, rows: Vec<Row>) -> Result<Ou
 pub fn copy_filtered(alloc: Global, condition: &Expr, rows: &[Row]) -> Result<Outcome, OutOfMemory>
     ensures { IfOk result (λ o. outcome_of o ≡ spec.filter_outcome (expression_of condition.now) (rows_of rows.now)) }
 {
-    match passing_positions(alloc, condition, &RowSource::of_rows(rows))? {
+    let rows = RowSource::of_rows(rows);
+    match passing_positions(alloc, condition, &rows)? {
         Ok(kept) => {
-            let passing = copied_rows(alloc, rows, &kept)?;
+            let passing = copied_rows(alloc, &rows, &kept)?;
             Ok(Outcome::Rows(passing))
         }
         Err(fault) => Ok(Outcome::Fault(fault)),

@@ -24,8 +24,9 @@ pub fn limit_rows(
 ) -> Result<Vec<Row>, OutOfMemory>
     ensures { IfOk result (λ v. rows_of v.items ≡ limited_rows (limit_of limit.now) (rows_at (rows_of rows.now) ordering.now)) }
 {
-    let kept = kept_positions(limit, &RowSource::of_rows(rows), ordering);
-    let picked = copied_rows(alloc, rows, kept)?;
+    let rows = RowSource::of_rows(rows);
+    let kept = kept_positions(limit, &rows, ordering);
+    let picked = copied_rows(alloc, &rows, kept)?;
     Ok(picked)
 }
 

@@ -1,8 +1,8 @@
-use Rattle.std.proofs.Common.{◌≡◌, ◌∙◌, subst}
+use Rattle.std.proofs.Common.{◌≡◌, ◌∙◌, ap, subst}
 use Rattle.std.proofs.lemmas.Result.{err_from_is_err_and}
 use Rattle.wd_value.specs.Rows.{instance_of}
 use Rattle.wd_plan.specs.Outcomes.{outcome_of}
-use Rattle.wd_nodes.specs.Relation.{relation_of}
+use Rattle.wd_nodes.specs.Relation.{relation_or_fault_of}
 use Rattle.wd_eval.proofs.eval.eval_turned.Goals as goal
 
 pub returns-in_err-choice : goal.returns-in_err-choice
@@ -11,5 +11,5 @@ returns-in_err-choice c = let p = err_from_is_err_and c.from_residual.result c.f
 pub returns : goal.returns
 returns c =
     let walked = c.in_ok-choice.ensures.walked in
-    let is = subst (λ is. outcome_of c.in_ok-outcome.outcome ≡ relation_of (instance_of is) c.in_ok-choice.relation) c.deref.ensures.value c.in_ok-outcome.ensures in
+    let is = subst (λ ts. outcome_of c.in_ok-outcome.outcome ≡ relation_or_fault_of ts c.in_ok-choice.given) (c.of_rows.ensures ∙ ap instance_of c.deref.ensures.value) c.in_ok-outcome.ensures in
     record { ok = record { choice = walked.choice; is = is ∙ walked.is }; refused = tt }

@@ -1,11 +1,11 @@
 use Rattle.std.proofs.Common.{◌≡◌, ◌∙◌, sym, ap, subst, map, drop, drop-drop, ⊎_elim, arith, Ok}
 use Rattle.std.specs.Prelude.{option_map}
 use Rattle.std.proofs.lemmas.Result.{err_from_is_err_and}
-use Rattle.wd_value.specs.Rows.{instance_of, table_at}
+use Rattle.wd_value.specs.Rows.{table_at}
 use Rattle.wd_plan.specs.Expressions.{expression_of}
 use Rattle.wd_plan.specs.Plans.{EachNamesClasses, Filter, Map, Group, Window, Distinct, Limit, Join, Over, grouping_of, limit_of, plan_of, window_of}
 use Rattle.wd_nodes.specs.Held.{IsHeld, read_at, scan_count}
-use Rattle.wd_nodes.specs.Relation.{IsLarge, IsSmall, join_over, relation_of}
+use Rattle.wd_nodes.specs.Relation.{IsLarge, IsSmall, RelationOrFault, join_over, relation_or_fault_of}
 use Rattle.wd_eval.specs.Errors.{error_of}
 use Rattle.wd_eval.specs.Walks.{IsHalted, IsWalked, IsWalkedOrHalted, most_of}
 use Rattle.wd_eval.proofs.Walking.{IsStepOver, height, on_ok}
@@ -19,14 +19,14 @@ returns-in_ok-read-in-Scan-clause-moved t c = c.next.ensures.left ∙ ap (λ n. 
 
 pub returns-in_ok-read-in-Scan-clause-walked : goal.returns-in_ok-read-in-Scan-clause-walked
 returns-in_ok-read-in-Scan-clause-walked t c = λ instance held. (
-    let tables = instance_of c.args.tables.now in
+    let tables = c.args.tables.now in
     let old = c.args.orderings.now in
     let table = c.in-Scan.table in
     let columns = c.in-Scan.columns in
-    let o = c.in_ok-read-in-Scan.read in
+    let o : RelationOrFault = Ok c.in_ok-read-in-Scan.read in
     let here = subst (λ p. IsHeld p tables c.args.moved_in.now instance) (ap plan_of c.in-Scan.is) held in
     let is : read_at tables c.next.result table ≡ table_at instance table = ap (λ m. read_at tables m table) c.next.ensures.value ∙ here in
-    let small = subst (λ rows. IsSmall (most_of old) (Ok rows) (relation_of tables o)) is (subst (λ m. IsSmall m (Ok (read_at tables c.next.result table)) (relation_of tables o)) c.most.ensures c.in_ok-read-in-Scan.ensures.ok) in
+    let small = subst (λ rows. IsSmall (most_of old) (Ok rows) (relation_or_fault_of tables o)) is (subst (λ m. IsSmall m (Ok (read_at tables c.next.result table)) (relation_or_fault_of tables o)) c.most.ensures c.in_ok-read-in-Scan.ensures.ok) in
     record {
       ok = subst (λ p. IsWalked p tables instance old old o) (sym (ap plan_of c.in-Scan.is)) (scan_walked tables instance old table columns o small);
       refused = tt;
@@ -34,7 +34,7 @@ returns-in_ok-read-in-Scan-clause-walked t c = λ instance held. (
 
 pub returns-in_err-read-in-Scan-clause-walked : goal.returns-in_err-read-in-Scan-clause-walked
 returns-in_err-read-in-Scan-clause-walked t c = λ instance held. (
-    let tables = instance_of c.args.tables.now in
+    let tables = c.args.tables.now in
     let old = c.args.orderings.now in
     let table = c.in-Scan.table in
     let columns = c.in-Scan.columns in
@@ -50,7 +50,7 @@ returns-in_err-read-in-Scan-clause-walked t c = λ instance held. (
 
 pub evaluate-requires : goal.evaluate-requires
 evaluate-requires t c =
-    let tables = instance_of c.args.tables.now in
+    let tables = c.args.tables.now in
     let right = plan_of c.in-Join.right.value in
     let condition = option_map expression_of c.in-Join.condition in
     let is = ap plan_of c.in-Join.is ∙ ap (λ p. Join condition (plan_of p) right) (sym c.deref.ensures) in
@@ -62,7 +62,7 @@ evaluate-requires t c =
 
 pub evaluate-requires-in-Join : goal.evaluate-requires-in-Join
 evaluate-requires-in-Join t c =
-    let tables = instance_of c.args.tables.now in
+    let tables = c.args.tables.now in
     let left = plan_of c.deref.result.now in
     let right = plan_of c.in-Join.right.value in
     let condition = option_map expression_of c.in-Join.condition in
@@ -82,7 +82,7 @@ evaluate-requires-in-Join t c =
 
 pub returns-in_err-left-in-Join-clause-walked : goal.returns-in_err-left-in-Join-clause-walked
 returns-in_err-left-in-Join-clause-walked t c = λ instance held. (
-    let tables = instance_of c.args.tables.now in
+    let tables = c.args.tables.now in
     let old = c.args.orderings.now in
     let left = plan_of c.deref.result.now in
     let right = plan_of c.in-Join.right.value in
@@ -96,7 +96,7 @@ returns-in_err-left-in-Join-clause-walked t c = λ instance held. (
 
 pub returns-in_err-right-in-Join-clause-walked : goal.returns-in_err-right-in-Join-clause-walked
 returns-in_err-right-in-Join-clause-walked t c = λ instance held. (
-    let tables = instance_of c.args.tables.now in
+    let tables = c.args.tables.now in
     let old = c.args.orderings.now in
     let left = plan_of c.deref.result.now in
     let right = plan_of c.deref-in-Join.result.now in
@@ -125,7 +125,7 @@ returns-in_ok-joined-in-Join-clause-moved t c =
 
 pub returns-in_ok-joined-in-Join-clause-walked : goal.returns-in_ok-joined-in-Join-clause-walked
 returns-in_ok-joined-in-Join-clause-walked t c = λ instance held. (
-    let tables = instance_of c.args.tables.now in
+    let tables = c.args.tables.now in
     let old = c.args.orderings.now in
     let left = plan_of c.deref.result.now in
     let right = plan_of c.deref-in-Join.result.now in
@@ -140,8 +140,8 @@ returns-in_ok-joined-in-Join-clause-walked t c = λ instance held. (
     let on_left = (c.in_ok-left-in-Join.ensures.walked instance here.0).ok in
     let there = subst (λ m. IsHeld right tables m instance) (sym c.in_ok-left-in-Join.ensures.moved) here.1 in
     let on_right = (c.in_ok-right-in-Join.ensures.walked instance there).ok in
-    let joined = join_over condition (relation_of tables l) (relation_of tables r) in
-    let small = subst (λ m. IsSmall m joined (relation_of tables o)) c.most-in-Join.ensures c.in_ok-joined-in-Join.ensures.ok in
+    let joined = join_over condition (relation_or_fault_of tables l) (relation_or_fault_of tables r) in
+    let small = subst (λ m. IsSmall m joined (relation_or_fault_of tables o)) c.most-in-Join.ensures c.in_ok-joined-in-Join.ensures.ok in
     record {
       ok = subst (λ p. IsWalked p tables instance old new o) (sym is) (join_walked tables instance old condition left right mid l on_left new r on_right o small);
       refused = tt;
@@ -149,7 +149,7 @@ returns-in_ok-joined-in-Join-clause-walked t c = λ instance held. (
 
 pub returns-in_err-joined-in-Join-clause-walked : goal.returns-in_err-joined-in-Join-clause-walked
 returns-in_err-joined-in-Join-clause-walked t c = λ instance held. (
-    let tables = instance_of c.args.tables.now in
+    let tables = c.args.tables.now in
     let old = c.args.orderings.now in
     let left = plan_of c.deref.result.now in
     let right = plan_of c.deref-in-Join.result.now in
@@ -165,7 +165,7 @@ returns-in_err-joined-in-Join-clause-walked t c = λ instance held. (
     let on_right = (c.in_ok-right-in-Join.ensures.walked instance there).ok in
     let e = c.in_err-joined-in-Join.field-0.0 in
     let err = err_from_is_err_and c.from_residual-in_err-joined-in-Join.result c.from_residual-in_err-joined-in-Join.ensures.1 in
-    let joined = join_over condition (relation_of tables l) (relation_of tables r) in
+    let joined = join_over condition (relation_or_fault_of tables l) (relation_or_fault_of tables r) in
     let large = subst (λ m. IsLarge m joined e) c.most-in-Join.ensures c.in_err-joined-in-Join.ensures.refused in
     let halted = join_halted tables instance old condition left right mid l on_left new r on_right e large in
     rw (err.1, err.2) (record { ok = tt; refused = subst (λ p. IsHalted p instance old (error_of e)) (sym is) halted }))
@@ -174,7 +174,7 @@ returns-in_err-joined-in-Join-clause-walked t c = λ instance held. (
 
 pub evaluate-requires-in-Filter : goal.evaluate-requires-in-Filter
 evaluate-requires-in-Filter t c =
-    let tables = instance_of c.args.tables.now in
+    let tables = c.args.tables.now in
     let input = plan_of c.in-Filter.input.value in
     let over : IsStepOver (plan_of c.args.plan.now) input =
     ⊎_elim (λ h. (Filter (expression_of h.0), ap plan_of h.1))
@@ -193,7 +193,7 @@ evaluate-requires-in-Filter t c =
 
 pub step_over-requires-clause-within : goal.step_over-requires-clause-within
 step_over-requires-clause-within t c =
-    let tables = instance_of c.args.tables.now in
+    let tables = c.args.tables.now in
     let input = plan_of c.deref-in-Filter.result.now in
     let over : IsStepOver (plan_of c.args.plan.now) (plan_of c.in-Filter.input.value) =
     ⊎_elim (λ h. (Filter (expression_of h.0), ap plan_of h.1))
@@ -208,7 +208,7 @@ step_over-requires-clause-within t c =
 
 pub step_over-requires-clause-small : goal.step_over-requires-clause-small
 step_over-requires-clause-small t c =
-    let tables = instance_of c.args.tables.now in
+    let tables = c.args.tables.now in
     let input = plan_of c.deref-in-Filter.result.now in
     let over : IsStepOver (plan_of c.args.plan.now) (plan_of c.in-Filter.input.value) =
     ⊎_elim (λ h. (Filter (expression_of h.0), ap plan_of h.1))
@@ -223,7 +223,7 @@ step_over-requires-clause-small t c =
 
 pub returns-in_err-below-in-Filter-clause-walked : goal.returns-in_err-below-in-Filter-clause-walked
 returns-in_err-below-in-Filter-clause-walked t c = λ instance held. (
-    let tables = instance_of c.args.tables.now in
+    let tables = c.args.tables.now in
     let old = c.args.orderings.now in
     let input = plan_of c.deref-in-Filter.result.now in
     let over : IsStepOver (plan_of c.args.plan.now) (plan_of c.in-Filter.input.value) =
@@ -242,7 +242,7 @@ returns-in_err-below-in-Filter-clause-walked t c = λ instance held. (
 
 pub returns-in_ok-below-in-Filter-clause-walked : goal.returns-in_ok-below-in-Filter-clause-walked
 returns-in_ok-below-in-Filter-clause-walked t c = λ instance held. (
-    let tables = instance_of c.args.tables.now in
+    let tables = c.args.tables.now in
     let old = c.args.orderings.now in
     let input = plan_of c.deref-in-Filter.result.now in
     let over : IsStepOver (plan_of c.args.plan.now) (plan_of c.in-Filter.input.value) =

@@ -1,47 +1,52 @@
-use Rattle.std.proofs.Common.{◌≡◌, ◌++◌, ◌<◌, ◌≤◌, false, length, take, refl, sym, subst, rules, arith}
-use Rattle.std.proofs.lemmas.List.{length-map, take-map}
-use Rattle.wd_value.specs.Rows.{rows_of}
+use Rattle.std.proofs.Common.{◌≡◌, ◌∙◌, ◌<◌, ◌≤◌, false, ap, length, take, refl, sym, subst, rules, arith}
+use Rattle.std.proofs.lemmas.List.{length-map}
+use Rattle.wd_value.specs.Rows.{row_at}
 use Rattle.wd_plan.specs.Expressions.{expression_of, value_of}
 use Rattle.wd_plan.specs.Outcomes.{pairs, passes}
 use Rattle.wd_scalar.specs.Arithmetic.{has_arithmetic}
 use Rattle.wd_steps.specs.Faults.{with_result}
-use Rattle.wd_join.specs.Joins.{AreKept, with_row}
-use Rattle.wd_steps.proofs.Filtering.{items}
-use Rattle.wd_join.proofs.Joining.{AreKept-enough, AreKept-more, pairs_more, pairs_next}
+use Rattle.wd_join.specs.declared.paired.Pair.{Pair}
+use Rattle.wd_join.specs.Joins.{AreKept, with_next}
+use Rattle.wd_join.specs.Paired.{row_paired, rows_paired}
+use Rattle.wd_join.proofs.Joining.{AreKept-enough, AreKept-more, map-with_next, pairs_more, pairs_next}
 use Rattle.wd_join.proofs.join.pairs_where.Goals as goal
 
 pub returns-then-len-most : goal.returns-then-len-most
 returns-then-len-most c =
     let condition = expression_of c.args.condition.now in
     let left = c.args.left.now in
-    let right = rows_of c.args.right.now in
-    let rows = c.loop-first.kept.rows.items in
-    let sure : has_arithmetic condition ≡ false = sym c.if-faultless.ensures in
-    let long = length-map rows items in
-    let enough : c.args.most < length (rows_of rows) = omega arith in
-    let so_far = subst (λ ls. AreKept condition c.args.most (pairs ls right) (rows_of rows) c.loop-first.kept.fault) (sym (take-map items c.loop-first.first-index left)) c.loop-first.invariant in
-    AreKept-enough condition c.args.most (rows_of left) right (rows_of rows) c.loop-first.first-index c.loop-first.kept.fault sure enough so_far
-
-pub loop-second-preserved : goal.loop-second-preserved
-loop-second-preserved c =
-    let condition = expression_of c.args.condition.now in
-    let i = c.loop-first.first-index in
-    let j = c.loop-second.second-index in
     let right = c.args.right.now in
-    let front = pairs (rows_of (take i c.args.left.now)) (rows_of right) in
-    let first = c.first-item.result in
-    let within : j < length right = omega arith in
-    let second = c.second-item.result in
-    let pair = first.items ++ second.items in
-    let next = pairs_next front first.items right j second within c.second-item.is in
-    let grown : rows_of c.look_at.new.self.rows.items ≡ with_row c.args.most (passes (value_of condition pair)) (rows_of c.loop-second.kept.rows.items) pair = search rules in
-    let looked : c.look_at.new.self.fault ≡ with_result c.loop-second.kept.fault (value_of condition pair) = search rules in
-    subst (λ ps. AreKept condition c.args.most ps (rows_of c.look_at.new.self.rows.items) c.look_at.new.self.fault) next
-    (AreKept-more condition c.args.most _ _ _ _ _ pair _ c.loop-second.invariant refl grown looked)
+    let kept = c.loop-i.kept in
+    let rows = rows_paired left right kept.pairs.items in
+    let sure : has_arithmetic condition ≡ false = sym c.if-faultless.ensures in
+    let long = length-map kept.pairs.items (row_paired left right) in
+    let enough : c.args.most < length rows = omega arith in
+    AreKept-enough condition c.args.most left right rows c.loop-i.i kept.fault sure enough c.loop-i.invariant
 
-pub loop-first-preserved : goal.loop-first-preserved
-loop-first-preserved c =
-    let within : c.loop-first.first-index < length c.args.left.now = omega arith in
-    let all : length c.args.right.now ≤ c.loop-second.second-index = omega arith in
-    subst (λ ps. AreKept (expression_of c.args.condition.now) c.args.most ps (rows_of c.loop-second.kept.rows.items) c.loop-second.kept.fault)
-    (pairs_more c.args.left.now c.args.right.now c.loop-first.first-index c.loop-second.second-index c.first-item.result within c.first-item.is all) c.loop-second.invariant
+pub loop-j-preserved : goal.loop-j-preserved
+loop-j-preserved c =
+    let condition = expression_of c.args.condition.now in
+    let left = c.args.left.now in
+    let right = c.args.right.now in
+    let i = c.loop-i.i in
+    let j = c.loop-j.j in
+    let old = c.loop-j.kept in
+    let new = c.look_at.new.self in
+    let within : j < length right = omega arith in
+    let pair : Pair = record { left = i; right = j } in
+    let value = value_of condition (row_paired left right pair) in
+    let next = pairs_next (pairs (take i left) right) (row_at left i) right j within in
+    let grown : new.pairs.items ≡ with_next c.args.most (passes value) old.pairs.items pair = search rules in
+    let looked : new.fault ≡ with_result old.fault value = search rules in
+    let rows = ap (rows_paired left right) grown ∙ map-with_next (row_paired left right) c.args.most (passes value) old.pairs.items pair in
+    subst (λ ps. AreKept condition c.args.most ps (rows_paired left right new.pairs.items) new.fault) next
+    (AreKept-more condition c.args.most _ _ _ _ _ (row_paired left right pair) _ c.loop-j.invariant refl rows looked)
+
+pub loop-i-preserved : goal.loop-i-preserved
+loop-i-preserved c =
+    let left = c.args.left.now in
+    let right = c.args.right.now in
+    let kept = c.loop-j.kept in
+    let within : c.loop-i.i < length left = omega arith in
+    let all : length right ≤ c.loop-j.j = omega arith in
+    subst (λ ps. AreKept (expression_of c.args.condition.now) c.args.most ps (rows_paired left right kept.pairs.items) kept.fault) (pairs_more left right c.loop-i.i c.loop-j.j within all) c.loop-j.invariant

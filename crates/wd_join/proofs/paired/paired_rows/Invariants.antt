@@ -4,4 +4,4 @@ use Rattle.wd_join.specs.Paired.{rows_paired}
 use Rattle.wd_join.proofs.paired.paired_rows.Given as goal
 
 abbrev pub invariant-loop-pair : goal.invariant-loop-pair
-invariant-loop-pair l = rows_of l.rows.items ≡ rows_paired (rows_of l.left) (rows_of l.right) (take l.pair-index l.pairs)
+invariant-loop-pair l = rows_of l.rows.items ≡ rows_paired l.left l.right (take l.pair-index l.pairs)

@@ -1,5 +1,5 @@
 use Rattle.std.proofs.Common.{◌≡◌, ◌∙◌, List, Ok, map, sym, ap}
-use Rattle.wd_value.specs.Rows.{Row, columns_of, instance_of}
+use Rattle.wd_value.specs.Rows.{Row, columns_of}
 use Rattle.wd_plan.specs.Expressions.{Column, expression_of}
 use Rattle.wd_plan.specs.Outcomes.{map_outcome}
 use Rattle.wd_join.specs.Paired.{rows_paired}
@@ -9,10 +9,9 @@ use Rattle.wd_nodes.proofs.step.map_pairs.Goals as goal
 
 pub returns-in_ok-picked-in-Some : goal.returns-in_ok-picked-in-Some
 returns-in_ok-picked-in-Some c =
-    let instance = instance_of c.args.instance.now in
     let pairs = c.args.pairs.now in
-    let left : List Row = stored_rows_of instance c.args.left in
-    let right : List Row = stored_rows_of instance c.args.right in
+    let left : List Row = stored_rows_of c.args.tables.now c.args.left.now in
+    let right : List Row = stored_rows_of c.args.tables.now c.args.right.now in
     let first : List Row = c.source-first.result in
     let second : List Row = c.source-second.result in
     let rows = rows_paired left right pairs in
