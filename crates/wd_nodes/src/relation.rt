@@ -85,7 +85,7 @@ pub(crate) fn has_more(tables: &Tables, relation: &Relation, most: u64) -> bool
 }
 
 /// Pairs that were found in two sides, or the fault.
-pub(crate) fn joined(
+pub(crate) fn from_pairs(
     left: StoredRows,
     right: StoredRows,
     found: Result<Vec<Pair>, Fault>,

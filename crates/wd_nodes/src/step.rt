@@ -10,7 +10,7 @@ ghost use Rattle.wd_plan.specs.Plans.{HaveMasks, grouping_of};
 ghost use Rattle.wd_join.specs.Paired.{rows_paired};
 ghost use Rattle.wd_value.specs.Rows.{Instance};
 
-use crate::relation::{Relation, from_outcome, has_more, joined, narrow, store};
+use crate::relation::{Relation, from_outcome, from_pairs, has_more, narrow, store};
 use crate::stored::{StoredRows, pick_rows, store_pairs};
 use crate::tables::Tables;
 use std::alloc::Global;
@@ -109,7 +109,7 @@ fn join_stored(
         &tables.source(&right),
         most,
     )?;
-    Ok(joined(left, right, found))
+    Ok(from_pairs(left, right, found))
 }
 
 /// The rows of the input for which the condition is true, or the least fault.
@@ -149,7 +149,7 @@ fn passing_pairs(
         &tables.source(&left),
         &tables.source(&right),
     )?;
-    Ok(joined(left, right, found))
+    Ok(from_pairs(left, right, found))
 }
 
 /// The rows for which the condition is true.
