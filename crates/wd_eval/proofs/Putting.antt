@@ -19,10 +19,6 @@ use Rattle.wd_partition.specs.declared.turn.Turn.{Turn}
 use Rattle.wd_eval.specs.declared.turned.Turned.{Turned}
 use Rattle.wd_eval.proofs.Serving.{all_from_each, bare_stepped, indexes_more}
 
-pub lawful_over : (class : ClassRule) (turn : Turn) (input : RowsOrFault) (ordering : List ℕ) → IsSortedOver class turn input ordering → AtRows input (λ rows. IsOrdering class rows ordering) (ordering ≡ [])
-lawful_over class turn (Ok rows) ordering s = IsOrdering-from_given class rows turn ordering s
-lawful_over class turn (Err fault) ordering s = s
-
 -- ---- the classes of a step
 
 lawful_all : (classes : List ClassRule) (input : RowsOrFault) (turned : Option Turned) (first : ℕ) (own : List (List ℕ)) → AreSortedOver classes input turned first (length classes) own → AreOrderingsOver classes input own

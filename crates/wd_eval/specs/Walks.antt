@@ -4,7 +4,7 @@ use Rattle.std.specs.declared.alloc.Global.{Global}
 use Rattle.std.specs.declared.vec.Vec.{Vec}
 use Rattle.wd_value.specs.Rows.{Instance, Row}
 use Rattle.wd_plan.specs.Outcomes.{RowsOrFault}
-use Rattle.wd_plan.specs.Plans.{Step, Filter, Map, Group, Window, Distinct, Limit, PlanTree, WindowRule, step_classes}
+use Rattle.wd_plan.specs.Plans.{Step, Filter, Map, Group, Window, Distinct, Limit, PlanTree, Scan, Join, Over, WindowRule, step_classes}
 use Rattle.wd_join.specs.Joins.{has_more_rows}
 use Rattle.wd_nodes.specs.Results.{OkOr}
 use Rattle.wd_nodes.specs.Relation.{RelationOrFault, most_rows}
@@ -62,6 +62,12 @@ abbrev pub IsWalkedOrHalted : PlanTree → Instance → Instance → Orderings �
 IsWalkedOrHalted plan tables instance old new r = OkOr (IsWalked plan tables instance old new) (IsHalted plan instance old) r
 
 -- ---- a step
+
+-- how many orderings the plan's last step has; a Scan and a Join have none
+abbrev pub last_count : PlanTree → ℕ
+last_count (Scan table columns) = 0
+last_count (Join condition left right) = 0
+last_count (Over step input) = length (step_classes step)
 
 -- what is found is what a step gives over its input under the next orderings, one for each of its classes
 pub record Gives (step : Step) (input : RowsOrFault) (old new : Orderings) (found : RowsOrFault) : Type 0 where

@@ -1,11 +1,11 @@
 //! A plan under the orderings of its nodes, node by node.
 
 ghost use Rattle.std.specs.Prelude.{◌≡◌, drop, false, length, nat_lt, Ok, OnOk};
-ghost use Rattle.wd_eval.specs.Walks.{GivesOrHalts, IsWalkedOrHalted, IsWithin, most_of};
+ghost use Rattle.wd_eval.specs.Walks.{GivesOrHalts, IsWalkedOrHalted, IsWithin, last_count, most_of};
 ghost use Rattle.wd_join.specs.Joins.{has_more_rows};
 ghost use Rattle.wd_nodes.specs.Held.{IsHeld, IsHeldForSome, scan_count};
 ghost use Rattle.wd_nodes.specs.Relation.{relation_of, relation_or_fault_of};
-ghost use Rattle.wd_plan.specs.Plans.{EachNamesClasses, Over, PlanTree, Step, plan_of, step_classes};
+ghost use Rattle.wd_plan.specs.Plans.{EachNamesClasses, Over, PlanTree, Step, plan_of};
 ghost use Rattle.wd_value.specs.Rows.{Instance};
 
 use crate::error::EvalError;
@@ -87,7 +87,7 @@ fn step_over(
 
 /// How many orderings the plan's last step has.
 fn class_count(plan: &Plan) -> usize
-    ensures { (step : Step) (below : PlanTree) → plan_of plan.now ≡ Over step below → result ≡ length (step_classes step) }
+    ensures { result ≡ last_count (plan_of plan.now) }
 {
     match plan {
         Plan::Window { window, .. } => window.classes.len(),
