@@ -16,7 +16,8 @@ use Rattle.wd_units.specs.declared.amount.Amount.{Amount}
 use Rattle.wd_units.specs.Amounts.{amount_at}
 use Rattle.wd_units.specs.declared.numeral.Numeral.{Numeral}
 use Rattle.wd_units.specs.Numerals.{numeral_at}
-use Rattle.wd_units.specs.Tokens.{◌>>=◌, brackets_at, holds_text, is_case, is_dot, is_end, or_else, part_length}
+use Rattle.wd_operands.specs.Parts.{brackets_at}
+use Rattle.wd_units.specs.Tokens.{◌>>=◌, holds_text, is_case, is_dot, is_end, or_else, part_length}
 
 -- ---- names, numbers and literals
 

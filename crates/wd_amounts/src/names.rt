@@ -2,14 +2,13 @@
 
 ghost use Rattle.std.specs.Prelude.{◌≡◌, ◌++◌, map, false, IfOk};
 ghost use Rattle.wd_amounts.specs.Names as spec;
-ghost use Rattle.wd_units.specs.Given.{Finds};
+ghost use Rattle.wd_operands.specs.Given.{Finds};
 ghost use Rattle.wd_amounts.specs.Names.{lists_names, text_if};
 
 use std::alloc::Global;
 use wd_lex::{Terminal, Token, TokenKind};
-use wd_units::{
-    begins_bracket, is_as, is_constant, is_filter, is_name, is_right_bracket, is_test_word,
-};
+use wd_operands::{is_constant, is_filter, is_name, is_test_word};
+use wd_units::{begins_bracket, is_as, is_right_bracket};
 use wd_value::OutOfMemory;
 
 /// Whether a name right after a token is an alias.

@@ -1,16 +1,16 @@
 //! Calls and what stands in brackets, and what is left of an operand without them.
 
 ghost use Rattle.std.specs.Prelude.{◌≡◌, ◌≤◌, drop, length, IfSome};
-ghost use Rattle.wd_units.specs.Given.{Finds};
+ghost use Rattle.wd_operands.specs.Given.{Finds};
 ghost use Rattle.wd_amounts.specs.Seen.{known_seen};
 ghost use Rattle.wd_amounts.specs.Terms as spec;
 
 use crate::known::KnownNames;
 use wd_lex::{Terminal, Token, TokenKind};
-use wd_operands::nest_length;
+use wd_operands::{brackets_at, is_name, is_over, is_sign, nest_length};
 use wd_units::{
-    Amount, Numeral, Stop, Unit, amount_at, brackets_at, holds_text, is_case, is_dot, is_end,
-    is_name, is_over, is_sign, numeral_at, part_length,
+    Amount, Numeral, Stop, Unit, amount_at, holds_text, is_case, is_dot, is_end, numeral_at,
+    part_length,
 };
 
 fn token_unit(known: &KnownNames<Unit>, kind: &TokenKind) -> Option<Unit>

@@ -7,7 +7,8 @@ use Rattle.wd_lex.specs.declared.token.TokenKind.TheVariants as t
 use Rattle.wd_operands.specs.Operands.{is_name}
 use Rattle.wd_units.specs.declared.token.Stop.TheVariants.{Comma}
 use Rattle.wd_amounts.specs.Terms.{bracket_contents, is_picked}
-use Rattle.wd_units.specs.Tokens.{◌>>=◌, begins_bracket, brackets_at, is_dot, or_else, part_length}
+use Rattle.wd_operands.specs.Parts.{brackets_at}
+use Rattle.wd_units.specs.Tokens.{◌>>=◌, begins_bracket, is_dot, or_else, part_length}
 use Rattle.wd_casts.specs.declared.kind.Kind.{Kind}
 use Rattle.wd_casts.specs.declared.kind.Kind.TheVariants as k
 use Rattle.wd_casts.specs.declared.known.Known.{Known}

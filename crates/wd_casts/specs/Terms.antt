@@ -6,7 +6,8 @@ use Rattle.wd_lex.specs.declared.token.TokenKind.{TokenKind}
 use Rattle.wd_lex.specs.declared.token.TokenKind.TheVariants as t
 use Rattle.wd_operands.specs.Operands.{primary_length}
 use Rattle.wd_units.specs.declared.token.Stop.TheVariants.{As}
-use Rattle.wd_units.specs.Tokens.{◌>>=◌, begins_bracket, brackets_at, part_length}
+use Rattle.wd_operands.specs.Parts.{brackets_at}
+use Rattle.wd_units.specs.Tokens.{◌>>=◌, begins_bracket, part_length}
 use Rattle.wd_casts.specs.declared.kind.Kind.{Kind}
 use Rattle.wd_casts.specs.declared.term.Cast.{Cast}
 use Rattle.wd_casts.specs.Types.{is_word, type_at}

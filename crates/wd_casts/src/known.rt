@@ -13,7 +13,8 @@ use crate::term::{Cast, Term, term_at};
 use std::alloc::{AllocError, Global};
 use wd_amounts::{bracket_contents, is_picked};
 use wd_lex::{Token, TokenKind};
-use wd_units::{Stop, begins_bracket, brackets_at, is_dot, is_name, part_length};
+use wd_operands::{brackets_at, is_name};
+use wd_units::{Stop, begins_bracket, is_dot, part_length};
 
 /// How deep brackets and casts are followed.
 const MOST_DEEP: usize = 130;

@@ -10,8 +10,8 @@ use crate::token::{is_percent, is_word};
 use crate::type_name::type_at;
 use std::alloc::{AllocError, Global};
 use wd_lex::{Span, Token};
-use wd_operands::primary_length;
-use wd_units::{Stop, begins_bracket, brackets_at, part_length};
+use wd_operands::{brackets_at, primary_length};
+use wd_units::{Stop, begins_bracket, part_length};
 
 /// A cast: its type, and the place of its `::` or its CAST.
 #[derive(Clone, Copy)]

@@ -19,7 +19,7 @@ use std::alloc::{AllocError, Global};
 use wd_clauses::{RespellError, add, add_all, copy_token};
 use wd_dialect_read::Statement;
 use wd_lex::{Terminal, Token, TokenKind};
-use wd_units::is_test_word;
+use wd_operands::is_test_word;
 
 /// An operand whose casts have equations, and what is known of it.
 #[derive(Drop)]

@@ -10,7 +10,8 @@ use Rattle.wd_units.specs.declared.unit.Unit.TheVariants.{Days, Microseconds}
 use Rattle.wd_units.specs.Units.{common_unit}
 use Rattle.wd_units.specs.Amounts.{number_said}
 use Rattle.wd_amounts.specs.Terms.{Known, unit_of}
-use Rattle.wd_units.specs.Tokens.{◌>>=◌, is_comparison, is_right_bracket, operand_at}
+use Rattle.wd_operands.specs.Parts.{operand_at}
+use Rattle.wd_units.specs.Tokens.{◌>>=◌, is_comparison, is_right_bracket}
 
 -- An operand is the whole left side of a comparison after an opening bracket, a comma, a word that begins a condition or a value,
 -- and AND, OR and NOT.

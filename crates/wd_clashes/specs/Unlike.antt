@@ -12,7 +12,8 @@ use Rattle.wd_units.specs.declared.unit.Unit.{Unit as Counts}
 use Rattle.wd_units.specs.declared.unit.Unit.TheVariants.{Number}
 use Rattle.wd_units.specs.Units.{counts_decimal, either, is_number, is_unclear, operation_unit, with_branch}
 use Rattle.wd_amounts.specs.Terms.{Known, case_contents, default_of, is_picked, is_star, past_sign, picked_argument, unit_of}
-use Rattle.wd_units.specs.Tokens.{◌>>=◌, depth_after, is_between_factors, is_branch, is_case, is_comparison, operand_at, or_else, part_length}
+use Rattle.wd_operands.specs.Parts.{operand_at}
+use Rattle.wd_units.specs.Tokens.{◌>>=◌, depth_after, is_between_factors, is_branch, is_case, is_comparison, or_else, part_length}
 use Rattle.wd_clashes.specs.declared.unlike.Clash.{Clash}
 use Rattle.wd_clashes.specs.declared.unlike.Clash.TheVariants.{Product, Quotient, Units}
 use Rattle.wd_clashes.specs.declared.unlike.Standing.{Standing}

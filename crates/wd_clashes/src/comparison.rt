@@ -2,16 +2,14 @@
 
 ghost use Rattle.std.specs.Prelude.{◌≡◌};
 ghost use Rattle.wd_clashes.specs.Comparisons as spec;
-ghost use Rattle.wd_units.specs.Given.{Finds};
+ghost use Rattle.wd_operands.specs.Given.{Finds};
 ghost use Rattle.wd_amounts.specs.Seen.{known_seen};
 ghost use Rattle.wd_clashes.specs.Seen.{comparison_seen};
 
 use wd_amounts::{KnownNames, unit_of};
 use wd_lex::{Terminal, Token, TokenKind};
-use wd_units::{
-    Unit, common_unit, is_comparison, is_left_bracket, is_name, is_right_bracket, number_said,
-    operand_at,
-};
+use wd_operands::{is_left_bracket, is_name, operand_at};
+use wd_units::{Unit, common_unit, is_comparison, is_right_bracket, number_said};
 
 /// A comparison, what its sides count, and the tokens after it.
 #[derive(Clone, Copy)]

@@ -13,11 +13,10 @@ use wd_amounts::{
     KnownNames, case_contents, default_of, is_picked, is_star, past_sign, picked_argument, unit_of,
 };
 use wd_lex::{Token, TokenKind};
-use wd_operands::{nest_length, primary_length};
+use wd_operands::{is_left_bracket, is_sign, nest_length, operand_at, primary_length};
 use wd_units::{
     Stop, Unit, counts_decimal, depth_after, either, is_between_factors, is_branch, is_case,
-    is_comparison, is_left_bracket, is_number, is_sign, is_unclear, operand_at, operation_unit,
-    part_length, with_branch,
+    is_comparison, is_number, is_unclear, operation_unit, part_length, with_branch,
 };
 
 /// Why an operator is not allowed.

@@ -7,7 +7,8 @@ use Rattle.wd_lex.specs.declared.token.TokenKind.{TokenKind}
 use Rattle.wd_equations.specs.declared.equation.Form.TheVariants as form
 use Rattle.wd_equations.specs.Parts.{arms_of, values_of}
 use Rattle.wd_equations.specs.Places.{Place, place}
-use Rattle.wd_equations.specs.Tokens.{◌>>=◌, brackets_at, is_terminal, is_word, nest_at, past}
+use Rattle.wd_operands.specs.Parts.{brackets_at, nest_at}
+use Rattle.wd_equations.specs.Tokens.{◌>>=◌, is_terminal, is_word, past}
 
 -- COALESCE (x, y, ..), after its name: at least two values
 unfoldable pub coalesce_after : Span → List Token → Option Place

@@ -1,18 +1,8 @@
--- What a function of the code returned, compared with what a definition gives.
-use Rattle.std.specs.Prelude.{◌≡◌, ◌++◌, ◌<◌, ◌≤◌, ℕ, List, length, Option, Some, None, Result, Ok, Err}
-use Rattle.std.specs.Borrow.{Bor}
+-- Tokens that a function added to others.
+use Rattle.std.specs.Prelude.{◌≡◌, ◌++◌, ◌<◌, ◌≤◌, ℕ, List, length, Result, Ok, Err}
 use Rattle.wd_lex.specs.declared.token.Token.{Token}
 use Rattle.wd_equations.specs.declared.error.ExpandError.{ExpandError}
 use Rattle.wd_equations.specs.declared.error.ExpandError.TheVariants as e
-
--- What a function found, seen through `view`.
-abbrev pub Finds : {X Y : Type 0} → (X → Y) → Option X → Option Y → Type 0
-Finds view None found = found ≡ None
-Finds view (Some x) found = found ≡ Some (view x)
-
--- two lists of tokens
-abbrev pub pair : Bor (List Token) × Bor (List Token) → List Token × List Token
-pair found = (found.0.now, found.1.now)
 
 -- the most tokens that are written (this project's choice)
 abbrev pub most_tokens : ℕ

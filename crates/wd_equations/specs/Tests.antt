@@ -12,7 +12,8 @@ use Rattle.wd_equations.specs.declared.found.Before.{Before}
 use Rattle.wd_equations.specs.declared.found.Before.TheVariants.{Open, Compared, Inside}
 use Rattle.wd_equations.specs.Parts.{values_of}
 use Rattle.wd_equations.specs.Places.{Place, place}
-use Rattle.wd_equations.specs.Tokens.{◌>>=◌, brackets_at, goes_on, is_terminal, is_word, operand_at, past}
+use Rattle.wd_operands.specs.Parts.{brackets_at, operand_at}
+use Rattle.wd_equations.specs.Tokens.{◌>>=◌, goes_on, is_terminal, is_word, past}
 
 -- by the tokens after something that may come first, or else by the tokens themselves
 abbrev pub choose : {A : Type 0} → Option (List Token) → (List Token → A) → A → A

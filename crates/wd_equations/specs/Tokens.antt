@@ -1,14 +1,13 @@
 -- Single tokens, and what tokens begin with.
 use Rattle.std.specs.Str.{bytes_eq}
-use Rattle.std.specs.Prelude.{ℕ, ◌-◌, ◌==◌, nat_lt, Bool, true, false, if◌then◌else◌, List, [], ◌∷◌, take, drop, Option, Some, None}
+use Rattle.std.specs.Prelude.{ℕ, ◌==◌, Bool, true, false, if◌then◌else◌, List, [], ◌∷◌, Option, Some, None}
 use Rattle.wd_lex.specs.declared.token.Terminal.{Terminal}
 use Rattle.wd_lex.specs.declared.token.Terminal.TheVariants as m
 use Rattle.wd_lex.specs.declared.token.Token.{Token}
 use Rattle.wd_lex.specs.declared.token.TokenKind.{TokenKind}
 use Rattle.wd_lex.specs.declared.token.TokenKind.TheVariants as t
 use Rattle.wd_lex.specs.Terminals.{terminal_code}
-use Rattle.wd_operands.specs.Nests.{nest_length}
-use Rattle.wd_operands.specs.Operands.{is_test_word, operand_length}
+use Rattle.wd_operands.specs.Operands.{is_test_word}
 
 infixl 10 ◌>>=◌
 abbrev pub ◌>>=◌ : {A B : Type 0} → Option A → (A → Option B) → Option B
@@ -28,24 +27,6 @@ is_word word _ = false
 unfoldable pub past : Terminal → List Token → Option (List Token)
 past x [] = None
 past x (token ∷ tokens) = if is_terminal x token.kind then Some tokens else None
-
--- what tokens begin with, and the tokens after it
-abbrev pub AndRest : Type 0
-AndRest = List Token × List Token
-
--- the operand at the start, and the tokens after it
-unfoldable pub operand_at : List Token → Option AndRest
-operand_at tokens = if operand_length tokens == 0 then None else Some (take (operand_length tokens) tokens, drop (operand_length tokens) tokens)
-
--- what is between the brackets at the start, or between CASE and END, and the tokens after them
-unfoldable pub nest_at : List Token → Option AndRest
-nest_at tokens =
-    if nat_lt (nest_length tokens) 2 then None else Some (drop 1 (take (nest_length tokens - 1) (take (nest_length tokens) tokens)), drop (nest_length tokens) tokens)
-
--- what is between the round brackets at the start, and the tokens after them
-unfoldable pub brackets_at : List Token → Option AndRest
-brackets_at [] = None
-brackets_at (token ∷ tokens) = if is_terminal m.LeftBracket token.kind then nest_at (token ∷ tokens) else None
 
 -- whether a token continues an operand with an operator that binds no less tightly than IS
 abbrev pub is_operator : TokenKind → Bool

@@ -1,16 +1,17 @@
 //! Calls that are abbreviations, calls with FILTER, and a CASE with an operand.
 
 ghost use Rattle.std.specs.Prelude.{◌≡◌, IfOk};
-ghost use Rattle.wd_equations.specs.Given.{Finds};
+ghost use Rattle.wd_operands.specs.Given.{Finds};
 ghost use Rattle.wd_equations.specs.Places.{seen};
 ghost use Rattle.wd_equations.specs.Calls.{begins_arms, begins_value, call_at, case_after, coalesce_after, counted, filter_after, filter_word, filtered, is_aggregate, is_all, named_call, null_if_after};
 
 use crate::equation::Form;
 use crate::found::Found;
 use crate::split::parts_of;
-use crate::tokens::{brackets_at, is_terminal, is_word, nest_at, past};
+use crate::tokens::{is_terminal, is_word, past};
 use std::alloc::{AllocError, Global};
 use wd_lex::{Span, Terminal, Token, TokenKind};
+use wd_operands::{brackets_at, nest_at};
 
 /// `COALESCE (x, y, ..)`, after its name: at least two values.
 #[tactic(auto, unfolding(crate::specs::Calls::coalesce_after))]

@@ -8,7 +8,8 @@ ghost use Rattle.wd_equations.specs.declared.found.Before.{Before};
 ghost use Rattle.wd_equations.specs.declared.error.ExpandError.{ExpandError};
 ghost use Rattle.wd_equations.specs.declared.equation.Piece.{Piece};
 ghost use Rattle.wd_equations.specs.Equations.{equation, stated};
-ghost use Rattle.wd_equations.specs.Given.{Adds, Finds, most_tokens};
+ghost use Rattle.wd_operands.specs.Given.{Finds};
+ghost use Rattle.wd_equations.specs.Given.{Adds, most_tokens};
 ghost use Rattle.wd_equations.specs.Places.{seen};
 ghost use Rattle.wd_equations.specs.Expanded.{expanded, part_tokens, piece_tokens, pieces_tokens, place_at, step, walked, written};
 

@@ -1,7 +1,7 @@
 //! Tests after an operand: BETWEEN, IN, and IS with DISTINCT FROM, TRUE, FALSE or UNKNOWN.
 
 ghost use Rattle.std.specs.Prelude.{◌≡◌, ◌∷◌, map, IfOk};
-ghost use Rattle.wd_equations.specs.Given.{Finds};
+ghost use Rattle.wd_operands.specs.Given.{Finds};
 ghost use Rattle.wd_equations.specs.Parts.{values_of};
 ghost use Rattle.wd_equations.specs.Places.{seen};
 ghost use Rattle.wd_equations.specs.Tests.{among_after, begins_list, begins_query, begins_symmetry, between_after, distinct_after, is_after, is_query_word, is_test, test_after, test_at, truth_after, truth_form, word_test, word_test_at};
@@ -9,9 +9,10 @@ ghost use Rattle.wd_equations.specs.Tests.{among_after, begins_list, begins_quer
 use crate::equation::Form;
 use crate::found::{Before, Found};
 use crate::split::parts_of;
-use crate::tokens::{brackets_at, goes_on, is_terminal, is_word, operand_at, past};
+use crate::tokens::{goes_on, is_terminal, is_word, past};
 use std::alloc::{AllocError, Global};
 use wd_lex::{Span, Terminal, Token, TokenKind};
+use wd_operands::{brackets_at, operand_at};
 
 /// Whether the tokens begin with SYMMETRIC or ASYMMETRIC.
 #[tactic(auto, unfolding(crate::specs::Tests::begins_symmetry))]

@@ -1,16 +1,11 @@
 //! Arithmetic operands: what binds more tightly than BETWEEN, IN and comparisons.
 
 ghost use Rattle.std.specs.Prelude.{◌≡◌, ◌≤◌, length};
-ghost use Rattle.wd_operands.specs.Operands.{factor_length, is_operator, is_sign, link_length, operand_length, signs_from};
+ghost use Rattle.wd_operands.specs.Operands.{factor_length, is_operator, link_length, operand_length, signs_from};
 
 use crate::primary::{past, primary_length};
+use crate::token::is_sign;
 use wd_lex::{Terminal, Token, TokenKind};
-
-fn is_sign(kind: &TokenKind) -> bool
-    ensures { result ≡ is_sign kind.now }
-{
-    matches!(kind, TokenKind::Terminal(Terminal::Plus | Terminal::Minus))
-}
 
 fn is_operator(kind: &TokenKind) -> bool
     ensures { result ≡ is_operator kind.now }

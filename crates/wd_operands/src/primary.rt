@@ -1,9 +1,10 @@
 //! The parts of an operand: names, calls, constants, and brackets.
 
 ghost use Rattle.std.specs.Prelude.{◌≡◌, ◌≤◌, length, drop, true};
-ghost use Rattle.wd_operands.specs.Operands.{brackets_length, call_length, call_tail_length, constant_length, filter_length, is_column, is_constant, is_filter, is_left_bracket, is_name, is_over, is_test_word, name_length, over_length, or_else, primary_length, typed_length, window_length};
+ghost use Rattle.wd_operands.specs.Operands.{brackets_length, call_length, call_tail_length, constant_length, filter_length, is_column, name_length, over_length, or_else, primary_length, typed_length, window_length};
 
 use crate::nest::nest_length;
+use crate::token::{is_constant, is_filter, is_left_bracket, is_name, is_over, is_test_word};
 use wd_lex::{Terminal, Token, TokenKind};
 
 /// The tokens after the first `count`.
@@ -12,55 +13,6 @@ pub fn past(tokens: &[Token], count: usize) -> &[Token]
     ensures { result.now ≡ drop count tokens.now }
 {
     tokens.split_at(count).1
-}
-
-/// Whether a word begins what comes between an operand and the next, so that it is not a name.
-fn is_test_word(text: &str) -> bool
-    ensures { result ≡ is_test_word text.now }
-{
-    text == "between" || text == "in" || text == "like" || text == "ilike" || text == "similar"
-}
-
-fn is_name(kind: &TokenKind) -> bool
-    ensures { result ≡ is_name kind.now }
-{
-    match kind {
-        TokenKind::Word(text) => !is_test_word(text.as_str()),
-        TokenKind::Quoted(_) => true,
-        _ => false,
-    }
-}
-
-fn is_filter(kind: &TokenKind) -> bool
-    ensures { result ≡ is_filter kind.now }
-{
-    match kind {
-        TokenKind::Word(text) => text.as_str() == "filter",
-        _ => false,
-    }
-}
-
-fn is_left_bracket(kind: &TokenKind) -> bool
-    ensures { result ≡ is_left_bracket kind.now }
-{
-    matches!(kind, TokenKind::Terminal(Terminal::LeftBracket))
-}
-
-fn is_over(kind: &TokenKind) -> bool
-    ensures { result ≡ is_over kind.now }
-{
-    matches!(kind, TokenKind::Terminal(Terminal::Over))
-}
-
-fn is_constant(kind: &TokenKind) -> bool
-    ensures { result ≡ is_constant kind.now }
-{
-    matches!(
-        kind,
-        TokenKind::Literal(_)
-            | TokenKind::Number(_)
-            | TokenKind::Terminal(Terminal::Null | Terminal::True | Terminal::False)
-    )
 }
 
 /// `( .. )`

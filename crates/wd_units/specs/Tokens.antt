@@ -1,11 +1,10 @@
 -- Single tokens, and what stands at the start of tokens.
-use Rattle.std.specs.Prelude.{ℕ, ◌+◌, ◌-◌, ◌==◌, ◌&&◌, ◌||◌, not, nat_lt, Bool, true, false, if◌then◌else◌, List, [], ◌∷◌, take, drop, Option, Some, None}
+use Rattle.std.specs.Prelude.{ℕ, ◌+◌, ◌-◌, ◌==◌, ◌&&◌, ◌||◌, not, Bool, true, false, if◌then◌else◌, List, [], ◌∷◌, Option, Some, None}
 use Rattle.wd_lex.specs.declared.token.Terminal.TheVariants as m
 use Rattle.wd_lex.specs.declared.token.Token.{Token}
 use Rattle.wd_lex.specs.declared.token.TokenKind.{TokenKind}
 use Rattle.wd_lex.specs.declared.token.TokenKind.TheVariants as t
-use Rattle.wd_operands.specs.Nests.{nest_length}
-use Rattle.wd_operands.specs.Operands.{is_left_bracket, is_sign, operand_length}
+use Rattle.wd_operands.specs.Operands.{is_left_bracket, is_sign}
 use Rattle.wd_units.specs.declared.token.Stop.{Stop}
 use Rattle.wd_units.specs.declared.token.Stop.TheVariants.{Sign, Factor, Operator, Comma, As, Then, Branch, Link, Frame}
 
@@ -143,17 +142,3 @@ part_from stop count depth is_factor (token ∷ tokens) =
 
 unfoldable pub part_length : Stop → List Token → ℕ
 part_length stop tokens = part_from stop 0 0 false tokens
-
--- ---- what stands first, and the tokens after it
-
-abbrev pub AndRest : Type 0
-AndRest = List Token × List Token
-
-unfoldable pub operand_at : List Token → Option AndRest
-operand_at tokens = if operand_length tokens == 0 then None else Some (take (operand_length tokens) tokens, drop (operand_length tokens) tokens)
-
--- what stands between the round brackets at the start
-unfoldable pub brackets_at : List Token → Option AndRest
-brackets_at tokens =
-    if not (begins_bracket tokens) || nat_lt (nest_length tokens) 2 then None
-    else Some (drop 1 (take (nest_length tokens - 1) (take (nest_length tokens) tokens)), drop (nest_length tokens) tokens)

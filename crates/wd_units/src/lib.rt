@@ -13,9 +13,8 @@ mod unit;
 pub use amount::{Amount, amount_at, number_said};
 pub use numeral::{Numeral, numeral_at};
 pub use token::{
-    Stop, begins_bracket, begins_item, begins_query, brackets_at, depth_after, holds_text, is_as,
-    is_between_factors, is_branch, is_case, is_comparison, is_constant, is_dot, is_end, is_filter,
-    is_left_bracket, is_name, is_over, is_right_bracket, is_sign, is_test_word, operand_at,
+    Stop, begins_bracket, begins_item, begins_query, depth_after, holds_text, is_as,
+    is_between_factors, is_branch, is_case, is_comparison, is_dot, is_end, is_right_bracket,
     part_length,
 };
 pub use unit::{

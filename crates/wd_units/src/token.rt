@@ -1,13 +1,11 @@
 //! Single tokens, and what stands at the start of tokens.
 
-ghost use Rattle.std.specs.Prelude.{◌≡◌, ◌≤◌, ◌+◌, length, IfSome};
-ghost use Rattle.wd_operands.specs.Operands as operands;
-ghost use Rattle.wd_units.specs.Given.{Finds, pair};
+ghost use Rattle.std.specs.Prelude.{◌≡◌, ◌≤◌, ◌+◌, length};
 ghost use Rattle.wd_units.specs.Tokens as spec;
 ghost use Rattle.wd_units.specs.Tokens.{part_from};
 
 use wd_lex::{Terminal, Token, TokenKind};
-use wd_operands::{nest_length, operand_length};
+use wd_operands::{is_left_bracket, is_sign};
 
 /// What ends a part of tokens.
 #[derive(Clone, Copy)]
@@ -31,48 +29,10 @@ pub enum Stop {
     Frame,
 }
 
-/// Whether a word begins what stands between an operand and the next, so that it is no name.
-pub fn is_test_word(text: &str) -> bool
-    ensures { result ≡ operands.is_test_word text.now }
-{
-    text == "between" || text == "in" || text == "like" || text == "ilike" || text == "similar"
-}
-
-pub fn is_name(kind: &TokenKind) -> bool
-    ensures { result ≡ operands.is_name kind.now }
-{
-    match kind {
-        TokenKind::Word(text) => !is_test_word(text.as_str()),
-        TokenKind::Quoted(_) => true,
-        _ => false,
-    }
-}
-
-pub fn is_filter(kind: &TokenKind) -> bool
-    ensures { result ≡ operands.is_filter kind.now }
-{
-    match kind {
-        TokenKind::Word(text) => text.as_str() == "filter",
-        _ => false,
-    }
-}
-
-pub fn is_left_bracket(kind: &TokenKind) -> bool
-    ensures { result ≡ operands.is_left_bracket kind.now }
-{
-    matches!(kind, TokenKind::Terminal(Terminal::LeftBracket))
-}
-
 pub fn is_right_bracket(kind: &TokenKind) -> bool
     ensures { result ≡ spec.is_right_bracket kind.now }
 {
     matches!(kind, TokenKind::Terminal(Terminal::RightBracket))
-}
-
-pub fn is_over(kind: &TokenKind) -> bool
-    ensures { result ≡ operands.is_over kind.now }
-{
-    matches!(kind, TokenKind::Terminal(Terminal::Over))
 }
 
 pub fn is_as(kind: &TokenKind) -> bool
@@ -115,24 +75,6 @@ fn is_text(kind: &TokenKind) -> bool
     ensures { result ≡ spec.is_text kind.now }
 {
     matches!(kind, TokenKind::Literal(_))
-}
-
-pub fn is_sign(kind: &TokenKind) -> bool
-    ensures { result ≡ operands.is_sign kind.now }
-{
-    matches!(kind, TokenKind::Terminal(Terminal::Plus | Terminal::Minus))
-}
-
-/// Whether it is a text, a number, NULL, TRUE or FALSE.
-pub fn is_constant(kind: &TokenKind) -> bool
-    ensures { result ≡ operands.is_constant kind.now }
-{
-    matches!(
-        kind,
-        TokenKind::Literal(_)
-            | TokenKind::Number(_)
-            | TokenKind::Terminal(Terminal::Null | Terminal::True | Terminal::False)
-    )
 }
 
 pub fn is_comparison(kind: &TokenKind) -> bool
@@ -278,32 +220,4 @@ pub fn part_length(stop: Stop, tokens: &[Token]) -> usize
         rest = after;
     }
     count
-}
-
-/// The operand at the start, and the tokens after it.
-#[tactic(auto, unfolding(crate::specs::Tokens::operand_at))]
-pub fn operand_at(tokens: &[Token]) -> Option<(&[Token], &[Token])>
-    ensures value { Finds pair result (spec.operand_at tokens.now) }
-    ensures whole { IfSome result (λ x. length x.0.now + length x.1.now ≡ length tokens.now) }
-{
-    let length = operand_length(tokens);
-    if length == 0 {
-        return None;
-    }
-    Some(tokens.split_at(length))
-}
-
-/// What stands between the round brackets at the start, and the tokens after them.
-#[tactic(auto, unfolding(crate::specs::Tokens::brackets_at))]
-pub fn brackets_at(tokens: &[Token]) -> Option<(&[Token], &[Token])>
-    ensures { Finds pair result (spec.brackets_at tokens.now) }
-{
-    let length = nest_length(tokens);
-    if !begins_bracket(tokens) || length < 2 {
-        return None;
-    }
-    let (nest, rest) = tokens.split_at(length);
-    let (front, _) = nest.split_at(length - 1);
-    let (_, inside) = front.split_at(1);
-    Some((inside, rest))
 }
