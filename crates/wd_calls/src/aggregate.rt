@@ -26,31 +26,29 @@ pub(crate) fn answers<'a>(
     partition: &'a Partition,
     count: usize,
     lists: &[Vec<IndexRange>],
-    null: &'a Value,
     zero: &'a Value,
 ) -> Result<Vec<Answer<'a>>, OutOfMemory>
     requires lists { AreLists count (lists_of lists.now) }
-    requires null { null.now ≡ variant.Null }
     requires zero { zero.now ≡ variant.Int (pos 0) }
     ensures { IfOk result (λ v. AreAnswersOf aggregate (partition_of partition.now) count (lists_of lists.now) v.items) }
 {
     match aggregate {
         Aggregate::CountRows => counts(alloc, lists, count),
         Aggregate::Count(column) => {
-            let values = column_values(alloc, partition, column, count, null)?;
+            let values = column_values(alloc, partition, column, count)?;
             over_lists(alloc, lists, &values, Count::new(alloc))
         }
         Aggregate::Sum(column) => {
-            let values = column_values(alloc, partition, column, count, null)?;
+            let values = column_values(alloc, partition, column, count)?;
             let addends = addends(alloc, &values, zero)?;
             over_lists(alloc, lists, &addends, Sum::new(alloc))
         }
         Aggregate::Min(column) => {
-            let values = column_values(alloc, partition, column, count, null)?;
+            let values = column_values(alloc, partition, column, count)?;
             over_lists(alloc, lists, &values, Extreme::new(alloc, Ascending))
         }
         Aggregate::Max(column) => {
-            let values = column_values(alloc, partition, column, count, null)?;
+            let values = column_values(alloc, partition, column, count)?;
             over_lists(alloc, lists, &values, Extreme::new(alloc, Descending))
         }
     }
@@ -64,9 +62,8 @@ pub fn aggregate_over(
 ) -> Result<Result<Value, Fault>, OutOfMemory>
     ensures { IfOk result (λ r. r ≡ aggregate_value aggregate (partition_of partition.now)) }
 {
-    let null = Value::Null;
     let zero = Value::Int(0);
-    let answer = answer_over(alloc, aggregate, &*partition, &null, &zero)?;
+    let answer = answer_over(alloc, aggregate, &*partition, &zero)?;
     value_of(alloc, &answer)
 }
 
@@ -75,10 +72,8 @@ fn answer_over<'a>(
     alloc: Global,
     aggregate: Aggregate,
     partition: &'a Partition,
-    null: &'a Value,
     zero: &'a Value,
 ) -> Result<Answer<'a>, OutOfMemory>
-    requires null { null.now ≡ variant.Null }
     requires zero { zero.now ≡ variant.Int (pos 0) }
     ensures { IfOk result (λ a. spec.value_of (shown a) ≡ aggregate_value aggregate (partition_of partition.now)) }
 {
@@ -86,20 +81,20 @@ fn answer_over<'a>(
     match aggregate {
         Aggregate::CountRows => Ok(Answer::Number(count as i128)),
         Aggregate::Count(column) => {
-            let values = column_values(alloc, partition, column, count, null)?;
+            let values = column_values(alloc, partition, column, count)?;
             over_all(&values, Count::new(alloc))
         }
         Aggregate::Sum(column) => {
-            let values = column_values(alloc, partition, column, count, null)?;
+            let values = column_values(alloc, partition, column, count)?;
             let addends = addends(alloc, &values, zero)?;
             over_all(&addends, Sum::new(alloc))
         }
         Aggregate::Min(column) => {
-            let values = column_values(alloc, partition, column, count, null)?;
+            let values = column_values(alloc, partition, column, count)?;
             over_all(&values, Extreme::new(alloc, Ascending))
         }
         Aggregate::Max(column) => {
-            let values = column_values(alloc, partition, column, count, null)?;
+            let values = column_values(alloc, partition, column, count)?;
             over_all(&values, Extreme::new(alloc, Descending))
         }
     }

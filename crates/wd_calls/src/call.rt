@@ -53,9 +53,8 @@ pub fn put_values(
 ) -> Result<(), OutOfMemory>
     ensures { OnOk result (PutsCalls call.now.frame call.now.function partition.now (part_of part.now) column.old column.new) }
 {
-    let null = Value::Null;
     let zero = Value::Int(0);
-    let source = source_of(alloc, &*call, &*partition, part, &null, &zero)?;
+    let source = source_of(alloc, &*call, &*partition, part, &zero)?;
     put_from(alloc, &source, partition, part, column)
 }
 
@@ -82,10 +81,8 @@ fn source_of<'a>(
     call: &'a Call,
     partition: &'a Partition,
     part: &Part,
-    null: &'a Value,
     zero: &'a Value,
 ) -> Result<Source<'a>, OutOfMemory>
-    requires null { null.now ≡ value.Null }
     requires zero { zero.now ≡ value.Int (pos 0) }
     ensures { IfOk result (λ s. IsSourceOf call.now.frame call.now.function (partition_of partition.now) (part_of part.now) s) }
 {
@@ -95,7 +92,7 @@ fn source_of<'a>(
         Function::OfFrame(function) => {
             let lists = frame_ranges(alloc, part, &call.frame)?;
             let count = part.groups.len();
-            frame_source(alloc, *function, partition, count, lists, null, zero)
+            frame_source(alloc, *function, partition, count, lists, zero)
         }
     }
 }
@@ -107,10 +104,8 @@ fn frame_source<'a>(
     partition: &'a Partition,
     count: usize,
     lists: Vec<Vec<IndexRange>>,
-    null: &'a Value,
     zero: &'a Value,
 ) -> Result<Source<'a>, OutOfMemory>
-    requires null { null.now ≡ value.Null }
     requires zero { zero.now ≡ value.Int (pos 0) }
     requires lists { AreLists count (lists_of lists.items) }
     ensures { IfOk result (λ s. (f : frame.Frame) (part : places.PartRule) → length part.groups ≡ count → AreFrames part f (lists_of lists.items) → IsSourceOf f (of.OfFrame function) (partition_of partition.now) part s) }
@@ -118,7 +113,7 @@ fn frame_source<'a>(
     match function {
         FrameFunction::ValueAt(row, column) => Ok(Source::Row(row, column, lists)),
         FrameFunction::Aggregate(aggregate) => {
-            let answers = answers(alloc, aggregate, partition, count, &lists, null, zero)?;
+            let answers = answers(alloc, aggregate, partition, count, &lists, zero)?;
             Ok(Source::Answers(answers))
         }
     }

@@ -5,7 +5,6 @@ ghost use Rattle.wd_calls.specs.Parts.{partition_of};
 ghost use Rattle.wd_calls.specs.Values.{value_in};
 ghost use Rattle.wd_calls.specs.Values as values;
 ghost use Rattle.wd_frame.specs.Slides.{seen};
-ghost use Rattle.wd_value.specs.declared.value.Value.TheVariants as value;
 
 use std::alloc::Global;
 use wd_columns::RowSource;
@@ -20,13 +19,12 @@ pub struct Partition<'a, 'r> {
 }
 
 /// The value in a column of the row at a place, and NULL past the last place or column.
-fn value_at<'a>(partition: &'a Partition, place: usize, column: u16, null: &'a Value) -> &'a Value
-    requires { null.now ≡ value.Null }
+fn value_at<'a>(partition: &'a Partition, place: usize, column: u16) -> &'a Value
     ensures { result.now ≡ value_in (partition_of partition.now) column place }
 {
     match partition.positions.get(place) {
-        Some(position) => partition.rows.value(*position, column, null),
-        None => null,
+        Some(position) => partition.rows.value(*position, column as usize),
+        None => partition.rows.null(),
     }
 }
 
@@ -39,8 +37,7 @@ pub(crate) fn copy_at(
 ) -> Result<Value, OutOfMemory>
     ensures { IfOk result (λ v. v ≡ value_in (partition_of partition.now) column place) }
 {
-    let null = Value::Null;
-    value_at(partition, place, column, &null).copy(alloc)
+    value_at(partition, place, column).copy(alloc)
 }
 
 /// The values in a column of the rows at the first `count` places.
@@ -49,14 +46,12 @@ pub(crate) fn column_values<'a>(
     partition: &'a Partition,
     column: u16,
     count: usize,
-    null: &'a Value,
 ) -> Result<Vec<&'a Value>, OutOfMemory>
-    requires { null.now ≡ value.Null }
     ensures { IfOk result (λ v. seen v.items ≡ values.first_values (partition_of partition.now) column count) }
 {
     let mut values = Vec::with_capacity(alloc, count)?;
     for place in 0..count {
-        values.push(value_at(partition, place, column, null))?;
+        values.push(value_at(partition, place, column))?;
     }
     Ok(values)
 }

@@ -25,7 +25,8 @@ pub fn frame_members(
 /// `call_values FRAME CALL : POSITIONS`: the values there, and whether one is out of range
 pub fn answer(alloc: Global, state: &State, out: &mut String) -> Result<(), Failure> {
     let call = state.stacks.window.calls.first().ok_or(Failure::NoCase)?;
-    let source = RowSource::of_rows(state.rows());
+    let null = Value::Null;
+    let source = RowSource::of_rows(state.rows(), &null);
     let partition = Partition {
         rows: &source,
         positions: state.ordering(),

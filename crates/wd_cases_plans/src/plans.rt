@@ -8,7 +8,7 @@ ghost use Rattle.wd_schema.specs.Schemas.{schema_of};
 ghost use Rattle.wd_eval.specs.Windows.{AreFew};
 
 use crate::shown::{push, push_between, push_number, push_outcome, push_refusal, push_truth};
-use crate::steps::{copy_rows, fault_of};
+use crate::steps::{copy_list, fault_of};
 use std::alloc::Global;
 use wd_cases::Failure;
 use wd_cases_notation::{Line, State, Word};
@@ -37,7 +37,7 @@ pub fn window(alloc: Global, state: &State, word: Word, out: &mut String) -> Res
 
 fn input_of(alloc: Global, rows: &[Row], fault: Option<&str>) -> Result<Outcome, Failure> {
     match fault {
-        None => Ok(Outcome::Rows(copy_rows(alloc, rows)?)),
+        None => Ok(Outcome::Rows(copy_list(alloc, rows)?)),
         _ => Ok(Outcome::Fault(fault_of(fault).ok_or(Failure::NoCase)?)),
     }
 }

@@ -8,7 +8,7 @@ use wd_columns::RowSource;
 use wd_partition::{Member, Partitions, Turn, is_ordering, partitions, sorted_ordering};
 use wd_plan::Class;
 use wd_sort::{compare_rows_at, is_sorted, sort_positions, sorted_positions, value_numbers};
-use wd_value::{Row, SortColumn};
+use wd_value::{Row, SortColumn, Value};
 
 /// `sorted_positions COLUMNS`, `sort_positions COLUMNS : POSITIONS`, `is_sorted COLUMNS : POSITIONS`,
 /// `value_numbers COLUMN`, for each row the first one with its number, and
@@ -54,7 +54,8 @@ fn push_value_numbers(
     out: &mut String,
 ) -> Result<(), Failure> {
     let asked = columns.first().ok_or(Failure::NoCase)?;
-    let numbers = value_numbers(alloc, &RowSource::of_rows(rows), asked.column)?;
+    let null = Value::Null;
+    let numbers = value_numbers(alloc, &RowSource::of_rows(rows, &null), asked.column)?;
     push_numbers(out, &firsts_of(alloc, &numbers.codes)?)
 }
 
@@ -106,7 +107,8 @@ fn push_ordering(
         "exchanged" => Turn::Exchanged,
         _ => Turn::AsGiven,
     };
-    let source = RowSource::of_rows(rows);
+    let null = Value::Null;
+    let source = RowSource::of_rows(rows, &null);
     let ordering = sorted_ordering(alloc, &source, &class.partition, &class.order, turn)?;
     push_numbers(out, &ordering)
 }
@@ -118,7 +120,8 @@ fn push_is_ordering(
     class: &Class,
     out: &mut String,
 ) -> Result<(), Failure> {
-    let source = RowSource::of_rows(state.rows());
+    let null = Value::Null;
+    let source = RowSource::of_rows(state.rows(), &null);
     let given = state.ordering();
     push_truth(
         out,
@@ -150,7 +153,8 @@ fn partitions_of(
     ordering: &[u64],
     asked: bool,
 ) -> Result<Option<Partitions>, Failure> {
-    let source = RowSource::of_rows(rows);
+    let null = Value::Null;
+    let source = RowSource::of_rows(rows, &null);
     if source.len() > u32::MAX as usize {
         return Err(Failure::NoCase);
     }

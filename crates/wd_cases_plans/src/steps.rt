@@ -1,14 +1,14 @@
 //! Expressions over a row, and steps over the rows.
 
-use crate::shown::{push, push_fault, push_outcome, push_rows, push_truth, push_value_or_fault};
+use crate::shown::{push, push_fault, push_rows, push_truth, push_value_or_fault};
 use std::alloc::Global;
 use wd_cases::Failure;
 use wd_cases_notation::{Line, State, Word};
-use wd_columns::RowSource;
+use wd_columns::{OwnRows, RowSource, copy_rows};
 use wd_join::{Pair, StepError, all_pairs, join_pairs, paired_rows};
-use wd_plan::{Expr, Limit, Outcome};
+use wd_plan::{Expr, Limit};
 use wd_scalar::{has_arithmetic, is_true, value_at};
-use wd_steps::{copy_filtered, distinct_rows, filter_rows, limit_rows, map_rows, with_fault};
+use wd_steps::{distinct_positions, kept_positions, map_columns, passing_positions, with_fault};
 use wd_value::{Fault, OutOfMemory, Row, SortColumn, Value, copy_row};
 
 /// What is asked of one expression: over the first row, or as a condition of all rows.
@@ -35,7 +35,8 @@ fn push_value_of(
     name: &str,
     out: &mut String,
 ) -> Result<(), Failure> {
-    let value = value_at(alloc, expression, &RowSource::of_rows(rows), 0)?;
+    let null = Value::Null;
+    let value = value_at(alloc, expression, &RowSource::of_rows(rows, &null), 0)?;
     if name == "is_true" {
         push_is_true(out, &value)
     } else {
@@ -43,24 +44,37 @@ fn push_value_of(
     }
 }
 
+/// The rows that pass, moved out of copies of all of them.
 fn push_filtered(
     alloc: Global,
     condition: &Expr,
     rows: &[Row],
     out: &mut String,
 ) -> Result<(), Failure> {
-    let kept = filter_copy(alloc, condition, rows)?;
-    push_outcome(out, &kept)
+    let copies = OwnRows::of_rows(copy_list(alloc, rows)?);
+    match passing_positions(alloc, condition, &copies.source())? {
+        Ok(kept) => push_own_rows(alloc, out, copies.pick(alloc, &kept)?),
+        Err(fault) => push_fault(out, fault),
+    }
 }
 
+/// Copies of the rows that pass.
 fn push_copies(
     alloc: Global,
     condition: &Expr,
     rows: &[Row],
     out: &mut String,
 ) -> Result<(), Failure> {
-    let kept = copy_filtered(alloc, condition, rows)?;
-    push_outcome(out, &kept)
+    let null = Value::Null;
+    let rows = RowSource::of_rows(rows, &null);
+    match passing_positions(alloc, condition, &rows)? {
+        Ok(kept) => push_own_rows(alloc, out, copy_rows(alloc, &rows, &kept)?),
+        Err(fault) => push_fault(out, fault),
+    }
+}
+
+fn push_own_rows(alloc: Global, out: &mut String, rows: OwnRows) -> Result<(), Failure> {
+    push_rows(out, &rows.into_list(alloc)?)
 }
 
 /// Whether a value is true; a fault is written as it is.
@@ -72,7 +86,7 @@ fn push_is_true(out: &mut String, value: &Result<Value, Fault>) -> Result<(), Fa
 }
 
 /// A list of copies of the rows.
-pub fn copy_rows(alloc: Global, rows: &[Row]) -> Result<Vec<Row>, OutOfMemory> {
+pub fn copy_list(alloc: Global, rows: &[Row]) -> Result<Vec<Row>, OutOfMemory> {
     let mut copied = Vec::new(alloc);
     for row in rows {
         copied.push(copy_row(alloc, row)?)?;
@@ -80,25 +94,34 @@ pub fn copy_rows(alloc: Global, rows: &[Row]) -> Result<Vec<Row>, OutOfMemory> {
     Ok(copied)
 }
 
-fn filter_copy(alloc: Global, condition: &Expr, rows: &[Row]) -> Result<Outcome, OutOfMemory> {
-    let copied = copy_rows(alloc, rows)?;
-    filter_rows(alloc, condition, copied)
-}
-
 /// `map_rows EXPRESSIONS`, `distinct_rows`, and joins and cuts
 pub fn answer(alloc: Global, state: &State, line: Line, out: &mut String) -> Result<(), Failure> {
-    let expressions = &state.stacks.expressions;
     match line.word.name {
-        "map_rows" => push_outcome(out, &map_rows(alloc, expressions, state.rows())?),
-        "distinct_rows" => push_rows(out, &distinct(alloc, state.rows())?),
+        "map_rows" => push_mapped(alloc, &state.stacks.expressions, state.rows(), out),
+        "distinct_rows" => push_distinct(alloc, state.rows(), out),
         "join_rows" => push_joined(alloc, state, line.word, out),
         _ => push_limit(alloc, state, line.word, out),
     }
 }
 
-fn distinct(alloc: Global, rows: &[Row]) -> Result<Vec<Row>, OutOfMemory> {
-    let copied = copy_rows(alloc, rows)?;
-    distinct_rows(alloc, copied)
+fn push_mapped(
+    alloc: Global,
+    outputs: &[Expr],
+    rows: &[Row],
+    out: &mut String,
+) -> Result<(), Failure> {
+    let null = Value::Null;
+    match map_columns(alloc, outputs, &RowSource::of_rows(rows, &null))? {
+        Ok(columns) => push_own_rows(alloc, out, OwnRows::of_columns(columns)),
+        Err(fault) => push_fault(out, fault),
+    }
+}
+
+fn push_distinct(alloc: Global, rows: &[Row], out: &mut String) -> Result<(), Failure> {
+    let null = Value::Null;
+    let rows = RowSource::of_rows(rows, &null);
+    let kept = distinct_positions(alloc, &rows)?;
+    push_own_rows(alloc, out, copy_rows(alloc, &rows, &kept)?)
 }
 
 /// `join_rows(MOST) CONDITION`, or without a condition: of the rows with those that `right` has
@@ -106,10 +129,11 @@ fn distinct(alloc: Global, rows: &[Row]) -> Result<Vec<Row>, OutOfMemory> {
 fn push_joined(alloc: Global, state: &State, word: Word, out: &mut String) -> Result<(), Failure> {
     let most = word.number(0).ok_or(Failure::NoCase)?;
     let condition = state.stacks.expressions.first();
-    let left = RowSource::of_rows(state.rows());
-    let right = RowSource::of_rows(&state.right);
+    let null = Value::Null;
+    let left = RowSource::of_rows(state.rows(), &null);
+    let right = RowSource::of_rows(&state.right, &null);
     match pairs(alloc, condition, &left, &right, most) {
-        Ok(Ok(pairs)) => push_rows(out, &paired_rows(alloc, &left, &right, &pairs)?),
+        Ok(Ok(pairs)) => push_own_rows(alloc, out, paired_rows(alloc, &left, &right, &pairs)?),
         Ok(Err(fault)) => push_fault(out, fault),
         Err(StepError::TooManyRows) => push(out, "too many rows"),
         Err(StepError::OutOfMemory) => Err(Failure::OUT_OF_MEMORY),
@@ -144,8 +168,10 @@ fn push_limit(alloc: Global, state: &State, word: Word, out: &mut String) -> Res
         count: counts.count,
         ties: counts.ties,
     };
-    let kept = limit_rows(alloc, &limit, state.rows(), state.ordering())?;
-    push_rows(out, &kept)
+    let null = Value::Null;
+    let rows = RowSource::of_rows(state.rows(), &null);
+    let kept = kept_positions(&limit, &rows, state.ordering());
+    push_own_rows(alloc, out, copy_rows(alloc, &rows, kept)?)
 }
 
 fn copied_keys(alloc: Global, keys: &[SortColumn]) -> Result<Vec<SortColumn>, Failure> {

@@ -1,16 +1,13 @@
 -- A plan has one answer where its simpler plan has: over the tables in another row order its outcome agrees with one over the
 -- tables as they are, and there both plans have the same outcomes.
-use Rattle.std.proofs.Common.{◌≡◌, ℕ, List, refl, sym, subst, true, Ok}
-use Rattle.wd_value.specs.Rows.{Instance, table_at}
+use Rattle.std.proofs.Common.{sym, subst, Ok}
+use Rattle.wd_value.specs.Rows.{table_at}
 use Rattle.wd_schema.specs.Laws.{HasOneMeaning}
-use Rattle.wd_schema.specs.Meets.{Meets}
-use Rattle.wd_schema.specs.Tables.{TableRule}
 use Rattle.wd_accept.proofs.Verdicts.{every}
 use Rattle.wd_laws.specs.Laws.{AgreeingIsAnEquivalence, PlanCommutes, SameTables}
-use Rattle.wd_plan.specs.Choices.{IsValidChoice}
 use Rattle.wd_plan.specs.Fits.{fits}
 use Rattle.wd_plan.specs.Outcomes.{Agree, outcome}
-use Rattle.wd_plan.specs.Plans.{PlanTree, plan_of}
+use Rattle.wd_plan.specs.Plans.{plan_of}
 use Rattle.wd_query.specs.Laws.{HasOnePlan}
 use Rattle.wd_resolve.specs.Laws.{PlansFit}
 use Rattle.wd_rules.specs.Laws.{HasOneAnswer, ValidHasOne}

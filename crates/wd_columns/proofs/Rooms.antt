@@ -1,5 +1,5 @@
 -- Columns with room for a further value.
-use Rattle.std.proofs.Common.{ℕ, suc, ◌+◌, ◌<◌, List, ◌∷◌, All, drop, length, set, take, arith}
+use Rattle.std.proofs.Common.{ℕ, suc, ◌+◌, ◌<◌, List, All, drop, length, set, take, arith}
 use Rattle.std.specs.declared.alloc.Global.{Global}
 use Rattle.std.specs.declared.vec.Vec.{Vec}
 use Rattle.std.proofs.lemmas.List.{drop-set-lt, drop_more, take_more_set}

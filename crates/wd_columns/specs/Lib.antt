@@ -1,4 +1,5 @@
 pub mod Along
 pub mod Moves
 pub mod Kept
+pub mod Owned
 pub mod Room

@@ -21,12 +21,16 @@ pub struct Columns {
     /// The values of each column. Past a column's last value stands NULL.
     columns: Vec<Vec<Value>>,
     count: usize,
+    /// What is read past the last row or column.
+    null: Value,
 }
 
 impl Model for Columns {
     ghost Value = { List Row };
 
     ghost view = { λ c. rows_along (rows_of c.columns.items) c.count };
+
+    ghost invariant = { λ c. c.null ≡ value.Null };
 }
 
 impl Columns {
@@ -34,17 +38,18 @@ impl Columns {
     pub fn new(columns: Vec<Vec<Value>>, count: usize) -> Columns
         ensures { result ≡ rows_along (rows_of columns.items) count }
     {
-        Columns { columns, count }
+        Columns {
+            columns,
+            count,
+            null: Value::Null,
+        }
     }
 
     /// No rows. Takes no memory.
     pub fn empty(alloc: Global) -> Columns
         ensures { result ≡ [] }
     {
-        Columns {
-            columns: Vec::new(alloc),
-            count: 0,
-        }
+        Columns::new(Vec::new(alloc), 0)
     }
 
     /// How many rows there are.
@@ -64,23 +69,21 @@ impl Columns {
         self.columns.len()
     }
 
-    /// The value in a column of the row at a position, and `null` past the last row or column.
-    pub fn value<'a>(&'a self, position: u64, column: u16, null: &'a Value) -> &'a Value
-        requires { null.now ≡ value.Null }
-        ensures { result.now ≡ column_of (row_at self.now position) column }
-    {
-        self.value_at(position, column as usize, null)
-    }
-
-    /// The value in a column of any number of the row at a position, and `null` past the last row or column.
-    pub fn value_at<'a>(&'a self, position: u64, column: usize, null: &'a Value) -> &'a Value
-        requires { null.now ≡ value.Null }
+    /// The value in a column of the row at a position, and NULL past the last row or column.
+    pub fn value(&self, position: u64, column: usize) -> &Value
         ensures { result.now ≡ column_of (row_at self.now position) column }
     {
         if position as usize >= self.count {
-            return null;
+            return &self.null;
         }
-        value_along(&self.columns, position as usize, column, null)
+        value_along(&self.columns, position as usize, column, &self.null)
+    }
+
+    /// NULL.
+    pub(crate) fn null(&self) -> &Value
+        ensures { result.now ≡ value.Null }
+    {
+        &self.null
     }
 
     /// Each row with the value beside it after its own; past the last value there is NULL. The values
@@ -88,12 +91,9 @@ impl Columns {
     pub fn with_column(self, values: Vec<Value>) -> Result<Columns, OutOfMemory>
         ensures { IfOk result (λ c. c ≡ with_values self values.items) }
     {
-        let Columns { columns, count } = self;
+        let Columns { columns, count, .. } = self;
         let grown = push_column(columns, values)?;
-        Ok(Columns {
-            columns: grown,
-            count,
-        })
+        Ok(Columns::new(grown, count))
     }
 
     /// The rows with these of their columns. Each column is moved: none is named twice.
@@ -104,12 +104,10 @@ impl Columns {
         let Columns {
             columns: all,
             count,
+            ..
         } = self;
         let picked = moved_rows(alloc, all, columns)?;
-        Ok(Columns {
-            columns: picked,
-            count,
-        })
+        Ok(Columns::new(picked, count))
     }
 
     /// The rows at these positions, in their order. Values are moved: no position is there twice, and each is one of a row.
@@ -120,18 +118,15 @@ impl Columns {
     {
         let Columns { columns, .. } = self;
         let picked = picked_columns(alloc, columns, positions)?;
-        Ok(Columns {
-            columns: picked,
-            count: positions.len(),
-        })
+        Ok(Columns::new(picked, positions.len()))
     }
 
-    /// The list of the rows, each with memory for so many values more. Values are moved.
-    pub fn into_rows(self, alloc: Global, room: usize) -> Result<Vec<Row>, OutOfMemory>
+    /// The list of the rows. Values are moved.
+    pub fn into_rows(self, alloc: Global) -> Result<Vec<Row>, OutOfMemory>
         ensures { IfOk result (λ v. rows_of v.items ≡ self) }
     {
-        let Columns { columns, count } = self;
-        let rows = taken_rows(alloc, columns, count, room)?;
+        let Columns { columns, count, .. } = self;
+        let rows = taken_rows(alloc, columns, count)?;
         Ok(rows)
     }
 }

@@ -1,19 +1,24 @@
-//! Tables kept column by column, and rows moved out of a list.
+//! Rows, kept column by column where all of them have as many values, and else row by row.
 //!
 //! `Columns` is a table with a list of values for each column, which contracts see as the list of its rows; `growing` fills one row by
-//! row, `picking` gives the rows at some positions, `taking` makes a list of rows of it. `RowSource` reads rows however they are kept,
-//! so that what goes over rows is written once. Positions are picked by moving the values of each column; keeping them beside the
-//! columns instead would cost each later reader a look-up.
+//! row, `taking` makes a list of rows of it. `RowSource` reads rows and `OwnRows` owns them, however they are kept, so that what goes
+//! over rows is written once. Of own rows some are picked by their positions, some of their columns selected (`moved`, `picking`), or a
+//! column put after the others (`appending`), by moving values; `copying` makes own rows of those that stay where they are. Keeping
+//! positions beside the columns instead would cost each later reader a look-up.
 #![tactic(auto)]
 
+mod appending;
 mod columns;
+mod copying;
 mod growing;
 mod moved;
+mod own;
 mod picking;
 mod source;
 mod taking;
 
 pub use columns::Columns;
+pub use copying::{all_positions, copied_row, copy_all, copy_rows, push_values};
 pub use growing::{empty_columns, push_row};
-pub use moved::moved_rows;
+pub use own::OwnRows;
 pub use source::{RowSource, row_in};

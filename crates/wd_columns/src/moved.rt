@@ -9,7 +9,11 @@ use std::mem::replace;
 use wd_value::{OutOfMemory, Row};
 
 /// The rows at these positions, in their order. Each is moved: no position stands there twice.
-pub fn moved_rows(alloc: Global, rows: Vec<Row>, positions: &[u64]) -> Result<Vec<Row>, OutOfMemory>
+pub(crate) fn moved_rows(
+    alloc: Global,
+    rows: Vec<Row>,
+    positions: &[u64],
+) -> Result<Vec<Row>, OutOfMemory>
     requires { AreDifferent positions.now }
     ensures { IfOk result (λ v. rows_of v.items ≡ rows_at (rows_of rows.items) positions.now) }
 {

@@ -10,7 +10,7 @@ use std::alloc::Global;
 use wd_value::{OutOfMemory, Value};
 
 /// The values of each column at these positions, in their order. No position is there twice.
-pub fn picked_columns(
+pub(crate) fn picked_columns(
     alloc: Global,
     columns: Vec<Vec<Value>>,
     positions: &[u64],

@@ -21,6 +21,8 @@ enum Kept<'a> {
 #[derive(Drop)]
 pub struct RowSource<'a> {
     kept: Kept<'a>,
+    /// What is read past the last row or column.
+    null: &'a Value,
 }
 
 impl<'a> Model for RowSource<'a> {
@@ -32,15 +34,22 @@ impl<'a> Model for RowSource<'a> {
     ghost use Rattle.wd_columns.specs.Kept.{rows_kept};
 
     ghost view = { λ s. rows_kept s.kept };
+
+    ghost use Rattle.std.specs.Prelude.{◌≡◌};
+    ghost use Rattle.wd_value.specs.declared.value.Value.TheVariants as value;
+
+    ghost invariant = { λ s. s.null.now ≡ value.Null };
 }
 
 impl<'a> RowSource<'a> {
-    /// The rows of a list.
-    pub fn of_rows(rows: &'a [Row]) -> RowSource<'a>
+    /// The rows of a list, and `null` past the last row or column.
+    pub fn of_rows(rows: &'a [Row], null: &'a Value) -> RowSource<'a>
+        requires { null.now ≡ value.Null }
         ensures { result ≡ rows_of rows.now }
     {
         RowSource {
             kept: Kept::ByRow(rows),
+            null,
         }
     }
 
@@ -50,6 +59,7 @@ impl<'a> RowSource<'a> {
     {
         RowSource {
             kept: Kept::ByColumn(columns),
+            null: columns.null(),
         }
     }
 
@@ -67,20 +77,18 @@ impl<'a> RowSource<'a> {
         width_of(&self.kept, position)
     }
 
-    /// The value in a column of the row at a position, and `null` past the last row or column.
-    pub fn value<'b>(&'b self, position: u64, column: u16, null: &'b Value) -> &'b Value
-        requires { null.now ≡ value.Null }
+    /// The value in a column of the row at a position, and NULL past the last row or column.
+    pub fn value(&self, position: u64, column: usize) -> &Value
         ensures { result.now ≡ column_of (table.row_at self.now position) column }
     {
-        self.value_at(position, column as usize, null)
+        value_of(&self.kept, position, column, self.null)
     }
 
-    /// The value in a column of any number of the row at a position, and `null` past the last row or column.
-    pub fn value_at<'b>(&'b self, position: u64, column: usize, null: &'b Value) -> &'b Value
-        requires { null.now ≡ value.Null }
-        ensures { result.now ≡ column_of (table.row_at self.now position) column }
+    /// NULL, as it is read past the last row or column.
+    pub fn null(&self) -> &Value
+        ensures { result.now ≡ value.Null }
     {
-        value_of(&self.kept, position, column, null)
+        self.null
     }
 }
 
@@ -108,7 +116,7 @@ fn value_of<'a>(kept: &'a Kept, position: u64, column: usize, null: &'a Value) -
 {
     match kept {
         Kept::ByRow(rows) => row_in(rows, position).get(column).unwrap_or(null),
-        Kept::ByColumn(columns) => columns.value_at(position, column, null),
+        Kept::ByColumn(columns) => columns.value(position, column),
     }
 }
 

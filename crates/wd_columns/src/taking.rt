@@ -9,19 +9,18 @@ use std::alloc::Global;
 use std::mem::replace;
 use wd_value::{OutOfMemory, Row, Value};
 
-/// The rows at the first positions, each with memory for so many values more.
+/// The rows at the first positions.
 pub fn taken_rows(
     alloc: Global,
     columns: Vec<Vec<Value>>,
     count: usize,
-    room: usize,
 ) -> Result<Vec<Row>, OutOfMemory>
     ensures { IfOk result (λ v. rows_of v.items ≡ rows_along (rows_of columns.items) count) }
 {
     let mut rows = Vec::with_capacity(alloc, count)?;
     let mut left = columns;
     for position in 0..count {
-        let row = take_row(alloc, &mut left, position, room)?;
+        let row = take_row(alloc, &mut left, position)?;
         rows.push(row)?;
     }
     Ok(rows)
@@ -32,13 +31,12 @@ fn take_row(
     alloc: Global,
     columns: &mut Vec<Vec<Value>>,
     position: usize,
-    room: usize,
 ) -> Result<Row, OutOfMemory>
     ensures taken { IfOk result (λ r. r.items ≡ row_along (rows_of columns.old.items) position) }
     ensures others { OnOk result ((p : ℕ) → (p ≡ position → ⊥) → row_along (rows_of columns.new.items) p ≡ row_along (rows_of columns.old.items) p) }
 {
     let width = columns.len();
-    let mut row = Vec::with_capacity(alloc, width.saturating_add(room))?;
+    let mut row = Vec::with_capacity(alloc, width)?;
     for place in 0..width {
         let value = take_value_at(columns, place, position);
         row.push(value)?;

@@ -3,7 +3,6 @@ pub mod Beside
 pub mod Serving
 pub mod Naming
 pub mod Filled
-pub mod Pushing
 pub mod Asking
 pub mod Sizes
 pub mod Wrong

@@ -4,9 +4,9 @@ use Rattle.std.proofs.Math.Seq.{drop-append_seam, get_or-append_seam}
 use Rattle.std.proofs.lemmas.List.{append-nil, get_or-append-add, get_or_append_left, take_all}
 use Rattle.wd_value.specs.declared.value.Fault.{Fault}
 use Rattle.wd_value.specs.Rows.{Row}
-use Rattle.wd_plan.specs.Choices.{AtRows, AreOrderingsOver}
+use Rattle.wd_plan.specs.Choices.{AreOrderingsOver}
 use Rattle.wd_plan.specs.Outcomes.{RowsOrFault, class_among, ordering_at}
-use Rattle.wd_plan.specs.Plans.{ClassRule, Step, Window, Limit, LimitRule, WindowRule, step_classes}
+use Rattle.wd_plan.specs.Plans.{ClassRule, Step, Limit, LimitRule, WindowRule, step_classes}
 use Rattle.wd_plan.specs.Sorting.{IsOrdering, limit_class}
 use Rattle.wd_partition.proofs.Grouping.{IsOrdering-from_given}
 use Rattle.wd_eval.specs.Nodes.{cut_over}

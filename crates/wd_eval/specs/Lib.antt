@@ -11,5 +11,4 @@ pub mod Tied
 pub mod Ties
 pub mod Walks
 pub mod Runs
-pub mod KeptRows
 pub mod Laws

@@ -1,28 +1,20 @@
 //! What a plan gives, however its rows are kept.
 
-ghost use Rattle.std.specs.Prelude.{◌≡◌, IfOk, Ok};
-ghost use Rattle.wd_eval.specs.KeptRows.{outcome_kept};
-ghost use Rattle.wd_nodes.specs.Relation.{relation_of, relation_or_fault_of};
+ghost use Rattle.std.specs.Prelude.{◌≡◌, IfOk};
+ghost use Rattle.wd_nodes.specs.Relation.{relation_or_fault_of};
 ghost use Rattle.wd_plan.specs.Outcomes.{outcome_of};
 
 use std::alloc::Global;
 use std::marker::Model;
-use wd_columns::{Columns, RowSource};
-use wd_nodes::{Relation, StoredRows, Tables, into_own_rows, store};
+use wd_columns::{OwnRows, RowSource};
+use wd_nodes::{Relation, Tables, into_own_rows, store};
 use wd_plan::Outcome;
 use wd_value::{Fault, OutOfMemory};
-
-/// How the rows of an answer are kept.
-#[derive(Drop)]
-enum KeptRows {
-    ByColumn(Columns),
-    Made(Outcome),
-}
 
 /// What a plan gives. Contracts see its rows, or its fault.
 #[derive(Drop)]
 pub struct Answer {
-    kept: KeptRows,
+    kept: Result<OwnRows, Fault>,
 }
 
 impl Model for Answer {
@@ -30,9 +22,7 @@ impl Model for Answer {
 
     ghost Value = { RowsOrFault };
 
-    ghost use Rattle.wd_eval.specs.KeptRows.{outcome_kept};
-
-    ghost view = { λ a. outcome_kept a.kept };
+    ghost view = { λ a. a.kept };
 }
 
 impl Answer {
@@ -48,33 +38,33 @@ impl Answer {
         ensures { IfOk result (λ o. outcome_of o ≡ self) }
     {
         let Answer { kept } = self;
-        outcome_in(alloc, kept)
+        listed(alloc, kept)
     }
 }
 
-fn rows_in(kept: &KeptRows) -> Result<RowSource<'_>, Fault>
-    ensures { result ≡ outcome_kept kept.now }
+fn rows_in(kept: &Result<OwnRows, Fault>) -> Result<RowSource<'_>, Fault>
+    ensures { result ≡ kept.now }
 {
     match kept {
-        KeptRows::ByColumn(columns) => Ok(RowSource::of_columns(columns)),
-        KeptRows::Made(Outcome::Rows(rows)) => Ok(RowSource::of_rows(rows)),
-        KeptRows::Made(Outcome::Fault(fault)) => Err(*fault),
+        Ok(rows) => Ok(rows.source()),
+        Err(fault) => Err(*fault),
     }
 }
 
-fn outcome_in(alloc: Global, kept: KeptRows) -> Result<Outcome, OutOfMemory>
-    ensures { IfOk result (λ o. outcome_of o ≡ outcome_kept kept) }
+/// The rows as a list, or the fault. Values are moved.
+pub(crate) fn listed(alloc: Global, kept: Result<OwnRows, Fault>) -> Result<Outcome, OutOfMemory>
+    ensures { IfOk result (λ o. outcome_of o ≡ kept) }
 {
     match kept {
-        KeptRows::ByColumn(columns) => {
-            let rows = columns.into_rows(alloc, 0)?;
-            Ok(Outcome::Rows(rows))
+        Ok(rows) => {
+            let list = rows.into_list(alloc)?;
+            Ok(Outcome::Rows(list))
         }
-        KeptRows::Made(outcome) => Ok(outcome),
+        Err(fault) => Ok(Outcome::Fault(fault)),
     }
 }
 
-/// What is produced as an answer; columns stay columns.
+/// What is produced as an answer, its rows kept as they are.
 pub(crate) fn answer_of(
     alloc: Global,
     tables: &Tables,
@@ -83,23 +73,11 @@ pub(crate) fn answer_of(
     ensures { IfOk result (λ a. a ≡ relation_or_fault_of tables.now given) }
 {
     match given {
-        Ok(relation) => Ok(Answer {
-            kept: kept_rows(alloc, tables, relation)?,
-        }),
-        Err(fault) => Ok(Answer {
-            kept: KeptRows::Made(Outcome::Fault(fault)),
-        }),
-    }
-}
-
-fn kept_rows(alloc: Global, tables: &Tables, relation: Relation) -> Result<KeptRows, OutOfMemory>
-    ensures { IfOk result (λ k. outcome_kept k ≡ Ok (relation_of tables.now relation)) }
-{
-    match store(alloc, tables, relation)? {
-        StoredRows::Columns(columns) => Ok(KeptRows::ByColumn(columns)),
-        other => {
-            let rows = into_own_rows(alloc, tables, other)?;
-            Ok(KeptRows::Made(Outcome::Rows(rows)))
+        Ok(relation) => {
+            let stored = store(alloc, tables, relation)?;
+            let rows = into_own_rows(alloc, tables, stored)?;
+            Ok(Answer { kept: Ok(rows) })
         }
+        Err(fault) => Ok(Answer { kept: Err(fault) }),
     }
 }

@@ -2,12 +2,11 @@
 //!
 //! `node` walks the plan once and takes the orderings one after another (`orderings`): those of a choice, which are checked, or sorted
 //! ones, which are made (`turned`) and kept or let go. `eval` has the public calls. The steps without an ordering are those of wd_nodes.
-//! `window` and `limit` are a Window and a Limit: `class_index` has the partitions of each class (wd_partition), `calls`, `column` and
-//! `appending` the values of the calls (wd_calls) as further columns. `answer` keeps what the last step gave as it is.
+//! `window` and `limit` are a Window and a Limit: `class_index` has the partitions of each class (wd_partition), `calls` and `column` the
+//! values of the calls (wd_calls) as further columns. `answer` keeps what the last step gave as it is.
 #![tactic(auto)]
 
 mod answer;
-mod appending;
 mod calls;
 mod class_index;
 mod column;

@@ -7,16 +7,16 @@ ghost use Rattle.wd_nodes.specs.Relation.{relation_of, relation_or_fault_of};
 ghost use Rattle.wd_plan.specs.Outcomes.{outcome_of};
 ghost use Rattle.wd_plan.specs.Plans as tree;
 ghost use Rattle.wd_plan.specs.Plans.{NamesClasses, window_of};
-ghost use Rattle.wd_value.specs.Rows.{Instance, rows_of};
 
-use crate::calls::{with_calls, with_calls_by_column};
+use crate::answer::listed;
+use crate::calls::with_calls;
 use crate::error::EvalError;
 use crate::orderings::{MOST_ROWS, Orderings};
 use std::alloc::Global;
-use wd_columns::{Columns, RowSource};
-use wd_nodes::{Relation, StoredRows, Tables, from_outcome, into_own_rows, store};
+use wd_columns::OwnRows;
+use wd_nodes::{Relation, StoredRows, Tables, into_own_rows, store};
 use wd_plan::{Outcome, Window};
-use wd_value::{Fault, Row};
+use wd_value::Fault;
 
 /// The input's rows with the values of the calls after each of them, under the next orderings: one for each class, each lawful. Rows
 /// that are kept column by column stay so.
@@ -32,50 +32,29 @@ pub(crate) fn extend_rows(
     requires named { NamesClasses (window_of window.now) }
     ensures { GivesOrStops (relation_or_fault_of tables.now) (tree.Window (window_of window.now)) (Ok (relation_of tables.now input)) orderings.old orderings.new result }
 {
-    match store(alloc, tables, input)? {
-        StoredRows::Columns(columns) => extend_columns(alloc, window, columns, orderings),
-        other => {
-            let rows = into_own_rows(alloc, tables, other)?;
-            let outcome = extend_list(alloc, window, rows, orderings)?;
-            Ok(from_outcome(outcome))
-        }
-    }
-}
-
-/// Rows that are kept column by column, each followed by the values of the calls.
-fn extend_columns(
-    alloc: Global,
-    window: &Window,
-    rows: Columns,
-    orderings: &mut Orderings,
-) -> Result<Result<Relation, Fault>, EvalError>
-    requires few { length rows < 2 ^ 32 }
-    requires within { IsWithin orderings.old }
-    requires named { NamesClasses (window_of window.now) }
-    ensures { (instance : Instance) → GivesOrStops (relation_or_fault_of instance) (tree.Window (window_of window.now)) (Ok rows) orderings.old orderings.new result }
-{
-    let indexes = orderings.next_indexes(alloc, window, &RowSource::of_columns(&rows))?;
-    match with_calls_by_column(alloc, window, rows, &indexes)? {
-        Ok(extended) => Ok(Ok(Relation::Stored(StoredRows::Columns(extended)))),
+    let stored = store(alloc, tables, input)?;
+    let rows = into_own_rows(alloc, tables, stored)?;
+    match extend_own(alloc, window, rows, orderings)? {
+        Ok(extended) => Ok(Ok(Relation::Stored(StoredRows::Own(extended)))),
         Err(fault) => Ok(Err(fault)),
     }
 }
 
-/// The rows of a list, each followed by the values of the calls.
-fn extend_list(
+/// Rows of their own, each followed by the values of the calls.
+fn extend_own(
     alloc: Global,
     window: &Window,
-    rows: Vec<Row>,
+    rows: OwnRows,
     orderings: &mut Orderings,
-) -> Result<Outcome, EvalError>
-    requires few { length rows.items < 2 ^ 32 }
+) -> Result<Result<OwnRows, Fault>, EvalError>
+    requires few { length rows < 2 ^ 32 }
     requires within { IsWithin orderings.old }
     requires named { NamesClasses (window_of window.now) }
-    ensures { GivesOrStops outcome_of (tree.Window (window_of window.now)) (Ok (rows_of rows.items)) orderings.old orderings.new result }
+    ensures { GivesOrStops (λ r. r) (tree.Window (window_of window.now)) (Ok rows) orderings.old orderings.new result }
 {
-    let indexes = orderings.next_indexes(alloc, window, &RowSource::of_rows(&rows))?;
-    let outcome = with_calls(alloc, window, rows, &indexes)?;
-    Ok(outcome)
+    let indexes = orderings.next_indexes(alloc, window, &rows.source())?;
+    let extended = with_calls(alloc, window, rows, &indexes)?;
+    Ok(extended)
 }
 
 /// The rows of an outcome, each followed by the values of the calls; a fault stays one.
@@ -95,7 +74,11 @@ fn extend_outcome(
             orderings.next_empty(alloc, window.classes.len())?;
             Ok(Outcome::Fault(fault))
         }
-        Outcome::Rows(rows) => extend_list(alloc, window, rows, orderings),
+        Outcome::Rows(rows) => {
+            let extended = extend_own(alloc, window, OwnRows::of_rows(rows), orderings)?;
+            let outcome = listed(alloc, extended)?;
+            Ok(outcome)
+        }
     }
 }
 

@@ -1,24 +1,28 @@
 -- A set's groups are the partitions of the rows by the set's columns, and each begins at the first position of its rows.
-use Rattle.std.proofs.Common.{◌≡◌, ℕ, zero, suc, ◌+◌, ◌<◌, ◌≤◌, Bool, true, false, cond, not, ◌&&◌, ◌||◌, List, [], ◌∷◌, ◌++◌, map, filter, length, take, refl, sym, ◌∙◌, ap, arith, Result}
+use Rattle.std.proofs.Common.{◌≡◌, ℕ, zero, suc, ◌+◌, ◌<◌, ◌≤◌, Bool, true, false, cond, not, ◌&&◌, ◌||◌, List, [], ◌∷◌, ◌++◌, map, filter, length, take, refl, sym, subst, ◌∙◌, ap, arith, Option, None, Some, Result, Ok}
 use Rattle.std.specs.List.{list_any, range_with_len}
 use Rattle.std.specs.Prelude.{flat_map}
 use Rattle.std.proofs.Math.Seq.{take-suc}
-use Rattle.std.proofs.lemmas.List.{flat_map_more, map-append, map_push, take_all}
+use Rattle.std.proofs.lemmas.List.{flat_map_more, length-append, length-map, map-append, map_push, take_all}
 use Rattle.std.proofs.lemmas.List.Elements.{filter-append}
-use Rattle.std.proofs.lemmas.List.FromFn.{take-map-range_with_len}
+use Rattle.std.proofs.lemmas.List.FromFn.{length-range_with_len, take-map-range_with_len}
 use Rattle.wd_value.specs.declared.value.Fault.{Fault}
+use Rattle.wd_value.specs.declared.value.Value.{Value}
 use Rattle.wd_value.specs.declared.value.Value.TheVariants.{Null}
 use Rattle.wd_value.specs.Bags.{positions}
 use Rattle.wd_value.specs.Rows.{Row, column_of, columns_of, row_at, rows_at, same_row}
 use Rattle.wd_value.specs.Values.{same}
 use Rattle.wd_value.proofs.SameLaws.{same_row-Decides}
-use Rattle.wd_plan.specs.Outcomes.{distinct, group_row, rows_of_group, set_rows, shown}
+use Rattle.wd_plan.specs.Faults.{and_then, least_fault, unless, values_among}
+use Rattle.wd_plan.specs.Outcomes.{distinct, group_row, group_value, rows_of_group, set_rows, shown}
 use Rattle.wd_plan.specs.Partitions.{members, partition_of}
 use Rattle.wd_plan.specs.Plans.{ClassRule, GroupRule, has}
 use Rattle.wd_plan.specs.Sorting.{same_partition}
 use Rattle.wd_plan.proofs.Parts.{partition_of-is}
 use Rattle.wd_steps.proofs.Occurrences.{distinct_push}
-use Rattle.wd_group.specs.Sets.{row_from, row_over, rows_from, set_class, set_columns, shown_in}
+use Rattle.wd_steps.proofs.Results.{all_values}
+use Rattle.wd_group.specs.Gathered.{HasWidth}
+use Rattle.wd_group.specs.Sets.{row_from, row_over, row_width, rows_from, set_class, set_columns, shown_in}
 
 -- ---- positions
 
@@ -163,3 +167,16 @@ own_all columns rows =
 -- its one group has all rows
 pub row_of_all : (rule : GroupRule) (rows : List Row) (r : Row) → row_over rule [] (rows_at rows (positions (length rows))) (shown rule.columns [] r) ∷ [] ≡ set_rows rule rows []
 row_of_all rule rows r = ap (λ own. row_over rule [] own (shown rule.columns [] []) ∷ []) (all_rows rows ∙ sym (own_all rule.columns rows))
+
+-- ---- how many values a row has
+
+values_wide : (results : List (Result Value Fault)) (front : Row) (fault : Option Fault) → least_fault results ≡ fault → HasWidth (length front + length results) (and_then (unless fault (values_among results)) (λ values. Ok (front ++ values)))
+values_wide results front None none = length-append front (values_among results) ∙ ap (λ n. length front + n) (all_values results none)
+values_wide results front (Some fault) some = tt
+
+pub row_over_wide : (rule : GroupRule) (set : List ℕ) (rows : List Row) (row : Row) → HasWidth (row_width rule) (row_over rule set rows (shown rule.columns set row))
+row_over_wide rule set rows row =
+    let results = map (group_value set rows) rule.calls in
+    let front = shown rule.columns set row in
+    let long : length front + length results ≡ row_width rule = (λ i. (length-map (positions rule.columns) (shown_in set row) ∙ length-range_with_len 0 rule.columns) i + length-map rule.calls (group_value set rows) i) in
+    subst (λ width. HasWidth width (row_over rule set rows front)) long (values_wide results front (least_fault results) refl)

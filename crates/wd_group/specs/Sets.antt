@@ -1,5 +1,5 @@
 -- A grouping set's groups as partitions of the rows by its columns.
-use Rattle.std.specs.Prelude.{◌≡◌, ℕ, ◌<◌, Bool, false, not, List, [], ◌∷◌, ◌++◌, filter, flat_map, length, map, nat_eq, Ok, Result, if◌then◌else◌}
+use Rattle.std.specs.Prelude.{◌≡◌, ℕ, ◌+◌, ◌<◌, Bool, false, not, List, [], ◌∷◌, ◌++◌, filter, flat_map, length, map, nat_eq, Ok, Result, if◌then◌else◌}
 use Rattle.std.specs.List.{list_any}
 use Rattle.wd_value.specs.declared.value.Value.{Value}
 use Rattle.wd_value.specs.declared.value.Value.TheVariants.{Null}
@@ -21,6 +21,10 @@ shown_in set row c = if has set c then column_of row c else Null
 -- what is shown of the grouping columns, and after that the values of the calls over its rows
 abbrev pub row_over : GroupRule → List ℕ → List Row → Row → Result Row Fault
 row_over rule set rows group = and_then (all_ok (map (group_value set rows) rule.calls)) (λ values. Ok (group ++ values))
+
+-- how many values the row of a group has
+abbrev pub row_width : GroupRule → ℕ
+row_width rule = rule.columns + length rule.calls
 
 -- the grouping columns that a set has, among the first `columns`
 abbrev pub set_columns : ℕ → List ℕ → List ℕ

@@ -3,7 +3,7 @@
 //! `step` goes over the sets. `numbered` gives the rows numbers by the values of each column once for all sets, and `pairs` combines
 //! the numbers of a set's columns, so that no two texts are compared again for each set; rows with one number are a group (`groups`).
 //! `row` makes the row of a group, with its calls over the group as a partition (wd_calls) and GROUPING's `mask`, and `gathered`
-//! collects the rows and the least fault.
+//! puts the rows into columns and collects the least fault.
 #![tactic(auto)]
 
 mod gathered;

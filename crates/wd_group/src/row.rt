@@ -91,8 +91,7 @@ pub(crate) fn value_at(
 ) -> Result<Value, OutOfMemory>
     ensures { IfOk result (λ v. v ≡ column_of (row_at rows.now position) column) }
 {
-    let null = Value::Null;
-    rows.value(position, column, &null).copy(alloc)
+    rows.value(position, column as usize).copy(alloc)
 }
 
 /// The value of a call for a group of a set, or its fault.

@@ -1,28 +1,25 @@
 //! The rows of all sets.
 
-ghost use Rattle.std.specs.Prelude.{◌≡◌, ◌^◌, ◌++◌, ◌<◌, Err, IfOk, List, OnOk, Result, false, length, true};
-ghost use Rattle.wd_group.specs.Gathered.{AreFirst};
+ghost use Rattle.std.specs.Prelude.{◌≡◌, ◌^◌, ◌<◌, Err, IfOk, OnOk, false, length, true};
+ghost use Rattle.wd_group.specs.Gathered.{AreAdded};
 ghost use Rattle.wd_group.specs.Numbered.{AreNumbersOfEach};
 ghost use Rattle.wd_group.specs.Sets as sets;
 ghost use Rattle.wd_group.specs.Sets.{AreGroups, set_class};
 ghost use Rattle.wd_join.specs.Joins.{has_more_rows};
 ghost use Rattle.wd_join.specs.declared.error.StepError.TheVariants as error;
 ghost use Rattle.wd_plan.specs.Outcomes as spec;
-ghost use Rattle.wd_plan.specs.Outcomes.{outcome_of};
 ghost use Rattle.wd_plan.specs.Plans.{HaveMasks, grouping_of};
-ghost use Rattle.wd_value.specs.Rows as table;
-ghost use Rattle.wd_value.specs.declared.value.Fault as faults;
 
-use crate::gathered::{Gathered, add, nothing, outcome_within};
+use crate::gathered::{Gathered, add, nothing, rows_within};
 use crate::groups::{Groups, groups_by};
 use crate::numbered::{column_numbers, row_numbers};
 use crate::row::group_row;
 use std::alloc::Global;
-use wd_columns::RowSource;
+use wd_columns::{Columns, RowSource, all_positions};
 use wd_join::StepError;
-use wd_plan::{Group, Outcome, has_column};
-use wd_sort::{Coding, all_positions};
-use wd_value::OutOfMemory;
+use wd_plan::{Group, has_column};
+use wd_sort::Coding;
+use wd_value::{Fault, OutOfMemory};
 
 /// For each set in order the rows of its groups, in the order of their first rows, or the least fault of the calls; or the error that
 /// there are more than `most` rows (SQL, group by clause). Takes time linear in the rows, for each set: each value is looked up once
@@ -32,19 +29,28 @@ pub fn group_rows(
     group: &Group,
     rows: &RowSource,
     most: u64,
-) -> Result<Outcome, StepError>
+) -> Result<Result<Columns, Fault>, StepError>
     requires few { length rows.now < 2 ^ 32 }
     requires masks { HaveMasks (grouping_of group.now) }
-    ensures outcome { IfOk result (λ o. outcome_of o ≡ spec.group_outcome (grouping_of group.now) rows.now) }
-    ensures within { IfOk result (λ o. has_more_rows most (outcome_of o) ≡ false) }
+    ensures outcome { IfOk result (λ o. o ≡ spec.group_outcome (grouping_of group.now) rows.now) }
+    ensures within { IfOk result (λ o. has_more_rows most o ≡ false) }
     ensures too_many { result ≡ Err error.TooManyRows → has_more_rows most (spec.group_outcome (grouping_of group.now) rows.now) ≡ true }
 {
     let numbers = column_numbers(alloc, rows, group.columns)?;
-    let mut gathered = nothing(alloc);
+    let mut gathered = nothing(alloc, row_width(group)?)?;
     for set in &group.sets {
         add_set(alloc, group, set, rows, &numbers, most, &mut gathered)?;
     }
-    outcome_within(gathered, most)
+    rows_within(gathered, most)
+}
+
+/// How many values the row of a group has.
+fn row_width(group: &Group) -> Result<usize, OutOfMemory>
+    ensures { IfOk result (λ n. n ≡ sets.row_width (grouping_of group.now)) }
+{
+    (group.columns as usize)
+        .checked_add(group.calls.len())
+        .ok_or(OutOfMemory)
 }
 
 /// The rows of a set's groups. The empty set has one group of all rows, also where there are none.
@@ -59,7 +65,7 @@ fn add_set(
 ) -> Result<(), OutOfMemory>
     requires masks { HaveMasks (grouping_of group.now) }
     requires numbers { AreNumbersOfEach group.now.columns rows.now numbers.now }
-    ensures { OnOk result ((results : List (Result table.Row faults.Fault)) → AreFirst most results gathered.old → AreFirst most (results ++ spec.set_rows (grouping_of group.now) rows.now set.now) gathered.new) }
+    ensures { OnOk result (AreAdded (sets.row_width (grouping_of group.now)) most (spec.set_rows (grouping_of group.now) rows.now set.now) gathered.old gathered.new) }
 {
     if set.is_empty() {
         let all = all_positions(alloc, rows.len())?;
@@ -112,7 +118,7 @@ fn add_groups(
 ) -> Result<(), OutOfMemory>
     requires masks { HaveMasks (grouping_of group.now) }
     requires found { AreGroups (set_class group.now.columns set.now) rows.now found.now }
-    ensures { OnOk result ((results : List (Result table.Row faults.Fault)) → AreFirst most results gathered.old → AreFirst most (results ++ sets.rows_from (grouping_of group.now) set.now rows.now (length rows.now)) gathered.new) }
+    ensures { OnOk result (AreAdded (sets.row_width (grouping_of group.now)) most (sets.rows_from (grouping_of group.now) set.now rows.now (length rows.now)) gathered.old gathered.new) }
 {
     for position in 0..rows.len() {
         add_group(alloc, group, set, rows, found, position, most, gathered)?;
@@ -134,7 +140,7 @@ fn add_group(
     requires masks { HaveMasks (grouping_of group.now) }
     requires found { AreGroups (set_class group.now.columns set.now) rows.now found.now }
     requires within { position < length rows.now }
-    ensures { OnOk result ((results : List (Result table.Row faults.Fault)) → AreFirst most results gathered.old → AreFirst most (results ++ sets.row_from (grouping_of group.now) set.now rows.now position) gathered.new) }
+    ensures { OnOk result (AreAdded (sets.row_width (grouping_of group.now)) most (sets.row_from (grouping_of group.now) set.now rows.now position) gathered.old gathered.new) }
 {
     let own = found.own(position);
     if !begins_at(own, position) {

@@ -1,6 +1,6 @@
 -- The positions at which sorted columns hold values stand side by side, in the order of the rows.
-use Rattle.std.proofs.Common.{◌≡◌, ℕ, suc, ◌+◌, ◌-◌, ◌<◌, ◌≤◌, Bool, true, false, cond, not, ◌&&◌, ◌||◌, List, [], ◌∷◌, ◌++◌, All, map, filter, take, drop, length, get_or, refl, sym, ap, subst, ◌∙◌, arith, Ordering, Less, Equal, Greater}
-use Rattle.std.specs.List.{AllByRecursion, range_with_len}
+use Rattle.std.proofs.Common.{◌≡◌, ℕ, ◌+◌, ◌-◌, ◌<◌, ◌≤◌, Bool, true, false, cond, not, ◌&&◌, ◌||◌, List, [], ◌∷◌, ◌++◌, All, map, filter, take, drop, length, get_or, refl, sym, ap, subst, ◌∙◌, arith, Ordering, Less, Equal, Greater}
+use Rattle.std.specs.List.{AllByRecursion}
 use Rattle.std.specs.List.Sorted.{IsNonDecreasingBy, ties}
 use Rattle.std.specs.Ordering.{is_eq, is_lt, ordering_index, ordering_reverse, ordering_then}
 use Rattle.std.proofs.lemmas.Bool.{false≢true}
@@ -18,22 +18,11 @@ use Rattle.wd_plan.specs.declared.expression.ComparisonOp.TheVariants as op
 use Rattle.wd_plan.specs.Expressions.{comparison, is_null, is_true}
 use Rattle.wd_sort.specs.Sorting.{compare_rows_at}
 use Rattle.wd_join.specs.declared.matching.JoinColumns.{JoinColumns}
+use Rattle.wd_columns.proofs.Copied.{all_rows}
 use Rattle.wd_steps.specs.Repeats.{compare_rows}
 use Rattle.wd_join.specs.Matching.{AreBefore, IsEnd, IsSortedBy, IsAgreeingRange, agree, ascending, compare_in, compare_sides, is_before, lacks_key, left_keys, right_keys}
 use Rattle.wd_join.proofs.Deciding.{eq_turned}
 use Rattle.wd_steps.proofs.Occurrences.{compare_rows-exact, compare_rows_total}
-
--- ---- rows at all positions
-
-reached : (f : ℕ → Row) (rows : List Row) (a : ℕ) → ((k : ℕ) → k < length rows → f (a + k) ≡ get_or rows k []) → map f (range_with_len a (length rows)) ≡ rows
-reached f [] a h = refl
-reached f (row ∷ rows) a h =
-    let head : f a ≡ row = ap f (omega arith) ∙ h 0 (omega arith) in
-    let tail = reached f rows (a + 1) (λ k l. ap f (omega arith) ∙ h (suc k) (omega arith)) in
-    λ i. head i ∷ tail i
-
-rows_at_positions : (rows : List Row) → map (row_at rows) (positions (length rows)) ≡ rows
-rows_at_positions rows = reached (row_at rows) rows 0 (λ k l. ap (row_at rows) (omega arith))
 
 -- ---- lists of which all elements pass, or none
 
@@ -268,7 +257,7 @@ module _ (columns : List JoinColumns) (rows : List Row) (order : List ℕ) (l : 
       let t : Row → Bool = λ r. is_eq (compare_sides columns l r) in
       ap (rows_at rows) (sym (found start end forwards first second) ∙ in_rows sorted (filter here order) refl)
       ∙ map_filter (row_at rows) t (positions (length rows))
-      ∙ ap (filter t) (rows_at_positions rows)
+      ∙ ap (filter t) (all_rows rows)
       ∙ filter_agree t (agree columns l) (λ r. tie_agrees columns l r whole) rows
 
   pub IsAgreeingRange-found : IsSortedBy (right_keys columns) rows order → lacks_key columns l ≡ false → (start end : ℕ) → start ≤ end → IsEnd false columns l rows order start → IsEnd true columns l rows order end

@@ -1,16 +1,14 @@
--- Pairs by their positions: conditions that are nothing but equalities, the pairs that agree, and their columns.
+-- Pairs by their positions: conditions that are nothing but equalities, and the pairs that agree.
 use Rattle.std.proofs.Common.{◌≡◌, ℕ, zero, suc, ◌+◌, ◌-◌, ◌<◌, ◌≤◌, Bool, true, false, cond, ◌&&◌, ◌||◌, List, [], ◌∷◌, ◌++◌, All, map, filter, take, drop, length, get_or, nat_lt, Some, None, Ok, refl, sym, ap, subst, ◌∙◌, arith}
 use Rattle.std.specs.List.{list_any}
 use Rattle.std.proofs.lemmas.Bool.{lt-ltb}
-use Rattle.std.proofs.lemmas.List.{append-nil, append_assoc, get_or-map, length-append, length-map, map-append, take_all}
+use Rattle.std.proofs.lemmas.List.{append-nil, append_assoc, length-append, length-map, map-append, take_all}
 use Rattle.std.proofs.lemmas.List.Elements.{All-head, All-tail, filter-append}
-use Rattle.std.proofs.lemmas.List.FromFn.{fill_by_all}
 use Rattle.wd_value.specs.declared.value.Value.{Value}
 use Rattle.wd_value.specs.declared.value.Value.TheVariants.{Null, Int, Text, Bool as Truth}
 use Rattle.wd_value.specs.declared.value.Fault.{Fault}
 use Rattle.wd_value.specs.declared.value.Fault.TheVariants.{DivisionByZero, OutOfRange}
-use Rattle.wd_value.specs.Rows.{Row, column_of, columns_of, row_at, rows_at}
-use Rattle.wd_columns.specs.Along.{row_along, rows_along}
+use Rattle.wd_value.specs.Rows.{Row, row_at, rows_at}
 use Rattle.wd_plan.specs.Expressions.{Expression, And, and_result, is_true, value_of}
 use Rattle.wd_plan.specs.Faults.{and_then, has_fault, least_fault, unless}
 use Rattle.wd_plan.specs.Outcomes.{filter_outcome, pairs, passes}
@@ -179,18 +177,3 @@ module _ (columns : List JoinColumns) (left right : List Row) (order positions :
       let some = sym (ap length paired_more) ∙ length-map (pairs ++ with_each i positions) (row_paired left right) ∙ length-append pairs (with_each i positions) in
       let each = length-with_each i positions in
       lt-ltb most (length (matching columns left right)) (omega arith)
-
--- ---- columns of rows
-
--- a column of the rows
-abbrev pub column_in : List Row → ℕ → List Value
-column_in rows c = map (λ row. column_of row c) rows
-
-along : (rows : List Row) (columns : List ℕ) (p : ℕ) → p < length rows → row_along (map (column_in rows) columns) p ≡ columns_of columns (row_at rows p)
-along rows [] p low = refl
-along rows (c ∷ columns) p low = λ i. get_or-map (λ row. column_of row c) rows p [] Null low i ∷ along rows columns p low i
-
-pub columns_along : (rows : List Row) (columns : List ℕ) (n : ℕ) → length rows ≡ n → rows_along (map (column_in rows) columns) n ≡ map (columns_of columns) rows
-columns_along rows columns n long = sym (fill_by_all (row_along (map (column_in rows) columns)) (map (columns_of columns) rows) n [] (length-map rows (columns_of columns) ∙ long) (λ k low. (
-    let within : k < length rows = omega arith in
-    get_or-map (columns_of columns) rows k [] [] within ∙ sym (along rows columns k within))))

@@ -114,8 +114,7 @@ fn has_null(rows: &RowSource, column: u16) -> bool
 pub(crate) fn is_null_at(rows: &RowSource, position: u64, column: u16) -> bool
     ensures { result ≡ is_null (column_of (row_at rows.now position) column) }
 {
-    let null = Value::Null;
-    is_null_value(rows.value(position, column, &null))
+    is_null_value(rows.value(position, column as usize))
 }
 
 fn is_null_value(value: &Value) -> bool

@@ -1,6 +1,6 @@
 //! Pairs of a left and a right row by their positions.
 
-ghost use Rattle.std.specs.Prelude.{◌≡◌, ◌++◌, ◌≤◌, Err, IfNone, IfOk, IfSome, Ok, OnOk, Some, length, map, nat_lt, true};
+ghost use Rattle.std.specs.Prelude.{◌≡◌, ◌+◌, ◌++◌, ◌≤◌, All, Err, IfNone, IfOk, IfSome, Ok, OnOk, Some, length, map, nat_lt, true};
 ghost use Rattle.wd_plan.specs.Expressions.{expression_of};
 ghost use Rattle.wd_plan.specs.Outcomes as spec;
 ghost use Rattle.wd_plan.specs.Outcomes.{join_outcome};
@@ -15,10 +15,9 @@ use crate::exact::exact_columns;
 use crate::matching::JoinColumns;
 use crate::walk::{agreeing_rows, positions_in};
 use std::alloc::Global;
-use wd_columns::{Columns, RowSource};
+use wd_columns::{Columns, OwnRows, RowSource, all_positions, push_values};
 use wd_plan::Expr;
 use wd_scalar::value_in_pair;
-use wd_steps::push_values;
 use wd_value::{OutOfMemory, Row, Value};
 
 /// The positions of a left and of a right row.
@@ -154,13 +153,63 @@ fn copy_value(
 ) -> Result<Value, OutOfMemory>
     ensures { IfOk result (λ v. v ≡ column_of (row_paired left.now right.now pair) column) }
 {
-    let null = Value::Null;
-    let value = value_in_pair(left, pair.left, right, pair.right, column, &null).copy(alloc)?;
+    let value = value_in_pair(left, pair.left, right, pair.right, column).copy(alloc)?;
     Ok(value)
 }
 
-/// The rows of the pairs.
+/// The rows of the pairs: column by column where the left rows have as many values as each other and the right ones too, and else row
+/// by row.
 pub fn paired_rows(
+    alloc: Global,
+    left: &RowSource,
+    right: &RowSource,
+    pairs: &[Pair],
+) -> Result<OwnRows, OutOfMemory>
+    ensures { IfOk result (λ r. r ≡ rows_paired left.now right.now pairs.now) }
+{
+    match width_of_all(left, right, pairs) {
+        Some(width) => {
+            let all = all_positions(alloc, width)?;
+            let columns = paired_columns(alloc, left, right, pairs, &all)?;
+            Ok(OwnRows::of_columns(columns))
+        }
+        None => {
+            let list = paired_list(alloc, left, right, pairs)?;
+            Ok(OwnRows::of_rows(list))
+        }
+    }
+}
+
+/// How many values each of the pairs has, if there are any and neither their left rows nor their right ones differ in width.
+fn width_of_all(left: &RowSource, right: &RowSource, pairs: &[Pair]) -> Option<usize>
+    ensures { IfSome result (λ width. All (λ row. length row ≡ width) (rows_paired left.now right.now pairs.now)) }
+{
+    let first = pairs.first()?;
+    let (left_width, right_width) = (left.width(first.left), right.width(first.right));
+    if have_widths(left, right, pairs, left_width, right_width) {
+        left_width.checked_add(right_width)
+    } else {
+        None
+    }
+}
+
+/// Whether each left row of the pairs has the first number of values and each right row the second.
+fn have_widths(
+    left: &RowSource,
+    right: &RowSource,
+    pairs: &[Pair],
+    left_width: usize,
+    right_width: usize,
+) -> bool
+    ensures { result ≡ true → All (λ row. length row ≡ left_width + right_width) (rows_paired left.now right.now pairs.now) }
+{
+    pairs.iter().all(|pair| {
+        left.width(pair.left) == left_width && right.width(pair.right) == right_width
+    })
+}
+
+/// The rows of the pairs as a list.
+fn paired_list(
     alloc: Global,
     left: &RowSource,
     right: &RowSource,

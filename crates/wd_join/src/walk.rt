@@ -10,8 +10,8 @@ ghost use Rattle.wd_value.specs.Rows.{row_at};
 use crate::matching::{JoinColumns, is_null_at};
 use std::alloc::Global;
 use std::cmp::Ordering;
-use wd_columns::RowSource;
-use wd_sort::{all_positions, sort_positions_in};
+use wd_columns::{RowSource, all_positions};
+use wd_sort::sort_positions_in;
 use wd_value::{OutOfMemory, SortColumn, SortKey, Value, compare};
 
 /// Consecutive positions in an order, from `start` up to `end`.
@@ -225,10 +225,9 @@ fn compare_in(
 ) -> Ordering
     ensures { result ≡ spec.compare_in column (row_at left.now first) (row_at right.now second) }
 {
-    let null = Value::Null;
     compare(
-        right.value(second, column.right, &null),
-        left.value(first, column.left, &null),
+        right.value(second, column.right as usize),
+        left.value(first, column.left as usize),
         ASCENDING,
     )
 }

@@ -11,7 +11,8 @@ use Rattle.wd_units.specs.Amounts.{amount_at}
 use Rattle.wd_units.specs.Numerals.{numeral_at}
 use Rattle.wd_amounts.specs.Terms.{Known, unit_of}
 use Rattle.wd_units.specs.declared.token.Stop.TheVariants.{Frame}
-use Rattle.wd_units.specs.Tokens.{◌>>=◌, begins_item, is_comparison, operand_at, part_length}
+use Rattle.wd_operands.specs.Parts.{operand_at}
+use Rattle.wd_units.specs.Tokens.{◌>>=◌, begins_item, is_comparison, part_length}
 use Rattle.wd_moments.specs.declared.item.Start.{Start}
 use Rattle.wd_moments.specs.declared.item.Start.TheVariants.{Elsewhere, AtSide, AtItem}
 use Rattle.wd_clashes.specs.Comparisons.{begins_side}

@@ -8,7 +8,8 @@ ghost use Rattle.wd_moments.specs.Decimals.{depth_of, first_in_units, token_in_u
 use crate::error::MomentError;
 use crate::write::{push_copy, push_number};
 use wd_lex::{Terminal, Token, TokenKind};
-use wd_units::{Numeral, depth_after, is_sign, numeral_at};
+use wd_operands::is_sign;
+use wd_units::{Numeral, depth_after, numeral_at};
 
 /// The place of a token in an operand.
 #[derive(Clone, Copy)]

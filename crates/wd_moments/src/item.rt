@@ -1,7 +1,7 @@
 //! Operands outside of comparisons that count a moment or a decimal: items of a select list, keys and their frames, and arguments.
 
 ghost use Rattle.std.specs.Prelude.{◌≡◌, ◌≤◌, length};
-ghost use Rattle.wd_units.specs.Given.{Finds};
+ghost use Rattle.wd_operands.specs.Given.{Finds};
 ghost use Rattle.wd_amounts.specs.Seen.{known_seen};
 ghost use Rattle.wd_moments.specs.Items as spec;
 ghost use Rattle.wd_moments.specs.Seen.{item_seen};
@@ -9,9 +9,8 @@ ghost use Rattle.wd_moments.specs.Seen.{item_seen};
 use wd_amounts::{KnownNames, unit_of};
 use wd_clashes::begins_side;
 use wd_lex::{Terminal, Token, TokenKind};
-use wd_units::{
-    Stop, Unit, amount_at, begins_item, is_comparison, numeral_at, operand_at, part_length,
-};
+use wd_operands::operand_at;
+use wd_units::{Stop, Unit, amount_at, begins_item, is_comparison, numeral_at, part_length};
 
 /// What may begin at a token.
 #[derive(Clone, Copy)]

@@ -2,7 +2,7 @@
 
 ghost use Rattle.std.specs.Prelude.{◌≡◌, ◌≤◌, ◌<◌, ◌+◌, length, true, IfOk, IfErr};
 ghost use Rattle.wd_moments.specs.declared.error.MomentError.{MomentError};
-ghost use Rattle.wd_units.specs.Given.{Finds};
+ghost use Rattle.wd_operands.specs.Given.{Finds};
 ghost use Rattle.wd_amounts.specs.Seen.{known_seen};
 ghost use Rattle.wd_moments.specs.Decimals.{depth_of};
 ghost use Rattle.wd_moments.specs.Given.{Adds, most_tokens};

@@ -12,8 +12,8 @@ use crate::error::MomentError;
 use crate::literal::push_written;
 use wd_amounts::{KnownNames, is_star, unit_of};
 use wd_lex::{Terminal, Token, TokenKind};
-use wd_operands::nest_length;
-use wd_units::{Stop, Unit, counts_decimal, is_over, part_length};
+use wd_operands::{is_over, nest_length};
+use wd_units::{Stop, Unit, counts_decimal, part_length};
 
 fn is_when(kind: &TokenKind) -> bool
     ensures { result ≡ spec.is_when kind.now }

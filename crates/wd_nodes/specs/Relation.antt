@@ -1,7 +1,7 @@
 -- What a node of a plan gives to the step above it, as contracts see it, and the steps over that.
 use Rattle.std.specs.Prelude.{◌≡◌, ℕ, true, false, List, Option, option_map, Result, Ok, Err, ⊤}
 use Rattle.wd_value.specs.declared.value.Fault.{Fault}
-use Rattle.wd_value.specs.Rows.{Instance, Row, rows_of, table_at}
+use Rattle.wd_value.specs.Rows.{Instance, Row, table_at}
 use Rattle.wd_plan.specs.declared.expression.Expr.{Expr}
 use Rattle.wd_plan.specs.Expressions.{Expression, expression_of}
 use Rattle.wd_plan.specs.Faults.{and_then}
@@ -15,13 +15,12 @@ use Rattle.wd_nodes.specs.Results.{OkOr}
 use Rattle.wd_nodes.specs.declared.relation.Relation.{Relation}
 use Rattle.wd_nodes.specs.declared.relation.Relation.TheVariants.{Stored, Pairs', Joined}
 use Rattle.wd_nodes.specs.declared.stored.StoredRows.{StoredRows}
-use Rattle.wd_nodes.specs.declared.stored.StoredRows.TheVariants.{Table, Rows, Columns}
+use Rattle.wd_nodes.specs.declared.stored.StoredRows.TheVariants.{Table, Own}
 
 -- rows that are there: those of a table of the instance, or rows of their own
 abbrev pub stored_rows_of : Instance → StoredRows → List Row
 stored_rows_of instance (Table number) = table_at instance number
-stored_rows_of instance (Rows rows) = rows_of rows.items
-stored_rows_of instance (Columns rows) = rows
+stored_rows_of instance (Own rows) = rows
 
 -- such rows, or pairs
 abbrev pub relation_of : Instance → Relation → List Row

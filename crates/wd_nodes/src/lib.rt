@@ -3,7 +3,8 @@
 //! `tables` are those that Scans read where they are, `moved_in` those that are moved into an evaluation, each for the one Scan that reads
 //! it. `stored` has rows that are there, which a step reads where they are (`source`) and of which it keeps some by their positions
 //! (`pick_rows`); `relation` has beside them pairs that are not made yet, and leaves out those that a condition above can't let through.
-//! `step` has the steps, but for a Window and a Limit, which wd_eval does under its orderings: columns stay columns, but for a Group.
+//! `step` has the steps, but for a Window and a Limit, which wd_eval does under its orderings. Rows are kept column by column wherever
+//! they have one width.
 #![tactic(auto)]
 
 mod moved_in;
@@ -13,7 +14,7 @@ mod stored;
 mod tables;
 
 pub use moved_in::{MovedIn, take_tables};
-pub use relation::{Relation, from_outcome, into_outcome, store};
+pub use relation::{Relation, into_outcome, store};
 pub use step::{distinct, filter_input, group_input, join_inputs, map_input, scan_table};
 pub use stored::{StoredRows, into_own_rows, pick_rows};
 pub use tables::Tables;

@@ -10,6 +10,7 @@ ghost use Rattle.wd_value.specs.Rows.{Instance};
 use crate::stored::{StoredRows, into_own_rows, store_pairs};
 use crate::tables::Tables;
 use std::alloc::Global;
+use wd_columns::{Columns, OwnRows};
 use wd_join::{Pair, all_pairs, narrow_pairs};
 use wd_plan::{Expr, Outcome};
 use wd_value::{Fault, OutOfMemory};
@@ -98,13 +99,13 @@ pub(crate) fn from_pairs(
     }
 }
 
-/// An outcome of the rows of a list, or the fault.
-pub fn from_outcome(outcome: Outcome) -> Result<Relation, Fault>
-    ensures { (instance : Instance) → relation_or_fault_of instance result ≡ outcome_of outcome }
+/// Rows that were made column by column, or the fault.
+pub(crate) fn from_columns(made: Result<Columns, Fault>) -> Result<Relation, Fault>
+    ensures { (instance : Instance) → relation_or_fault_of instance result ≡ made }
 {
-    match outcome {
-        Outcome::Rows(rows) => Ok(Relation::Stored(StoredRows::Rows(rows))),
-        Outcome::Fault(fault) => Err(fault),
+    match made {
+        Ok(columns) => Ok(Relation::Stored(StoredRows::Own(OwnRows::of_columns(columns)))),
+        Err(fault) => Err(fault),
     }
 }
 
@@ -119,7 +120,8 @@ pub fn into_outcome(
     match given {
         Ok(relation) => {
             let stored = store(alloc, tables, relation)?;
-            Ok(Outcome::Rows(into_own_rows(alloc, tables, stored)?))
+            let rows = into_own_rows(alloc, tables, stored)?;
+            Ok(Outcome::Rows(rows.into_list(alloc)?))
         }
         Err(fault) => Ok(Outcome::Fault(fault)),
     }

@@ -10,15 +10,15 @@ ghost use Rattle.wd_plan.specs.Plans.{HaveMasks, grouping_of};
 ghost use Rattle.wd_join.specs.Paired.{rows_paired};
 ghost use Rattle.wd_value.specs.Rows.{Instance};
 
-use crate::relation::{Relation, from_outcome, from_pairs, has_more, narrow, store};
+use crate::relation::{Relation, from_columns, from_pairs, has_more, narrow, store};
 use crate::stored::{StoredRows, pick_rows, store_pairs};
 use crate::tables::Tables;
 use std::alloc::Global;
-use wd_columns::{Columns, RowSource};
+use wd_columns::{Columns, OwnRows, RowSource};
 use wd_group::group_rows;
-use wd_join::{Pair, StepError, filter_pairs, join_pairs, paired_columns};
+use wd_join::{Pair, StepError, all_pairs, filter_pairs, join_pairs, paired_columns};
 use wd_plan::{Expr, Group};
-use wd_steps::{distinct_positions, map_columns, map_own_rows, passing_positions, shown_columns};
+use wd_steps::{distinct_positions, map_columns, passing_positions, shown_columns};
 use wd_value::{Fault, OutOfMemory};
 
 /// The table that is moved in, and else the one with this number, or the error that these are more
@@ -32,7 +32,7 @@ pub fn scan_table(
     ensures { IsSmallOrLarge most (Ok (read_at tables.now moved_in table)) (λ r. Ok (relation_of tables.now r)) result }
 {
     let read = match moved_in {
-        Some(columns) => StoredRows::Columns(columns),
+        Some(columns) => StoredRows::Own(OwnRows::of_columns(columns)),
         None => StoredRows::Table(table),
     };
     within(tables, Relation::Stored(read), most)
@@ -180,12 +180,14 @@ pub fn map_input(
     ensures { IfOk result (λ r. relation_or_fault_of tables.now r ≡ spec.map_outcome (map expression_of outputs.now) (relation_of tables.now input)) }
 {
     match input {
-        Relation::Joined(left, right, pairs) => {
+        Relation::Stored(stored) => map_stored(alloc, tables, outputs, stored),
+        Relation::Pairs(left, right) => {
+            let left = store(alloc, tables, Box::into_inner(left))?;
+            let pairs = all_pairs(alloc, &tables.source(&left), &tables.source(&right))?;
             map_pairs(alloc, tables, outputs, &left, &right, &pairs)
         }
-        other => {
-            let stored = store(alloc, tables, other)?;
-            map_stored(alloc, tables, outputs, stored)
+        Relation::Joined(left, right, pairs) => {
+            map_pairs(alloc, tables, outputs, &left, &right, &pairs)
         }
     }
 }
@@ -205,7 +207,7 @@ fn map_pairs(
         Some(columns) => {
             let (first, second) = (tables.source(left), tables.source(right));
             let picked = paired_columns(alloc, &first, &second, pairs, &columns)?;
-            Ok(Ok(Relation::Stored(StoredRows::Columns(picked))))
+            Ok(from_columns(Ok(picked)))
         }
         None => {
             let rows = store_pairs(alloc, tables, left, right, pairs)?;
@@ -225,29 +227,24 @@ fn map_stored(
 {
     match stored {
         StoredRows::Table(number) => map_source(alloc, outputs, &tables.table(number)),
-        StoredRows::Rows(rows) => {
-            let outcome = map_own_rows(alloc, outputs, rows)?;
-            Ok(from_outcome(outcome))
-        }
-        StoredRows::Columns(columns) => map_stored_columns(alloc, outputs, columns),
+        StoredRows::Own(rows) => map_own(alloc, outputs, rows),
     }
 }
 
-/// The values of the outputs over rows that are kept column by column, and stay so: the columns are moved where the outputs are
-/// columns, none of them twice.
-fn map_stored_columns(
+/// The values of the outputs over rows of their own: they are moved where the outputs are columns, none of them twice.
+fn map_own(
     alloc: Global,
     outputs: &[Expr],
-    columns: Columns,
+    rows: OwnRows,
 ) -> Result<Result<Relation, Fault>, OutOfMemory>
-    ensures { IfOk result (λ r. (instance : Instance) → relation_or_fault_of instance r ≡ spec.map_outcome (map expression_of outputs.now) columns) }
+    ensures { IfOk result (λ r. (instance : Instance) → relation_or_fault_of instance r ≡ spec.map_outcome (map expression_of outputs.now) rows) }
 {
     match selected_columns(alloc, outputs)? {
-        Some(selected) => {
-            let columns = columns.select(alloc, &selected)?;
-            Ok(Ok(Relation::Stored(StoredRows::Columns(columns))))
+        Some(columns) => {
+            let selected = rows.select(alloc, &columns)?;
+            Ok(Ok(Relation::Stored(StoredRows::Own(selected))))
         }
-        None => map_source(alloc, outputs, &RowSource::of_columns(&columns)),
+        None => map_source(alloc, outputs, &rows.source()),
     }
 }
 
@@ -259,10 +256,8 @@ fn map_source(
 ) -> Result<Result<Relation, Fault>, OutOfMemory>
     ensures { IfOk result (λ r. (instance : Instance) → relation_or_fault_of instance r ≡ spec.map_outcome (map expression_of outputs.now) rows.now) }
 {
-    match map_columns(alloc, outputs, rows)? {
-        Ok(columns) => Ok(Ok(Relation::Stored(StoredRows::Columns(columns)))),
-        Err(fault) => Ok(Err(fault)),
-    }
+    let made = map_columns(alloc, outputs, rows)?;
+    Ok(from_columns(made))
 }
 
 /// The columns that the outputs are, exactly where they are columns and none of them stands there twice.
@@ -328,8 +323,8 @@ pub fn group_input(
     ensures { IsSmallOrLarge most (spec.group_outcome (grouping_of group.now) (relation_of tables.now input)) (relation_or_fault_of tables.now) result }
 {
     let stored = store(alloc, tables, input)?;
-    let outcome = group_rows(alloc, group, &tables.source(&stored), most)?;
-    Ok(from_outcome(outcome))
+    let made = group_rows(alloc, group, &tables.source(&stored), most)?;
+    Ok(from_columns(made))
 }
 
 /// The first of the input's rows that are not distinct.

@@ -1,14 +1,15 @@
 //! The tables that the Scans of a plan read where they are.
 
-ghost use Rattle.std.specs.Prelude.{◌≡◌};
+ghost use Rattle.std.specs.Prelude.{◌≡◌, []};
 ghost use Rattle.wd_nodes.specs.Relation.{stored_rows_of};
 ghost use Rattle.wd_nodes.specs.Tables.{tables_kept};
 ghost use Rattle.wd_value.specs.Rows.{instance_of, table_at};
+ghost use Rattle.wd_value.specs.declared.value.Value.TheVariants as value;
 
 use crate::stored::StoredRows;
 use std::marker::Model;
 use wd_columns::{Columns, RowSource};
-use wd_value::Row;
+use wd_value::{Row, Value};
 
 /// How tables are kept.
 #[derive(Drop)]
@@ -21,6 +22,8 @@ enum KeptTables<'a> {
 #[derive(Drop)]
 pub struct Tables<'a> {
     kept: KeptTables<'a>,
+    /// What is read past the last row or column.
+    null: Value,
 }
 
 impl<'a> Model for Tables<'a> {
@@ -31,6 +34,11 @@ impl<'a> Model for Tables<'a> {
     ghost use Rattle.wd_nodes.specs.Tables.{tables_kept};
 
     ghost view = { λ t. tables_kept t.kept };
+
+    ghost use Rattle.std.specs.Prelude.{◌≡◌};
+    ghost use Rattle.wd_value.specs.declared.value.Value.TheVariants as value;
+
+    ghost invariant = { λ t. t.null ≡ value.Null };
 }
 
 impl<'a> Tables<'a> {
@@ -40,6 +48,7 @@ impl<'a> Tables<'a> {
     {
         Tables {
             kept: KeptTables::ByRow(tables),
+            null: Value::Null,
         }
     }
 
@@ -49,6 +58,7 @@ impl<'a> Tables<'a> {
     {
         Tables {
             kept: KeptTables::ByColumn(tables),
+            null: Value::Null,
         }
     }
 
@@ -56,38 +66,61 @@ impl<'a> Tables<'a> {
     pub fn table(&self, number: u16) -> RowSource<'_>
         ensures { result ≡ table_at self.now number }
     {
-        table_in(&self.kept, number as usize)
+        table_in(&self.kept, number as usize, &self.null)
     }
 
     /// Stored rows to be read where they are.
     pub fn source<'b, 't: 'b>(&'t self, stored: &'b StoredRows) -> RowSource<'b>
         ensures { result ≡ stored_rows_of self.now stored.now }
     {
-        source_in(&self.kept, stored)
+        source_in(&self.kept, stored, &self.null)
     }
 }
 
-fn source_in<'a>(kept: &'a KeptTables, stored: &'a StoredRows) -> RowSource<'a>
+fn source_in<'a>(kept: &'a KeptTables, stored: &'a StoredRows, null: &'a Value) -> RowSource<'a>
+    requires { null.now ≡ value.Null }
     ensures { result ≡ stored_rows_of (tables_kept kept.now) stored.now }
 {
     match stored {
-        StoredRows::Table(number) => table_in(kept, *number as usize),
-        StoredRows::Rows(rows) => RowSource::of_rows(rows),
-        StoredRows::Columns(columns) => RowSource::of_columns(columns),
+        StoredRows::Table(number) => table_in(kept, *number as usize, null),
+        StoredRows::Own(rows) => rows.source(),
     }
 }
 
-fn table_in<'a>(kept: &'a KeptTables, number: usize) -> RowSource<'a>
+fn table_in<'a>(kept: &'a KeptTables, number: usize, null: &'a Value) -> RowSource<'a>
+    requires { null.now ≡ value.Null }
     ensures { result ≡ table_at (tables_kept kept.now) number }
 {
     match kept {
-        KeptTables::ByRow(tables) => match tables.get(number) {
-            Some(rows) => RowSource::of_rows(rows),
-            None => RowSource::of_rows(&[]),
-        },
-        KeptTables::ByColumn(tables) => match tables.get(number) {
-            Some(columns) => RowSource::of_columns(columns),
-            None => RowSource::of_rows(&[]),
-        },
+        KeptTables::ByRow(tables) => list_in(tables, number, null),
+        KeptTables::ByColumn(tables) => columns_in(tables, number, null),
     }
+}
+
+fn list_in<'a>(tables: &'a [Vec<Row>], number: usize, null: &'a Value) -> RowSource<'a>
+    requires { null.now ≡ value.Null }
+    ensures { result ≡ table_at (instance_of tables.now) number }
+{
+    let rows = match tables.get(number) {
+        Some(rows) => rows.as_slice(),
+        None => &[],
+    };
+    RowSource::of_rows(rows, null)
+}
+
+fn columns_in<'a>(tables: &'a [Columns], number: usize, null: &'a Value) -> RowSource<'a>
+    requires { null.now ≡ value.Null }
+    ensures { result ≡ table_at tables.now number }
+{
+    match tables.get(number) {
+        Some(columns) => RowSource::of_columns(columns),
+        None => no_rows(null),
+    }
+}
+
+fn no_rows(null: &Value) -> RowSource<'_>
+    requires { null.now ≡ value.Null }
+    ensures { result ≡ [] }
+{
+    RowSource::of_rows(&[], null)
 }

@@ -78,8 +78,7 @@ fn column_numbers(
 fn number_at(rows: &RowSource, position: u64, column: u16) -> Value
     ensures { result ≡ members.number_part (column_of (row_at rows.now position) column) }
 {
-    let null = Value::Null;
-    number_part(rows.value(position, column, &null))
+    number_part(rows.value(position, column as usize))
 }
 
 /// A whole number, and NULL in place of everything else.

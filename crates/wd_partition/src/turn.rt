@@ -4,7 +4,7 @@ ghost use Rattle.std.specs.Prelude.{◌≡◌, IfOk};
 ghost use Rattle.wd_partition.specs.Columns as spec;
 
 use std::alloc::Global;
-use wd_sort::all_positions;
+use wd_columns::all_positions;
 use wd_value::OutOfMemory;
 
 /// The order in which positions are taken.

@@ -9,7 +9,7 @@ ghost use Rattle.wd_value.specs.Rows.{column_of, row_at};
 use crate::places::Places;
 use std::alloc::Global;
 use wd_columns::RowSource;
-use wd_value::{OutOfMemory, Value};
+use wd_value::OutOfMemory;
 
 /// The numbers of the rows, sorted; `None` exactly where some row has no number.
 pub(crate) fn sorted_numbers(
@@ -74,8 +74,7 @@ fn number_of(places: &[Places], rows: &RowSource, position: u64) -> Option<u128>
 fn place_at(places: &Places, rows: &RowSource, position: u64, column: usize) -> Option<u64>
     ensures { result ≡ place_in places.now (column_of (row_at rows.now position) column) }
 {
-    let null = Value::Null;
-    places.place_of(rows.value_at(position, column, &null))
+    places.place_of(rows.value(position, column))
 }
 
 /// A number with a further digit below a count; `None` where 128 bits don't hold it.

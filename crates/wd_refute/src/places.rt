@@ -142,6 +142,5 @@ fn meet_value(
     position: u64,
     column: usize,
 ) -> Result<(), OutOfMemory> {
-    let null = Value::Null;
-    places.meet(alloc, rows.value_at(position, column, &null))
+    places.meet(alloc, rows.value(position, column))
 }

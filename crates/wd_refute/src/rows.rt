@@ -7,7 +7,8 @@ ghost use Rattle.wd_value.specs.Rows.{rows_at, rows_of};
 
 use std::alloc::Global;
 use std::cmp::Ordering;
-use wd_sort::{all_positions, row_in};
+use wd_columns::all_positions;
+use wd_sort::row_in;
 use wd_value::{OutOfMemory, Row, SortKey, Value, compare};
 
 /// The order of the values; any total order would do.

@@ -150,8 +150,7 @@ pub(crate) fn column_value(
 ) -> Result<Result<Value, Fault>, OutOfMemory>
     ensures { IfOk result (λ r. r ≡ Ok (column_of row.now column)) }
 {
-    let null = Value::Null;
-    literal_value(alloc, row.value(column as usize, &null))
+    literal_value(alloc, row.value(column as usize))
 }
 
 /// A copy of a value.

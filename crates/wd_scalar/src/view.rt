@@ -3,7 +3,6 @@
 ghost use Rattle.std.specs.Prelude.{◌≡◌, ◌++◌};
 ghost use Rattle.wd_scalar.specs.Views.{row_held};
 ghost use Rattle.wd_value.specs.Rows.{column_of, row_at};
-ghost use Rattle.wd_value.specs.declared.value.Value.TheVariants as value;
 
 use std::marker::Model;
 use wd_columns::RowSource;
@@ -58,43 +57,39 @@ impl<'a> RowView<'a> {
         }
     }
 
-    /// The value in a column, and `null` past the last column.
-    pub fn value<'b>(&'b self, column: usize, null: &'b Value) -> &'b Value
-        requires { null.now ≡ value.Null }
+    /// The value in a column, and NULL past the last column.
+    pub fn value(&self, column: usize) -> &Value
         ensures { result.now ≡ column_of self.now column }
     {
-        held_value(&self.held, column, null)
+        held_value(&self.held, column)
     }
 }
 
-fn held_value<'a>(held: &'a Held, column: usize, null: &'a Value) -> &'a Value
-    requires { null.now ≡ value.Null }
+fn held_value<'a>(held: &'a Held, column: usize) -> &'a Value
     ensures { result.now ≡ column_of (row_held held.now) column }
 {
     match held {
-        Held::At(rows, position) => rows.value_at(*position, column, null),
+        Held::At(rows, position) => rows.value(*position, column),
         Held::Pair(left, first, right, second) => {
-            value_in_pair(left, *first, right, *second, column, null)
+            value_in_pair(left, *first, right, *second, column)
         }
     }
 }
 
-/// The value in a column of a left and a right row concatenated, each at its position, and `null` past the last column.
+/// The value in a column of a left and a right row concatenated, each at its position, and NULL past the last column.
 pub fn value_in_pair<'a>(
     left: &'a RowSource,
     first: u64,
     right: &'a RowSource,
     second: u64,
     column: usize,
-    null: &'a Value,
 ) -> &'a Value
-    requires { null.now ≡ value.Null }
     ensures { result.now ≡ column_of (row_at left.now first ++ row_at right.now second) column }
 {
     let width = left.width(first);
     if column < width {
-        left.value_at(first, column, null)
+        left.value(first, column)
     } else {
-        right.value_at(second, column - width, null)
+        right.value(second, column - width)
     }
 }

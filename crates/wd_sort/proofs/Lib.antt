@@ -1,4 +1,3 @@
-pub mod Positions
 pub mod Order
 pub mod Rewriting
 pub mod Packing

@@ -9,9 +9,8 @@ ghost use Rattle.wd_value.specs.declared.order.SortColumn.{SortColumn};
 use crate::codes::sort_by_codes;
 use crate::coding::Coding;
 use crate::columns::{Last, last_coding};
-use crate::sort::all_positions;
 use std::alloc::Global;
-use wd_columns::RowSource;
+use wd_columns::{RowSource, all_positions};
 use wd_value::{OutOfMemory, SortColumn};
 
 /// A number for each row, by its position, that compares as the row does by the columns; `None` where a column has no codes, or where the

@@ -9,10 +9,9 @@ use crate::coding::Coding;
 use crate::known::Known;
 use crate::numbering::numbers_of;
 use crate::seeded::Seeded;
-use crate::sort::all_positions;
 use crate::whole::{whole_codes, whole_range};
 use std::alloc::Global;
-use wd_columns::RowSource;
+use wd_columns::{RowSource, all_positions};
 use wd_value::{OutOfMemory, SortColumn, SortKey, Value};
 
 /// A number for each row, by its position. Two numbers are equal exactly where the rows' values in the column are the same; they don't
@@ -25,12 +24,11 @@ pub fn value_numbers(alloc: Global, rows: &RowSource, column: u16) -> Result<Cod
     match narrow_numbers(alloc, rows, column, &all)? {
         Some(coding) => Ok(coding),
         None => {
-            let null = Value::Null;
             let no = Value::Bool(false);
             let yes = Value::Bool(true);
             let seeded = Seeded::by_column(rows, column, &all);
-            let known = Known::new(alloc, seeded, &null, &no, &yes)?;
-            known_numbers(alloc, rows, column, &all, &null, known)
+            let known = Known::new(alloc, seeded, rows.null(), &no, &yes)?;
+            known_numbers(alloc, rows, column, &all, known)
         }
     }
 }
@@ -63,16 +61,14 @@ fn known_numbers<'a>(
     rows: &'a RowSource<'_>,
     column: u16,
     all: &[u64],
-    null: &'a Value,
     known: Known<'a>,
 ) -> Result<Coding, OutOfMemory>
     requires all { all.now ≡ all_of (length rows.now) }
-    requires null { null.now ≡ Value.Null }
     requires known { AreKnown known }
     ensures { IfOk result (λ c. AreNumbersBy (column ∷ []) rows.now c.bound c.codes.items) }
 {
     let mut known = known;
-    let codes = numbers_of(alloc, rows, column, all, null, &mut known)?;
+    let codes = numbers_of(alloc, rows, column, all, &mut known)?;
     let bound = known.values.len() as u64;
     Ok(Coding { codes, bound })
 }

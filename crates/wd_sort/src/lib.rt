@@ -24,5 +24,5 @@ pub use apart::value_numbers;
 pub use coding::{Coding, pair};
 pub use rows::{compare_rows_at, compare_source_at};
 pub use seeded::Seeded;
-pub use sort::{all_positions, is_sorted, sort_positions, sort_positions_in, sorted_positions};
+pub use sort::{is_sorted, sort_positions, sort_positions_in, sorted_positions};
 pub use wd_columns::row_in;

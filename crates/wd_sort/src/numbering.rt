@@ -21,12 +21,11 @@ pub fn value_codes(
 ) -> Result<Coding, OutOfMemory>
     ensures { IfOk result (λ c. IsCodingBelow (column ∷ []) rows.now positions.now c.bound c.codes.items) }
 {
-    let null = Value::Null;
     let no = Value::Bool(false);
     let yes = Value::Bool(true);
     let seeded = Seeded::by_column(rows, column.column, positions);
-    let known = Known::new(alloc, seeded, &null, &no, &yes)?;
-    known_codes(alloc, rows, column, positions, &null, known)
+    let known = Known::new(alloc, seeded, rows.null(), &no, &yes)?;
+    known_codes(alloc, rows, column, positions, known)
 }
 
 /// The ranks of the values, from the distinct values already known.
@@ -35,15 +34,13 @@ fn known_codes<'a>(
     rows: &'a RowSource<'_>,
     column: SortColumn,
     positions: &[u64],
-    null: &'a Value,
     known: Known<'a>,
 ) -> Result<Coding, OutOfMemory>
-    requires null { null.now ≡ Value.Null }
-    requires known { AreKnown known }
+    requires { AreKnown known }
     ensures { IfOk result (λ c. IsCodingBelow (column ∷ []) rows.now positions.now c.bound c.codes.items) }
 {
     let mut known = known;
-    let numbers = numbers_of(alloc, rows, column.column, positions, null, &mut known)?;
+    let numbers = numbers_of(alloc, rows, column.column, positions, &mut known)?;
     let ranks = ranks_of(alloc, &known.values, column.key)?;
     let codes = replace_numbers(numbers, &ranks);
     let bound = ranks.len() as u64;
@@ -56,17 +53,15 @@ pub fn numbers_of<'a>(
     rows: &'a RowSource<'_>,
     column: u16,
     positions: &[u64],
-    null: &'a Value,
     known: &mut Known<'a>,
 ) -> Result<Vec<u64>, OutOfMemory>
-    requires null { null.now ≡ Value.Null }
-    requires known { AreKnown known.old }
+    requires { AreKnown known.old }
     ensures known { OnOk result (AreKnown known.new) }
     ensures numbers { IfOk result (λ v. AreNumbers known.new column rows.now positions.now v.items) }
 {
     let mut numbers = Vec::with_capacity(alloc, positions.len())?;
     for i in 0..positions.len() {
-        let value = rows.value(positions[i], column, null);
+        let value = rows.value(positions[i], column as usize);
         let number = known.number_of(value)?;
         numbers.push(number)?;
     }

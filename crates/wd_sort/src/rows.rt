@@ -13,7 +13,8 @@ use wd_value::{Row, SortColumn, Value, compare};
 pub fn compare_rows_at(rows: &[Row], columns: &[SortColumn], p: u64, q: u64) -> Ordering
     ensures { result ≡ sorting.compare_rows_at columns.now (rows_of rows.now) p q }
 {
-    compare_source_at(&RowSource::of_rows(rows), columns, p, q)
+    let null = Value::Null;
+    compare_source_at(&RowSource::of_rows(rows, &null), columns, p, q)
 }
 
 /// As `compare_rows_at`, for rows in any form.
@@ -32,10 +33,9 @@ pub fn compare_source_at(rows: &RowSource, columns: &[SortColumn], p: u64, q: u6
 fn compare_in(rows: &RowSource, column: SortColumn, p: u64, q: u64) -> Ordering
     ensures { result ≡ order column.key (column_of (row_at rows.now p) column.column) (column_of (row_at rows.now q) column.column) }
 {
-    let null = Value::Null;
     compare(
-        rows.value(p, column.column, &null),
-        rows.value(q, column.column, &null),
+        rows.value(p, column.column as usize),
+        rows.value(q, column.column as usize),
         column.key,
     )
 }

@@ -44,8 +44,7 @@ impl BuildHasher for Seeded {
 
 /// Writes a text or a whole number of a column to a hasher; other values are not looked up.
 fn write_value(rows: &RowSource, column: u16, position: u64, all: &mut DefaultHasher) {
-    let null = Value::Null;
-    match rows.value(position, column, &null) {
+    match rows.value(position, column as usize) {
         Value::Int(whole) => whole.hash(all),
         Value::Text(text) => text.as_str().hash(all),
         Value::Null | Value::Bool(_) => {}

@@ -1,14 +1,13 @@
 ghost use Rattle.std.specs.Prelude.{◌≡◌, ◌↔◌, IfOk, IsSorted, IsTrue};
 ghost use Rattle.wd_sort.specs.Sorting as sorting;
 ghost use Rattle.wd_sort.specs.Sorting.{IsSortOf, IsStableSortOf};
-ghost use Rattle.wd_value.specs.Bags.{positions};
 ghost use Rattle.wd_value.specs.Rows.{rows_of};
 
 use crate::columns::sort_by_columns;
 use crate::rows::{compare_rows_at, compare_source_at};
 use std::alloc::Global;
-use wd_columns::RowSource;
-use wd_value::{OutOfMemory, Row, SortColumn};
+use wd_columns::{RowSource, all_positions};
+use wd_value::{OutOfMemory, Row, SortColumn, Value};
 
 /// Fewer positions than these are sorted by their rows: finding codes for them would take longer.
 const FEW: usize = 32;
@@ -38,7 +37,8 @@ pub fn sort_positions(
 ) -> Result<Vec<u64>, OutOfMemory>
     ensures { IfOk result (λ v. IsStableSortOf columns.now (rows_of rows.now) positions.now v.items) }
 {
-    sort_positions_in(alloc, &RowSource::of_rows(rows), columns, positions)
+    let null = Value::Null;
+    sort_positions_in(alloc, &RowSource::of_rows(rows, &null), columns, positions)
 }
 
 /// As `sort_positions`, for rows in any form.
@@ -81,16 +81,4 @@ pub fn is_sorted(rows: &[Row], columns: &[SortColumn], positions: &[u64]) -> boo
         }
     }
     true
-}
-
-/// The positions of `count` rows, from the first to the last.
-#[tactic(auto, using(crate::proofs::Positions::positions_push))]
-pub fn all_positions(alloc: Global, count: usize) -> Result<Vec<u64>, OutOfMemory>
-    ensures { IfOk result (λ v. v.items ≡ positions count) }
-{
-    let mut all = Vec::with_capacity(alloc, count)?;
-    for i in 0..count {
-        all.push(i as u64)?;
-    }
-    Ok(all)
 }

@@ -50,8 +50,7 @@ fn widen(range: Range, rows: &RowSource, column: u16, position: u64) -> Option<R
     ensures wider { IfSome result (λ r. IsWider range.least range.greatest r.least r.greatest) }
     ensures whole { IfSome result (λ r. IsWhole r.least r.greatest (column_of (row_at rows.now position) column)) }
 {
-    let null = Value::Null;
-    match rows.value(position, column, &null) {
+    match rows.value(position, column as usize) {
         Value::Null => Some(range),
         Value::Int(n) => Some(Range {
             least: range.least.min(*n),
@@ -87,9 +86,8 @@ fn whole_code_at(rows: &RowSource, column: SortColumn, position: u64, range: Ran
     requires whole { IsWhole range.least range.greatest (column_of (row_at rows.now position) column.column) }
     ensures { result ≡ spec.whole_code column.key range.least range.greatest (column_of (row_at rows.now position) column.column) }
 {
-    let null = Value::Null;
     whole_code(
-        rows.value(position, column.column, &null),
+        rows.value(position, column.column as usize),
         column.key,
         range,
     )

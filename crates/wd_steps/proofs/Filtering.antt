@@ -1,10 +1,7 @@
 -- The rows for which a condition is true, and the least fault of the condition, one row on and at the end.
 use Rattle.std.proofs.Common.{◌≡◌, ℕ, ◌+◌, ◌<◌, ◌≤◌, Bool, true, false, cond, List, [], ◌∷◌, ◌++◌, map, filter, take, length, Option, sym, ap, ◌∙◌, subst}
-use Rattle.std.specs.declared.alloc.Global.{Global}
-use Rattle.std.specs.declared.vec.Vec.{Vec}
 use Rattle.std.proofs.lemmas.List.{append-nil, map_push, take_all, take_more}
 use Rattle.std.proofs.lemmas.List.Elements.{filter-append}
-use Rattle.wd_value.specs.declared.value.Value.{Value}
 use Rattle.wd_value.specs.declared.value.Fault.{Fault}
 use Rattle.wd_value.specs.Rows.{Row, row_at, rows_at}
 use Rattle.wd_plan.specs.Expressions.{Expression, value_of}
@@ -13,10 +10,6 @@ use Rattle.wd_plan.specs.Outcomes.{filter_outcome, passes}
 use Rattle.wd_steps.specs.Faults.{with_result}
 use Rattle.wd_steps.proofs.Results.{least_fault-push}
 use Rattle.wd_steps.proofs.Rising.{AreRisingTo, rising_dropped, rising_kept}
-
--- a row of the code
-abbrev pub items : Vec Value Global → Row
-items row = row.items
 
 -- the rows kept of those that were looked at, and their least fault
 pub record AreCopied (condition : Expression) (seen kept : List Row) (fault : Option Fault) : Type 0 where

@@ -58,9 +58,6 @@ pub record IsGathered {X : Type 0} (rs : List (Result X Fault)) (values : List X
   pub values_are : values ≡ values_among rs
   pub fault_is : fault ≡ least_fault rs
 
-pub IsGathered-none : {X : Type 0} → IsGathered {X = X} [] [] None
-IsGathered-none = record { values_are = refl; fault_is = refl }
-
 module _ {X : Type 0} {rs more : List (Result X Fault)} {values values' : List X} {fault fault' : Option Fault} (r : Result X Fault) (g : IsGathered rs values fault) (longer : more ≡ rs ++ r ∷ []) where
   -- a value more
   pub IsGathered-more_ok : (x : X) → r ≡ Ok x → values' ≡ values ++ x ∷ [] → fault' ≡ fault → IsGathered more values' fault'
@@ -78,7 +75,7 @@ module _ {X : Type 0} {rs more : List (Result X Fault)} {values values' : List X
 
 -- ---- without a fault
 
-some_fault : (b : Bool) → cond b (Some DivisionByZero) (Some OutOfRange) ≡ None → ⊥
+pub some_fault : (b : Bool) → cond b (Some DivisionByZero) (Some OutOfRange) ≡ None → ⊥
 some_fault true e = cc e
 some_fault false e = cc e
 

@@ -1,6 +1,6 @@
 //! First occurrences of rows.
 
-ghost use Rattle.std.specs.Prelude.{◌≡◌, ◌≤◌, IfOk, length, map};
+ghost use Rattle.std.specs.Prelude.{◌≡◌, ◌≤◌, All, IfOk, length, map, true};
 ghost use Rattle.wd_sort.specs.Sorting.{IsSortOf};
 ghost use Rattle.wd_value.specs.Bags.{positions};
 ghost use Rattle.wd_value.specs.Keys.{ascending};
@@ -9,28 +9,18 @@ ghost use Rattle.wd_steps.specs.Repeats as spec;
 ghost use Rattle.wd_steps.specs.Repeats.{AreMarked, AreRepeats, IsRowSort};
 ghost use Rattle.wd_value.specs.Order as order;
 ghost use Rattle.wd_columns.specs.Moves.{AreDifferent, AreWithin};
-ghost use Rattle.wd_value.specs.Rows.{column_of, row_at, rows_at, rows_of};
+ghost use Rattle.wd_value.specs.Rows.{column_of, row_at, rows_at};
 
-use crate::own::have_width;
 use std::alloc::Global;
 use std::cmp::Ordering;
-use wd_columns::{RowSource, moved_rows};
-use wd_sort::{all_positions, sort_positions_in};
-use wd_value::{OutOfMemory, Row, SortColumn, SortKey, Value, compare};
+use wd_columns::{RowSource, all_positions};
+use wd_sort::sort_positions_in;
+use wd_value::{OutOfMemory, SortColumn, SortKey, Value, compare};
 
 const ASCENDING: SortKey = SortKey {
     desc: false,
     nulls_first: false,
 };
-
-/// The first of rows that are not distinct, in the order of the rows.
-pub fn distinct_rows(alloc: Global, rows: Vec<Row>) -> Result<Vec<Row>, OutOfMemory>
-    ensures { IfOk result (λ v. rows_of v.items ≡ distinct (rows_of rows.items)) }
-{
-    let kept = distinct_positions(alloc, &RowSource::of_rows(&rows))?;
-    let first = moved_rows(alloc, rows, &kept)?;
-    Ok(first)
-}
 
 /// The positions of the first of rows that are not distinct, in the order of the rows.
 pub fn distinct_positions(alloc: Global, rows: &RowSource) -> Result<Vec<u64>, OutOfMemory>
@@ -88,6 +78,18 @@ fn sorted_rows(alloc: Global, rows: &RowSource) -> Result<Vec<u64>, OutOfMemory>
     } else {
         sort_by_rows(alloc, rows)
     }
+}
+
+/// Whether each row has this number of values.
+fn have_width(rows: &RowSource, width: usize) -> bool
+    ensures { result ≡ true → All (λ row. length row ≡ width) rows.now }
+{
+    for position in 0..rows.len() {
+        if rows.width(position as u64) != width {
+            return false;
+        }
+    }
+    true
 }
 
 /// The positions of rows that have just these columns, sorted by all of them, which takes a column's values together.
@@ -151,18 +153,7 @@ fn compare_rows(rows: &RowSource, p: u64, q: u64) -> Ordering
 fn compare_column(rows: &RowSource, column: usize, p: u64, q: u64) -> Ordering
     ensures { result ≡ order.compare spec.ascending (column_of (row_at rows.now p) column) (column_of (row_at rows.now q) column) }
 {
-    let null = Value::Null;
-    let (a, b) = (
-        (&*rows).value_at(p, column, &null),
-        (&*rows).value_at(q, column, &null),
-    );
-    compare_values(a, b)
-}
-
-fn compare_values(a: &Value, b: &Value) -> Ordering
-    ensures { result ≡ order.compare spec.ascending a.now b.now }
-{
-    compare(a, b, ASCENDING)
+    compare(rows.value(p, column), rows.value(q, column), ASCENDING)
 }
 
 fn are_same(rows: &RowSource, p: u64, q: u64) -> bool

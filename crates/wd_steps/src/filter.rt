@@ -4,46 +4,16 @@ ghost use Rattle.std.specs.Prelude.{◌≡◌, IfOk, List, length};
 ghost use Rattle.wd_columns.specs.Moves.{AreDifferent, AreWithin};
 ghost use Rattle.wd_plan.specs.Expressions.{expression_of};
 ghost use Rattle.wd_plan.specs.Outcomes as spec;
-ghost use Rattle.wd_plan.specs.Outcomes.{outcome_of};
 ghost use Rattle.wd_plan.specs.Faults.{unless};
 ghost use Rattle.wd_steps.specs.Passing.{found_in};
-ghost use Rattle.wd_value.specs.Rows.{Row, rows_at, rows_of};
+ghost use Rattle.wd_value.specs.Rows.{Row, rows_at};
 
 use crate::fault::with_value;
-use crate::rows::copied_rows;
 use std::alloc::Global;
-use wd_columns::{RowSource, moved_rows};
-use wd_plan::{Expr, Outcome};
+use wd_columns::RowSource;
+use wd_plan::Expr;
 use wd_scalar::{is_true, value_at};
-use wd_value::{Fault, OutOfMemory, Row, Value};
-
-/// The rows for which the condition is true, in their order, or the least fault among all rows.
-pub fn filter_rows(alloc: Global, condition: &Expr, rows: Vec<Row>) -> Result<Outcome, OutOfMemory>
-    ensures { IfOk result (λ o. outcome_of o ≡ spec.filter_outcome (expression_of condition.now) (rows_of rows.items)) }
-{
-    match passing_positions(alloc, condition, &RowSource::of_rows(&rows))? {
-        Ok(kept) => {
-            let passing = moved_rows(alloc, rows, &kept)?;
-            Ok(Outcome::Rows(passing))
-        }
-        Err(fault) => Ok(Outcome::Fault(fault)),
-    }
-}
-
-/// Copies of the rows for which the condition is true, in their order, or the least fault among all rows. The rows stay where they
-/// are.
-pub fn copy_filtered(alloc: Global, condition: &Expr, rows: &[Row]) -> Result<Outcome, OutOfMemory>
-    ensures { IfOk result (λ o. outcome_of o ≡ spec.filter_outcome (expression_of condition.now) (rows_of rows.now)) }
-{
-    let rows = RowSource::of_rows(rows);
-    match passing_positions(alloc, condition, &rows)? {
-        Ok(kept) => {
-            let passing = copied_rows(alloc, &rows, &kept)?;
-            Ok(Outcome::Rows(passing))
-        }
-        Err(fault) => Ok(Outcome::Fault(fault)),
-    }
-}
+use wd_value::{Fault, OutOfMemory, Value};
 
 /// The positions of the rows for which the condition is true, in their order, or the least fault among all rows.
 pub fn passing_positions(

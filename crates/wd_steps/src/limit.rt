@@ -1,36 +1,19 @@
 //! What a Limit keeps.
 
-ghost use Rattle.std.specs.Prelude.{◌≡◌, IfOk, length, take_while};
+ghost use Rattle.std.specs.Prelude.{◌≡◌, length, take_while};
 ghost use Rattle.wd_plan.specs.Outcomes.{limited_rows, first_rows, peers};
 ghost use Rattle.wd_plan.specs.Plans.{limit_of};
 ghost use Rattle.wd_steps.specs.Cuts.{IsSliceOf};
-ghost use Rattle.wd_value.specs.Rows.{row_at, rows_of, rows_at};
+ghost use Rattle.wd_value.specs.Rows.{row_at, rows_at};
 
-use crate::rows::copied_rows;
-use std::alloc::Global;
 use wd_columns::RowSource;
 use wd_plan::Limit;
 use wd_sort::compare_source_at;
-use wd_value::{OutOfMemory, Row, SortColumn};
+use wd_value::SortColumn;
 
-/// What a Limit keeps of the rows as an ordering of their positions has them: those after the
+/// The part of an ordering of the rows' positions that stands for what a Limit keeps: those after the
 /// offset, and where there is a count the first of them, with ties also those that follow and tie
 /// with the last of these.
-pub fn limit_rows(
-    alloc: Global,
-    limit: &Limit,
-    rows: &[Row],
-    ordering: &[u64],
-) -> Result<Vec<Row>, OutOfMemory>
-    ensures { IfOk result (λ v. rows_of v.items ≡ limited_rows (limit_of limit.now) (rows_at (rows_of rows.now) ordering.now)) }
-{
-    let rows = RowSource::of_rows(rows);
-    let kept = kept_positions(limit, &rows, ordering);
-    let picked = copied_rows(alloc, &rows, kept)?;
-    Ok(picked)
-}
-
-/// The part of the ordering that stands for the rows which `limit_rows` keeps.
 pub fn kept_positions<'a>(limit: &Limit, rows: &RowSource, ordering: &'a [u64]) -> &'a [u64]
     ensures kept { rows_at rows.now result.now ≡ limited_rows (limit_of limit.now) (rows_at rows.now ordering.now) }
     ensures part { IsSliceOf ordering.now result.now }

@@ -15,7 +15,8 @@ use wd_value::{OutOfMemory, Row, Text, Value};
 pub fn answer_text(alloc: Global, names: &[Text], rows: &[Row]) -> Result<Vec<u8>, OutOfMemory>
     ensures { IfOk result (λ v. v.items ≡ spec.answer_text names.now (rows_of rows.now)) }
 {
-    answer_text_from(alloc, names, &RowSource::of_rows(rows))
+    let null = Value::Null;
+    answer_text_from(alloc, names, &RowSource::of_rows(rows, &null))
 }
 
 /// As `answer_text`, for rows in any form.
@@ -83,8 +84,7 @@ fn put_column(
     ensures fields { partial_of fields.old ≡ [] → OnOk result (fields_of fields.new ≡ fields_of fields.old ++ spec.value_text (column_of (row_at rows.now position) column) ∷ []) }
     ensures partial { OnOk result (partial_of fields.new ≡ []) }
 {
-    let null = Value::Null;
-    put_value(fields, rows.value_at(position, column, &null))
+    put_value(fields, rows.value(position, column))
 }
 
 // Adds the field of a value.

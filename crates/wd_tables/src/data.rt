@@ -33,7 +33,7 @@ pub fn load(alloc: Global, table: &Table, text: &[u8]) -> Result<Vec<Row>, DataE
     ensures refused { IfErr result (λ e. HasCause (table_of table.now) text.now e) }
 {
     let columns = load_columns(alloc, table, text)?;
-    let rows = columns.into_rows(alloc, 0)?;
+    let rows = columns.into_rows(alloc)?;
     Ok(rows)
 }
 

@@ -9,10 +9,10 @@ ghost use Rattle.wd_value.specs.Rows.{column_of, columns_of, row_at, same_row};
 ghost use Rattle.wd_value.specs.Values.{same as same_values};
 
 use std::alloc::Global;
-use wd_columns::{Columns, RowSource};
+use wd_columns::{Columns, RowSource, all_positions};
 use wd_schema::{Key, is_null};
-use wd_sort::{all_positions, compare_source_at, sort_positions_in};
-use wd_value::{OutOfMemory, SortColumn, SortKey, Value, same};
+use wd_sort::{compare_source_at, sort_positions_in};
+use wd_value::{OutOfMemory, SortColumn, SortKey, same};
 
 /// The first row that repeats an earlier one in some key.
 pub fn first_repeat(alloc: Global, keys: &[Key], rows: &Columns) -> Result<Option<u64>, OutOfMemory>
@@ -126,8 +126,10 @@ fn are_same(columns: &[u16], rows: &Columns, p: u64, q: u64) -> bool
 fn are_same_at(column: u16, rows: &Columns, p: u64, q: u64) -> bool
     ensures { result ≡ same_values (column_of (row_at rows.now p) column) (column_of (row_at rows.now q) column) }
 {
-    let null = Value::Null;
-    same(rows.value(p, column, &null), rows.value(q, column, &null))
+    same(
+        rows.value(p, column as usize),
+        rows.value(q, column as usize),
+    )
 }
 
 fn has_null(columns: &[u16], rows: &Columns, p: u64) -> bool
@@ -144,6 +146,5 @@ fn has_null(columns: &[u16], rows: &Columns, p: u64) -> bool
 fn is_null_at(column: u16, rows: &Columns, p: u64) -> bool
     ensures { result ≡ meets.is_null (column_of (row_at rows.now p) column) }
 {
-    let null = Value::Null;
-    is_null(rows.value(p, column, &null))
+    is_null(rows.value(p, column as usize))
 }

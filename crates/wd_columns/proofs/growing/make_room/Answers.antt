@@ -1,7 +1,6 @@
 use Rattle.std.proofs.Common.{◌∙◌, ap, arith}
 use Rattle.std.proofs.lemmas.List.{length-set, take_all}
 use Rattle.std.proofs.Math.Seq.{map-set_same}
-use Rattle.wd_columns.specs.Room.{HasRoom}
 use Rattle.wd_columns.proofs.Places.{items}
 use Rattle.wd_columns.proofs.Rooms.{one_more}
 use Rattle.wd_columns.proofs.growing.make_room.Goals as goal

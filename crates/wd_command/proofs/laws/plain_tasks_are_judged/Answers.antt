@@ -1,4 +1,4 @@
-use Rattle.std.proofs.Common.{arith, ◌≡◌, ◌∙◌, ℕ, Bool, false, true, zero, suc, List, [], ◌∷◌, ◌++◌, ap, codes, drop, map, refl, sym, subst}
+use Rattle.std.proofs.Common.{arith, ◌≡◌, ◌∙◌, ℕ, Bool, false, true, zero, suc, List, [], ◌∷◌, ap, codes, drop, map, refl, sym, subst}
 use Rattle.std.specs.List.{Any, Contains}
 use Rattle.std.specs.Prelude.{unwrap_or}
 use Rattle.std.specs.Str.{bytes_eq}

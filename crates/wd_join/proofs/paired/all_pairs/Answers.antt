@@ -1,4 +1,4 @@
-use Rattle.std.proofs.Common.{◌≡◌, ◌∙◌, ◌++◌, [], ◌∷◌, ◌<◌, ◌≤◌, ap, length, map, take, rules, arith}
+use Rattle.std.proofs.Common.{◌∙◌, ◌++◌, [], ◌∷◌, ◌<◌, ◌≤◌, ap, length, take, arith}
 use Rattle.std.proofs.lemmas.List.{map_push}
 use Rattle.wd_value.specs.Rows.{row_at}
 use Rattle.wd_plan.specs.Outcomes.{pairs}

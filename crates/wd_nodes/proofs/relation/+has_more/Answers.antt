@@ -1,4 +1,4 @@
-use Rattle.std.proofs.Common.{◌≡◌, ◌/◌, ◌<◌, ◌∙◌, length, nat_lt, sym, ap, rules, arith}
+use Rattle.std.proofs.Common.{◌≡◌, ◌/◌, ◌<◌, ◌∙◌, length, nat_lt, rules}
 use Rattle.wd_nodes.specs.Relation.{relation_of, stored_rows_of}
 use Rattle.wd_nodes.proofs.Enough.{more_pairs, no_more_pairs}
 use Rattle.wd_nodes.proofs.relation.+has_more.Goals as goal

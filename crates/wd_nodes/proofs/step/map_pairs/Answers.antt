@@ -22,6 +22,7 @@ returns-in_ok-picked-in-Some c =
     let named = ap (λ cs. map (columns_of cs) (rows_paired first second pairs)) c.deref.ensures.value in
     let on_left = ap (λ (ls : List Row). map (columns_of columns) (rows_paired ls second pairs)) c.source-first.ensures in
     let on_right = ap (λ (rs : List Row). map (columns_of columns) (rows_paired left rs pairs)) c.source-second.ensures in
-    ap Ok (picked ∙ named ∙ on_left ∙ on_right)
+    c.from_columns.ensures c.args.tables.now
+    ∙ ap Ok (picked ∙ named ∙ on_left ∙ on_right)
     ∙ sym (columns_outcome columns rows)
     ∙ ap (λ outputs. map_outcome outputs rows) (sym shown)

@@ -11,6 +11,7 @@ returns c =
     let columns = rows_of c.self.inside.columns.items in
     let n = c.self.inside.count in
     let long : length c.args.self ≡ n = ap length (sym c.self.view_is) ∙ count columns n in
-    (λ i. rows_along (c.in_ok-picked.ensures i) (length ps))
+    c.new.ensures
+    ∙ (λ i. rows_along (c.in_ok-picked.ensures i) (length ps))
     ∙ picked_rows columns n ps (subst (λ m. AreWithin m ps) long c.requires.within)
     ∙ ap (λ rows. rows_at rows ps) c.self.view_is

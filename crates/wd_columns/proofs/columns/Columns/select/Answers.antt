@@ -8,4 +8,4 @@ pub returns : goal.returns
 returns c =
     let places = c.args.columns.now in
     let n = c.self.inside.count in
-    ap (λ columns. rows_along columns n) c.in_ok-picked.ensures ∙ selected (rows_of c.self.inside.columns.items) places n ∙ ap (map (columns_of places)) c.self.view_is
+    c.new.ensures ∙ ap (λ columns. rows_along columns n) c.in_ok-picked.ensures ∙ selected (rows_of c.self.inside.columns.items) places n ∙ ap (map (columns_of places)) c.self.view_is

@@ -1,7 +1,6 @@
 use Rattle.std.proofs.Common.{◌≡◌, ◌∙◌, length, sym, ap, rules}
 use Rattle.std.proofs.lemmas.List.{length-map}
 use Rattle.wd_value.specs.Rows.{row_at, rows_of}
-use Rattle.wd_columns.specs.Along.{row_along}
 use Rattle.wd_columns.proofs.RowsAlong.{at, past_is, row_is}
 use Rattle.wd_columns.proofs.Places.{items}
 use Rattle.wd_columns.proofs.columns.Columns.width.Goals as goal

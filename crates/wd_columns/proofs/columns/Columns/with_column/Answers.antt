@@ -8,4 +8,4 @@ pub returns : goal.returns
 returns c =
     let values = c.args.values.items in
     let n = c.self.inside.count in
-    ap (λ columns. rows_along columns n) c.in_ok-grown.ensures ∙ one_column_more (rows_of c.self.inside.columns.items) values n ∙ ap (λ rows. with_values rows values) c.self.view_is
+    c.new.ensures ∙ ap (λ columns. rows_along columns n) c.in_ok-grown.ensures ∙ one_column_more (rows_of c.self.inside.columns.items) values n ∙ ap (λ rows. with_values rows values) c.self.view_is

@@ -1,4 +1,4 @@
-use Rattle.std.proofs.Common.{◌∙◌, ap, refl}
+use Rattle.std.proofs.Common.{◌∙◌, ap}
 use Rattle.wd_frame.specs.Slides.{first_of_two, shown}
 use Rattle.wd_frame.proofs.Joining.{join_firsts}
 use Rattle.wd_frame.proofs.extreme.ExtremeJoin.join.Goals as goal

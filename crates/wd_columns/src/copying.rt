@@ -1,0 +1,125 @@
+//! Copies of rows.
+
+ghost use Rattle.std.specs.Prelude.{◌≡◌, ◌++◌, All, IfOk, OnOk, length, map, true};
+ghost use Rattle.wd_value.specs.Bags as bags;
+ghost use Rattle.wd_value.specs.Rows.{column_of, row_at, rows_at, rows_of};
+
+use crate::columns::Columns;
+use crate::own::OwnRows;
+use crate::source::RowSource;
+use std::alloc::Global;
+use wd_value::{OutOfMemory, Row, Value};
+
+/// Copies of the rows at these positions, in their order: kept column by column where they have as many values, and else row by row.
+pub fn copy_rows(alloc: Global, rows: &RowSource, positions: &[u64]) -> Result<OwnRows, OutOfMemory>
+    ensures { IfOk result (λ r. r ≡ rows_at rows.now positions.now) }
+{
+    let width = match positions.first() {
+        Some(position) => rows.width(*position),
+        None => 0,
+    };
+    if have_width(rows, positions, width) {
+        let columns = copied_columns(alloc, rows, positions, width)?;
+        Ok(OwnRows::of_columns(columns))
+    } else {
+        let list = copied_rows(alloc, rows, positions)?;
+        Ok(OwnRows::of_rows(list))
+    }
+}
+
+/// Copies of all rows, kept likewise.
+pub fn copy_all(alloc: Global, rows: &RowSource) -> Result<OwnRows, OutOfMemory>
+    ensures { IfOk result (λ r. r ≡ rows.now) }
+{
+    let all = all_positions(alloc, rows.len())?;
+    copy_rows(alloc, rows, &all)
+}
+
+/// The first so many positions, in order.
+#[tactic(auto, using(crate::proofs::Positions::positions_push))]
+pub fn all_positions(alloc: Global, count: usize) -> Result<Vec<u64>, OutOfMemory>
+    ensures { IfOk result (λ v. v.items ≡ bags.positions count) }
+{
+    let mut all = Vec::with_capacity(alloc, count)?;
+    for position in 0..count {
+        all.push(position as u64)?;
+    }
+    Ok(all)
+}
+
+/// Whether each row at these positions has this number of values.
+fn have_width(rows: &RowSource, positions: &[u64], width: usize) -> bool
+    ensures { result ≡ true → All (λ row. length row ≡ width) (rows_at rows.now positions.now) }
+{
+    positions
+        .iter()
+        .all(|position| rows.width(*position) == width)
+}
+
+/// The rows at these positions, all of this width, column by column.
+fn copied_columns(
+    alloc: Global,
+    rows: &RowSource,
+    positions: &[u64],
+    width: usize,
+) -> Result<Columns, OutOfMemory>
+    requires { All (λ row. length row ≡ width) (rows_at rows.now positions.now) }
+    ensures { IfOk result (λ c. c ≡ rows_at rows.now positions.now) }
+{
+    let mut columns = Vec::with_capacity(alloc, width)?;
+    for column in 0..width {
+        columns.push(copied_column(alloc, rows, positions, column)?)?;
+    }
+    Ok(Columns::new(columns, positions.len()))
+}
+
+/// The values in a column of the rows at these positions.
+fn copied_column(
+    alloc: Global,
+    rows: &RowSource,
+    positions: &[u64],
+    column: usize,
+) -> Result<Vec<Value>, OutOfMemory>
+    ensures { IfOk result (λ v. v.items ≡ map (λ row. column_of row column) (rows_at rows.now positions.now)) }
+{
+    let mut values = Vec::with_capacity(alloc, positions.len())?;
+    for position in positions {
+        values.push(rows.value(*position, column).copy(alloc)?)?;
+    }
+    Ok(values)
+}
+
+/// The rows at these positions as a list.
+fn copied_rows(alloc: Global, rows: &RowSource, positions: &[u64]) -> Result<Vec<Row>, OutOfMemory>
+    ensures { IfOk result (λ v. rows_of v.items ≡ rows_at rows.now positions.now) }
+{
+    let mut picked = Vec::with_capacity(alloc, positions.len())?;
+    for position in positions {
+        picked.push(copied_row(alloc, rows, *position)?)?;
+    }
+    Ok(picked)
+}
+
+/// A copy of the row at a position.
+pub fn copied_row(alloc: Global, rows: &RowSource, position: u64) -> Result<Row, OutOfMemory>
+    ensures { IfOk result (λ r. r.items ≡ row_at rows.now position) }
+{
+    let mut row = Vec::with_capacity(alloc, rows.width(position))?;
+    push_values(alloc, &mut row, rows, position)?;
+    Ok(row)
+}
+
+/// Appends copies of the values of the row at a position.
+pub fn push_values(
+    alloc: Global,
+    row: &mut Row,
+    rows: &RowSource,
+    position: u64,
+) -> Result<(), OutOfMemory>
+    ensures { OnOk result (row.new.items ≡ row.old.items ++ row_at rows.now position) }
+{
+    for column in 0..rows.width(position) {
+        row.push(rows.value(position, column).copy(alloc)?)?;
+    }
+    Ok(())
+}

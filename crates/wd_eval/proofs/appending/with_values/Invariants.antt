@@ -1,6 +1,0 @@
-use Rattle.std.proofs.Common.{◌≡◌}
-use Rattle.wd_eval.specs.Beside.{with_columns}
-use Rattle.wd_eval.proofs.appending.with_values.Given as goal
-
-abbrev pub invariant-loop-column : goal.invariant-loop-column
-invariant-loop-column l = l.extended ≡ with_columns l.fn.rows l.yielded

@@ -1,6 +1,0 @@
-use Rattle.std.proofs.Common.{◌≡◌, ◌++◌, take}
-use Rattle.wd_value.specs.Rows.{row_at}
-use Rattle.wd_steps.proofs.rows.push_values.Given as goal
-
-abbrev pub invariant-loop-column : goal.invariant-loop-column
-invariant-loop-column l = l.row.items ≡ l.fn.row.items ++ take l.column (row_at l.rows l.position)
