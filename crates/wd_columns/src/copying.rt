@@ -101,7 +101,7 @@ fn copied_rows(alloc: Global, rows: &RowSource, positions: &[u64]) -> Result<Vec
 }
 
 /// A copy of the row at a position.
-pub fn copied_row(alloc: Global, rows: &RowSource, position: u64) -> Result<Row, OutOfMemory>
+fn copied_row(alloc: Global, rows: &RowSource, position: u64) -> Result<Row, OutOfMemory>
     ensures { IfOk result (λ r. r.items ≡ row_at rows.now position) }
 {
     let mut row = Vec::with_capacity(alloc, rows.width(position))?;

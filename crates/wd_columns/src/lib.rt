@@ -18,7 +18,7 @@ mod source;
 mod taking;
 
 pub use columns::Columns;
-pub use copying::{all_positions, copied_row, copy_all, copy_rows, push_values};
+pub use copying::{all_positions, copy_all, copy_rows, push_values};
 pub use growing::{empty_columns, push_row};
 pub use own::OwnRows;
 pub use source::{RowSource, row_in};

@@ -1,6 +1,6 @@
 -- A set's groups are the partitions of the rows by the set's columns, and each begins at the first position of its rows.
 use Rattle.std.proofs.Common.{◌≡◌, ℕ, zero, suc, ◌+◌, ◌<◌, ◌≤◌, Bool, true, false, cond, not, ◌&&◌, ◌||◌, List, [], ◌∷◌, ◌++◌, map, filter, length, take, refl, sym, subst, ◌∙◌, ap, arith, Option, None, Some, Result, Ok}
-use Rattle.std.specs.List.{list_any, range_with_len}
+use Rattle.std.specs.List.{list_any}
 use Rattle.std.specs.Prelude.{flat_map}
 use Rattle.std.proofs.Math.Seq.{take-suc}
 use Rattle.std.proofs.lemmas.List.{flat_map_more, length-append, length-map, map-append, map_push, take_all}
@@ -13,6 +13,8 @@ use Rattle.wd_value.specs.Bags.{positions}
 use Rattle.wd_value.specs.Rows.{Row, column_of, columns_of, row_at, rows_at, same_row}
 use Rattle.wd_value.specs.Values.{same}
 use Rattle.wd_value.proofs.SameLaws.{same_row-Decides}
+use Rattle.wd_columns.proofs.Copied.{all_rows}
+use Rattle.wd_columns.proofs.Positions.{positions_push}
 use Rattle.wd_plan.specs.Faults.{and_then, least_fault, unless, values_among}
 use Rattle.wd_plan.specs.Outcomes.{distinct, group_row, group_value, rows_of_group, set_rows, shown}
 use Rattle.wd_plan.specs.Partitions.{members, partition_of}
@@ -26,25 +28,8 @@ use Rattle.wd_group.specs.Sets.{row_from, row_over, row_width, rows_from, set_cl
 
 -- ---- positions
 
-pub range_end : (a n : ℕ) → range_with_len a (suc n) ≡ range_with_len a n ++ ((a + n) ∷ [])
-range_end a zero = ap (λ x. x ∷ []) (omega arith)
-range_end a (suc n) =
-    let e : (a + 1) + n ≡ a + suc n = omega arith in
-    ap (λ l. a ∷ l) (range_end (a + 1) n ∙ ap (λ x. range_with_len (a + 1) n ++ (x ∷ [])) e)
-
 pub one_more : (n : ℕ) → positions (suc n) ≡ positions n ++ (n ∷ [])
-one_more n = range_end 0 n ∙ ap (λ x. positions n ++ (x ∷ [])) (omega arith)
-
-rows_from_place : (rows : List Row) (xs : List Row) (a : ℕ) → ((k : ℕ) → k < length xs → row_at rows (a + k) ≡ row_at xs k) → map (row_at rows) (range_with_len a (length xs)) ≡ xs
-rows_from_place rows [] a h = refl
-rows_from_place rows (x ∷ xs) a h =
-    let head : row_at rows a ≡ x = ap (row_at rows) (omega arith) ∙ h 0 (omega arith) in
-    let tail = rows_from_place rows xs (a + 1) (λ k l. ap (row_at rows) (omega arith) ∙ h (suc k) (omega arith)) in
-    λ i. head i ∷ tail i
-
--- the rows at all positions
-pub all_rows : (rows : List Row) → rows_at rows (positions (length rows)) ≡ rows
-all_rows rows = rows_from_place rows rows 0 (λ k l. ap (row_at rows) (omega arith))
+one_more n = ap positions (omega arith) ∙ positions_push n
 
 first_rows : (rows : List Row) (n : ℕ) → n ≤ length rows → take n rows ≡ map (row_at rows) (positions n)
 first_rows rows n h = ap (take n) (sym (all_rows rows)) ∙ take-map-range_with_len (row_at rows) 0 (length rows) n h

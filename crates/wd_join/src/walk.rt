@@ -12,7 +12,7 @@ use std::alloc::Global;
 use std::cmp::Ordering;
 use wd_columns::{RowSource, all_positions};
 use wd_sort::sort_positions_in;
-use wd_value::{OutOfMemory, SortColumn, SortKey, Value, compare};
+use wd_value::{OutOfMemory, SortColumn, SortKey, compare};
 
 /// Consecutive positions in an order, from `start` up to `end`.
 #[derive(Clone, Copy)]

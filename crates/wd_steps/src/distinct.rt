@@ -15,7 +15,7 @@ use std::alloc::Global;
 use std::cmp::Ordering;
 use wd_columns::{RowSource, all_positions};
 use wd_sort::sort_positions_in;
-use wd_value::{OutOfMemory, SortColumn, SortKey, Value, compare};
+use wd_value::{OutOfMemory, SortColumn, SortKey, compare};
 
 const ASCENDING: SortKey = SortKey {
     desc: false,
