@@ -29,7 +29,7 @@ use Rattle.wd_group.specs.Sets.{row_from, row_over, row_width, rows_from, set_cl
 -- ---- positions
 
 pub one_more : (n : ℕ) → positions (suc n) ≡ positions n ++ (n ∷ [])
-one_more n = ap positions (omega arith) ∙ positions_push n
+one_more n = (let next : suc n ≡ n + 1 = omega arith in ap positions next) ∙ positions_push n
 
 first_rows : (rows : List Row) (n : ℕ) → n ≤ length rows → take n rows ≡ map (row_at rows) (positions n)
 first_rows rows n h = ap (take n) (sym (all_rows rows)) ∙ take-map-range_with_len (row_at rows) 0 (length rows) n h
