@@ -8,6 +8,12 @@ use std::alloc::{AllocError, Global};
 pub fn read_words<'a>(alloc: Global, words: &'a [&'a str]) -> Result<Asked<'a>, Error> {
     let mut command = command_line(alloc)?;
     let matches = command.try_get_matches_from_mut(words)?;
+    let asked = asked_in(alloc, &matches)?;
+    Ok(asked)
+}
+
+/// What the words request.
+fn asked_in<'a>(alloc: Global, matches: &ArgMatches<'a>) -> Result<Asked<'a>, AllocError> {
     if matches.subcommand_matches("schema").is_some() {
         return Ok(Asked::Catalog);
     }
@@ -15,9 +21,9 @@ pub fn read_words<'a>(alloc: Global, words: &'a [&'a str]) -> Result<Asked<'a>, 
         return Ok(Asked::Lock(files_in(alloc, lock)?));
     }
     if matches.get_flag("show-respelled") {
-        return Ok(Asked::Respelled(files_in(alloc, &matches)?));
+        return Ok(Asked::Respelled(files_in(alloc, matches)?));
     }
-    Ok(Asked::Report(request_in(alloc, &matches)?))
+    Ok(Asked::Report(request_in(alloc, matches)?))
 }
 
 /// The schema and the paths among the words.
@@ -117,61 +123,68 @@ fn lock_command<'a>(alloc: Global) -> Result<Command<'a>, AllocError> {
 
 // The program with its flags.
 fn with_flags<'a>(alloc: Global, command: Command<'a>) -> Result<Command<'a>, AllocError> {
-    let fix = Arg::new(alloc, "fix")
-        .long("fix")
-        .action(ArgAction::SetTrue)
-        .help(
+    command
+        .arg(flag(
+            alloc,
+            "fix",
             "Writes the sort keys into the files; with the path -, prints what standard input becomes",
-        );
-    let allow = Arg::new(alloc, "allow-unknown")
-        .long("allow-unknown")
+        ))?
+        .arg(flag(
+            alloc,
+            "allow-unknown",
+            "Queries that may tie pass: the status is 0 where no other is open",
+        ))?
+        .arg(flag(
+            alloc,
+            "baseline-write",
+            "Writes the baseline: all that is found now is known",
+        ))?
+        .arg(flag(
+            alloc,
+            "show-respelled",
+            "Prints, in place of a report, each schema's tables as queries are judged over them",
+        ))
+}
+
+// A word that stands or not.
+fn flag<'a>(alloc: Global, name: &'a str, help: &'a str) -> Arg<'a> {
+    Arg::new(alloc, name)
+        .long(name)
         .action(ArgAction::SetTrue)
-        .help("Queries that may tie pass: the status is 0 where no other is open");
-    let write = Arg::new(alloc, "baseline-write")
-        .long("baseline-write")
-        .action(ArgAction::SetTrue)
-        .help("Writes the baseline: all that is found now is known");
-    let respelled = Arg::new(alloc, "show-respelled")
-        .long("show-respelled")
-        .action(ArgAction::SetTrue)
-        .help("Prints, in place of a report, each schema's tables as queries are judged over them");
-    command.arg(fix)?.arg(allow)?.arg(write)?.arg(respelled)
+        .help(help)
+}
+
+// A word that another follows.
+fn option<'a>(alloc: Global, name: &'a str, value: &'a str, help: &'a str) -> Arg<'a> {
+    Arg::new(alloc, name)
+        .long(name)
+        .value_name(value)
+        .help(help)
 }
 
 fn schema_word<'a>(alloc: Global) -> Arg<'a> {
-    Arg::new(alloc, "schema")
-        .long("schema")
-        .value_name("FILE")
-        .help("A file of CREATE TABLE statements, as pg_dump -s writes them too, for all queries")
+    let help = "A file of CREATE TABLE statements, as pg_dump -s writes them too, for all queries";
+    option(alloc, "schema", "FILE", help)
 }
 
 fn format_word<'a>(alloc: Global) -> Arg<'a> {
-    Arg::new(alloc, "format")
-        .long("format")
-        .value_name("FORMAT")
-        .help("text, for a person; json, an object a line; github, annotations of a workflow")
-        .value_parser(FORMATS.as_slice())
+    let help = "text, for a person; json, an object a line; github, annotations of a workflow";
+    option(alloc, "format", "FORMAT", help).value_parser(FORMATS.as_slice())
 }
 
 fn page_word<'a>(alloc: Global) -> Arg<'a> {
-    Arg::new(alloc, "html").long("html").value_name("FILE").help(
-        "Writes a page of HTML that shows all queries, with what is found of each",
-    )
+    let help = "Writes a page of HTML that shows all queries, with what is found of each";
+    option(alloc, "html", "FILE", help)
 }
 
 fn baseline_word<'a>(alloc: Global) -> Arg<'a> {
-    Arg::new(alloc, "baseline")
-        .long("baseline")
-        .value_name("FILE")
-        .help("A file of findings that are known: only others count")
+    let help = "A file of findings that are known: only others count";
+    option(alloc, "baseline", "FILE", help)
 }
 
 fn colour_word<'a>(alloc: Global) -> Arg<'a> {
-    Arg::new(alloc, "color")
-        .long("color")
-        .value_name("WHEN")
-        .help("Colours in text: auto, where a terminal shows it; always; never")
-        .value_parser(COLOURS.as_slice())
+    let help = "Colours in text: auto, where a terminal shows it; always; never";
+    option(alloc, "color", "WHEN", help).value_parser(COLOURS.as_slice())
 }
 
 fn paths_words<'a>(alloc: Global) -> Arg<'a> {
