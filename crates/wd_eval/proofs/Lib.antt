@@ -9,6 +9,8 @@ pub mod Wrong
 pub mod Nodes
 pub mod Stable
 pub mod Tying
+pub mod ClassTurn
+pub mod StepUnder
 pub mod Putting
 pub mod SomeSort
 pub mod SomeTied

@@ -21,7 +21,7 @@ use Rattle.wd_eval.proofs.Serving.{all_from_each, bare_stepped, indexes_more}
 
 -- ---- the classes of a step
 
-lawful_all : (classes : List ClassRule) (input : RowsOrFault) (turned : Option Turned) (first : ℕ) (own : List (List ℕ)) → AreSortedOver classes input turned first (length classes) own → AreOrderingsOver classes input own
+pub lawful_all : (classes : List ClassRule) (input : RowsOrFault) (turned : Option Turned) (first : ℕ) (own : List (List ℕ)) → AreSortedOver classes input turned first (length classes) own → AreOrderingsOver classes input own
 lawful_all classes (Ok rows) turned first own s = record {
   number = s.long;
   each = λ k h. IsOrdering-from_given (class_among classes k) rows (turn_of turned (first + k)) (ordering_at own k) (s.each k h);

@@ -87,7 +87,7 @@ module _ (instance : Instance) (turned : Option Turned) where
       )
 
 -- orderings after a plan's own change no step's size
-large-append : (instance : Instance) (plan : PlanTree) (choice more : List (List ℕ)) → ordering_count plan ≤ length choice → has_large_step plan instance (choice ++ more) ≡ has_large_step plan instance choice
+pub large-append : (instance : Instance) (plan : PlanTree) (choice more : List (List ℕ)) → ordering_count plan ≤ length choice → has_large_step plan instance (choice ++ more) ≡ has_large_step plan instance choice
 large-append instance (Scan table columns) choice more h = refl
 large-append instance (Join condition left right) choice more h =
     let n = ordering_count left in

@@ -11,4 +11,5 @@ pub mod Tied
 pub mod Ties
 pub mod Walks
 pub mod Runs
+pub mod Turning
 pub mod Laws

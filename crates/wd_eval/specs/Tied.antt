@@ -29,6 +29,10 @@ abbrev pub turn_of : Option Turned → ℕ → Turn
 turn_of None number = AsGiven
 turn_of (Some t) number = if nat_eq t.number number then t.turn else AsGiven
 
+-- the ordering with this number, in which tied rows are taken in a turn
+abbrev pub turned_at : Turn → ℕ → Turned
+turned_at turn number = record { number = number; turn = turn }
+
 -- each ordering is the sorted one over its step's input rows, as this choice makes them; the plan's first ordering has the
 -- number `first`
 abbrev pub AreTied : PlanTree → Instance → Option Turned → ℕ → List (List ℕ) → Type 0
@@ -69,7 +73,7 @@ IsTurnedOrRefused plan instance turned r = OkOr (λ c. IsValidTurnedChoice plan 
 -- ---- where that ordering is flipped: it takes the positions last to first
 
 abbrev pub reversed : ℕ → Turned
-reversed number = record { number = number; turn = Reversed }
+reversed number = turned_at Reversed number
 
 abbrev pub reverse_at : Option ℕ → Option Turned
 reverse_at flipped = option_map reversed flipped

@@ -37,7 +37,7 @@ pub(crate) fn with_calls(
 }
 
 /// Each row with its values in the columns after its own.
-fn with_columns(rows: OwnRows, columns: Vec<CallColumn>) -> Result<OwnRows, OutOfMemory>
+pub(crate) fn with_columns(rows: OwnRows, columns: Vec<CallColumn>) -> Result<OwnRows, OutOfMemory>
     ensures { IfOk result (λ r. r ≡ spec.with_columns rows columns.items) }
 {
     let mut extended = rows;
@@ -65,7 +65,7 @@ fn values_beside(
 }
 
 /// Whether a column has a sum that is out of range.
-fn is_out_of_range(columns: &[CallColumn]) -> bool
+pub(crate) fn is_out_of_range(columns: &[CallColumn]) -> bool
     ensures { result ≡ list_any (λ column. column.out_of_range) columns.now }
 {
     columns.iter().any(|column| column.out_of_range)

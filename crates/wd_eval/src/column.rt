@@ -46,7 +46,7 @@ fn call_column(
 }
 
 /// The values of a call at all rows.
-fn column_of(
+pub(crate) fn column_of(
     alloc: Global,
     call: &Call,
     rows: &RowSource,

@@ -209,7 +209,7 @@ pub fn eval_turned(
 
 /// The choice that leaves rows that tie as they are, but for one ordering that may take them in another turn, and what the plan's
 /// last step gives under it.
-fn walk_turned(
+pub(crate) fn walk_turned(
     alloc: Global,
     plan: &Plan,
     schema: &Schema,

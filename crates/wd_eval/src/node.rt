@@ -102,7 +102,7 @@ fn class_count(plan: &Plan) -> usize
 }
 
 /// What the plan's last step gives over rows.
-fn step_over_rows(
+pub(crate) fn step_over_rows(
     alloc: Global,
     plan: &Plan,
     tables: &Tables,

@@ -8,7 +8,7 @@ ghost use Rattle.wd_value.specs.declared.value.Value.TheVariants as value;
 
 use crate::stored::StoredRows;
 use std::marker::Model;
-use wd_columns::{Columns, RowSource};
+use wd_columns::{Columns, OwnRows, RowSource};
 use wd_value::{Row, Value};
 
 /// How tables are kept.
@@ -16,9 +16,10 @@ use wd_value::{Row, Value};
 enum KeptTables<'a> {
     ByRow(&'a [Vec<Row>]),
     ByColumn(&'a [Columns]),
+    Own(&'a [OwnRows]),
 }
 
-/// The tables of an instance, which are kept row by row or column by column. Contracts see the instance.
+/// The tables of an instance, which are kept row by row or column by column, or are rows of their own. Contracts see the instance.
 #[derive(Drop)]
 pub struct Tables<'a> {
     kept: KeptTables<'a>,
@@ -62,6 +63,16 @@ impl<'a> Tables<'a> {
         }
     }
 
+    /// Tables that are rows of their own.
+    pub fn of_own(tables: &'a [OwnRows]) -> Tables<'a>
+        ensures { result ≡ tables.now }
+    {
+        Tables {
+            kept: KeptTables::Own(tables),
+            null: Value::Null,
+        }
+    }
+
     /// The table with this number, without rows past the last table.
     pub fn table(&self, number: u16) -> RowSource<'_>
         ensures { result ≡ table_at self.now number }
@@ -94,6 +105,7 @@ fn table_in<'a>(kept: &'a KeptTables, number: usize, null: &'a Value) -> RowSour
     match kept {
         KeptTables::ByRow(tables) => list_in(tables, number, null),
         KeptTables::ByColumn(tables) => columns_in(tables, number, null),
+        KeptTables::Own(tables) => own_in(tables, number, null),
     }
 }
 
@@ -114,6 +126,16 @@ fn columns_in<'a>(tables: &'a [Columns], number: usize, null: &'a Value) -> RowS
 {
     match tables.get(number) {
         Some(columns) => RowSource::of_columns(columns),
+        None => no_rows(null),
+    }
+}
+
+fn own_in<'a>(tables: &'a [OwnRows], number: usize, null: &'a Value) -> RowSource<'a>
+    requires { null.now ≡ value.Null }
+    ensures { result ≡ table_at tables.now number }
+{
+    match tables.get(number) {
+        Some(rows) => rows.source(),
         None => no_rows(null),
     }
 }

@@ -1,4 +1,5 @@
 pub mod Passing
+pub mod Agreeing
 pub mod Probing
 pub mod Searching
 pub mod Names

@@ -3,10 +3,10 @@ use Rattle.std.proofs.Common.{◌≡◌, ℕ, zero, suc, ◌+◌, ◌<◌, ◌�
 use Rattle.wd_value.specs.Rows.{Instance}
 use Rattle.wd_plan.specs.Outcomes.{Agree, RowsOrFault, outcome}
 use Rattle.wd_plan.specs.Plans.{PlanTree, ordering_count}
-use Rattle.wd_eval.specs.Tied.{IsTurnedTooLarge, IsValidTurnedChoice}
+use Rattle.wd_eval.specs.Tied.{IsTurnedTooLarge, IsValidTurnedChoice, turned_at}
 use Rattle.wd_partition.specs.declared.turn.Turn.{Turn}
-use Rattle.wd_seek.specs.Evaluations.{AllPass, IsTooLargeAt, Passes, flip_of, most_evaluations, turned_at}
-use Rattle.wd_seek.specs.Probed.{IsFirst, IsStableOutcome}
+use Rattle.wd_seek.specs.Evaluations.{AllPass, IsTooLargeAt, Passes, flip_of, most_evaluations}
+use Rattle.wd_seek.specs.Probed.{IsAgreeing, IsFirst, IsStableOutcome}
 
 below_or_at : (k n : ℕ) → k < n + 1 → (k < n) ⊎ (k ≡ n)
 below_or_at zero zero h = inr refl
@@ -30,7 +30,7 @@ none_pass turn plan instance k h = absurd (omega (arith, h))
 
 -- ---- against the first
 
-agree_self : (o : RowsOrFault) → Agree o o
+pub agree_self : (o : RowsOrFault) → Agree o o
 agree_self (Ok rows) = λ r. refl
 agree_self (Err fault) = refl
 
@@ -41,14 +41,17 @@ first_passes turn plan instance o first = all_pass_more turn plan instance 0 (no
 next_flip : (turn : Turn) (k : ℕ) → flip_of turn (k + 1) ≡ Some (turned_at turn k)
 next_flip turn k = let e : k + 1 ≡ suc k = omega arith in subst (λ n. flip_of turn n ≡ Some (turned_at turn k)) (sym e) refl
 
-pub next_passes : (turn : Turn) (plan : PlanTree) (instance : Instance) (o other : RowsOrFault) (k : ℕ) (choice : List (List ℕ)) → IsFirst plan instance o → IsStableOutcome plan instance (Some (turned_at turn k)) choice other → Agree o other → Passes turn plan instance (k + 1)
-next_passes turn plan instance o other k choice first tied agree = record {
+pub agreeing_passes : (turn : Turn) (plan : PlanTree) (instance : Instance) (o : RowsOrFault) (k : ℕ) → IsFirst plan instance o → IsAgreeing turn plan instance o k → Passes turn plan instance (k + 1)
+agreeing_passes turn plan instance o k first a = record {
   first = first.choice;
-  choice = choice;
+  choice = a.choice;
   first_valid = first.tied.valid;
-  valid = subst (λ f. IsValidTurnedChoice plan instance f choice) (sym (next_flip turn k)) tied.valid;
-  agree = subst (λ x. Agree x (outcome plan instance choice)) first.tied.is (subst (Agree o) tied.is agree);
+  valid = subst (λ f. IsValidTurnedChoice plan instance f a.choice) (sym (next_flip turn k)) a.valid;
+  agree = subst (λ x. Agree x (outcome plan instance a.choice)) first.tied.is a.agree;
 }
+
+pub next_passes : (turn : Turn) (plan : PlanTree) (instance : Instance) (o other : RowsOrFault) (k : ℕ) (choice : List (List ℕ)) → IsFirst plan instance o → IsStableOutcome plan instance (Some (turned_at turn k)) choice other → Agree o other → Passes turn plan instance (k + 1)
+next_passes turn plan instance o other k choice first tied agree = agreeing_passes turn plan instance o k first (record { choice = choice; valid = tied.valid; agree = subst (Agree o) tied.is agree })
 
 pub next_too_large : (turn : Turn) (plan : PlanTree) (instance : Instance) (k : ℕ) → k < ordering_count plan → AllPass turn plan instance (k + 1) → IsTurnedTooLarge plan instance (Some (turned_at turn k)) → IsTooLargeAt turn plan instance (k + 1)
 next_too_large turn plan instance k within passed large = record {

@@ -3,7 +3,7 @@ use Rattle.std.specs.Prelude.{◌≡◌, ◌⊎◌, ℕ, zero, suc, ◌+◌, ◌
 use Rattle.wd_value.specs.Rows.{Instance}
 use Rattle.wd_plan.specs.Outcomes.{Agree, outcome}
 use Rattle.wd_plan.specs.Plans.{PlanTree, ordering_count}
-use Rattle.wd_eval.specs.Tied.{IsTurnedTooLarge, IsValidTurnedChoice}
+use Rattle.wd_eval.specs.Tied.{IsTurnedTooLarge, IsValidTurnedChoice, turned_at}
 use Rattle.wd_eval.specs.declared.turned.Turned.{Turned}
 use Rattle.wd_partition.specs.declared.turn.Turn.{Turn}
 
@@ -14,10 +14,6 @@ most_evaluations = 2000
 -- the number of evaluations of a candidate: one under the choice that keeps tied rows in their order, and one for each ordering to turn
 abbrev pub evaluations : PlanTree → ℕ
 evaluations plan = ordering_count plan + 1
-
--- the ordering with this number, in which tied rows are taken in a turn
-abbrev pub turned_at : Turn → ℕ → Turned
-turned_at turn number = record { number = number; turn = turn }
 
 -- the ordering that the evaluation with this number turns
 abbrev pub flip_of : Turn → ℕ → Option Turned

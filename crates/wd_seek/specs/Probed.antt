@@ -4,11 +4,11 @@ use Rattle.wd_value.specs.Rows.{Instance}
 use Rattle.wd_plan.specs.Outcomes.{Agree, RowsOrFault, outcome}
 use Rattle.wd_plan.specs.Plans.{PlanTree, ordering_count}
 use Rattle.wd_eval.specs.Windows.{orderings_of}
-use Rattle.wd_eval.specs.Tied.{IsTurnedTooLarge, IsValidTurnedChoice}
+use Rattle.wd_eval.specs.Tied.{IsTurnedTooLarge, IsValidTurnedChoice, turned_at}
 use Rattle.wd_eval.specs.declared.turned.Turned.{Turned}
 use Rattle.wd_partition.specs.declared.turn.Turn.{Turn}
 use Rattle.wd_plan.specs.declared.plan.Choice.{Choice}
-use Rattle.wd_seek.specs.Evaluations.{AllPass, IsTooLargeAt, most_evaluations, turned_at}
+use Rattle.wd_seek.specs.Evaluations.{AllPass, IsTooLargeAt, most_evaluations}
 use Rattle.wd_seek.specs.Search.{FindsNothing, FindsTwo}
 use Rattle.wd_seek.specs.declared.evaluated.Evaluated.{Evaluated}
 use Rattle.wd_seek.specs.declared.probed.Pair.{Pair}
@@ -27,6 +27,12 @@ IsEvaluated plan instance turned (Some e) = IsStableOutcome plan instance turned
 pub record IsFirst (plan : PlanTree) (instance : Instance) (o : RowsOrFault) : Type 0 where
   pub choice : List (List ℕ)
   pub tied : IsStableOutcome plan instance None choice o
+
+-- the outcome agrees with this one where the ordering with this number is turned
+pub record IsAgreeing (turn : Turn) (plan : PlanTree) (instance : Instance) (o : RowsOrFault) (number : ℕ) : Type 0 where
+  pub choice : List (List ℕ)
+  pub valid : IsValidTurnedChoice plan instance (Some (turned_at turn number)) choice
+  pub agree : Agree o (outcome plan instance choice)
 
 -- the given number of evaluations after the first show nothing: all were made, the last one had a step that is too large, or the most
 -- evaluations were made

@@ -2,9 +2,9 @@
 //! under the choice that keeps tied rows in their order, and under those that reverse them in one ordering.
 //!
 //! `search` goes through the candidates for each reason of an analysis; `passed` leaves out those that were tried for an earlier one,
-//! and `tried` those that do not meet the schema. `probed`
-//! evaluates a candidate under one choice after another until two outcomes differ, by `evaluated`, and `witness` makes the witness of
-//! them. The number of evaluations is bounded.
+//! and `tried` those that do not meet the schema. `probed` evaluates a candidate under one choice after another until two outcomes
+//! differ, by `evaluated`, and `witness` makes the witness of them. `trailed` keeps what each node gave in the first evaluation, so that
+//! most of the others need not be made. The number of evaluations is bounded, those among them.
 #![tactic(auto)]
 
 mod evaluated;
@@ -12,6 +12,7 @@ pub mod laws;
 mod passed;
 mod probed;
 mod search;
+mod trailed;
 mod tried;
 mod witness;
 

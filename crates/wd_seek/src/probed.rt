@@ -9,6 +9,7 @@ ghost use Rattle.wd_seek.specs.Probed.{IsFirst, IsOther, IsProbed};
 ghost use Rattle.wd_value.specs.Rows.{instance_of};
 
 use crate::evaluated::evaluate;
+use crate::trailed::{agrees_turned, trail_of};
 use std::alloc::Global;
 use wd_eval::{Turn, Turned};
 use wd_plan::{Choice, Plan};
@@ -67,7 +68,7 @@ pub(crate) fn probe(
 }
 
 /// Turns one ordering after another until the outcome does not agree with the first; the result is the choice under which it does not,
-/// and the number of evaluations.
+/// and the number of evaluations. One whose outcome is known to agree from what is kept of the first counts, and is not made.
 fn other_choice(
     alloc: Global,
     schema: &Schema,
@@ -84,10 +85,14 @@ fn other_choice(
     ensures other { IfOk result (λ r. IsOther turn (plan_of plan.now) (instance_of instance.now.items) first.now spent r.1 r.0) }
 {
     let orderings = plan.orderings();
+    let trail = trail_of(alloc, schema, plan, instance)?;
     for flipped in 0..orderings {
         let made = spent + flipped;
         if made == MOST_EVALUATIONS {
             return Ok((None, made));
+        }
+        if agrees_turned(alloc, plan, &trail, first, flipped, turn)? {
+            continue;
         }
         let turned = Turned {
             number: flipped,

@@ -1,0 +1,74 @@
+//! What is kept of the first evaluation of an instance, and what it tells of the others: an evaluation that turns one ordering need not
+//! be made where the rows that it would give agree with those of the first.
+
+ghost use Rattle.std.specs.Prelude.{◌≡◌, ◌-◌, ◌^◌, ◌<◌, true, Ok, IfOk, IfSome, IsTrue};
+ghost use Rattle.wd_plan.specs.Fits.{fits};
+ghost use Rattle.wd_plan.specs.Outcomes.{Agree};
+ghost use Rattle.wd_plan.specs.Plans.{EachNamesClasses, plan_of};
+ghost use Rattle.wd_schema.specs.Schemas.{schema_of};
+ghost use Rattle.wd_seek.specs.Probed.{IsAgreeing, IsFirst};
+ghost use Rattle.wd_trail.specs.Trails.{IsTrail};
+ghost use Rattle.wd_value.specs.Rows.{Instance, instance_of};
+
+use std::alloc::Global;
+use wd_columns::OwnRows;
+use wd_eval::Turn;
+use wd_plan::{Outcome, Plan};
+use wd_refute::SortedOutcome;
+use wd_schema::Schema;
+use wd_trail::{Change, Trail, follow};
+use wd_value::{Instance, OutOfMemory};
+
+/// The fewest orderings for which it pays to keep what each node gives.
+const FEWEST_ORDERINGS: u32 = 4;
+
+/// The most values that are kept of one instance, 16 bytes each.
+const MOST_KEPT_VALUES: u64 = 1 << 25;
+
+/// Keeps what the nodes of a plan give over an instance, where it has several orderings and there is room.
+pub(crate) fn trail_of(
+    alloc: Global,
+    schema: &Schema,
+    plan: &Plan,
+    instance: &Instance,
+) -> Result<Option<Trail>, OutOfMemory>
+    requires { fits (schema_of schema.now) (plan_of plan.now) ≡ true }
+    ensures { IfOk result (λ o. IfSome o (λ t. IsTrail t (plan_of plan.now) (instance_of instance.now.items))) }
+{
+    if plan.orderings() < FEWEST_ORDERINGS {
+        return Ok(None);
+    }
+    follow(alloc, plan, schema, instance, MOST_KEPT_VALUES)
+}
+
+/// Whether the outcome is known to agree with the first one where the ordering with this number takes rows that tie in a turn.
+pub(crate) fn agrees_turned(
+    alloc: Global,
+    plan: &Plan,
+    trail: &Option<Trail>,
+    first: &SortedOutcome,
+    number: u32,
+    turn: Turn,
+) -> Result<bool, OutOfMemory>
+    requires few { number < 2 ^ 32 - 1 }
+    requires named { EachNamesClasses (plan_of plan.now) }
+    ensures { IfOk result (λ agrees. IsTrue agrees → (instance : Instance) → IfSome trail.now (λ t. IsTrail t (plan_of plan.now) instance) → IsFirst (plan_of plan.now) instance first.now → IsAgreeing turn (plan_of plan.now) instance first.now number) }
+{
+    let Some(trail) = trail else {
+        return Ok(false);
+    };
+    match trail.turned(alloc, plan, number, turn)? {
+        Change::Same => Ok(true),
+        Change::Unknown => Ok(false),
+        Change::Rows(rows) => agree(alloc, first, rows),
+    }
+}
+
+/// Whether the rows agree with an outcome.
+fn agree(alloc: Global, first: &SortedOutcome, rows: OwnRows) -> Result<bool, OutOfMemory>
+    ensures { IfOk result (λ agrees. IsTrue agrees → Agree first.now (Ok rows)) }
+{
+    let outcome = Outcome::Rows(rows.into_list(alloc)?);
+    let other = SortedOutcome::new(alloc, outcome)?;
+    Ok(first.agrees(&other))
+}

@@ -1,0 +1,4 @@
+pub mod Giving
+pub mod Trails
+pub mod Windows
+pub mod Told
