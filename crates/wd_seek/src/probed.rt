@@ -85,13 +85,13 @@ fn other_choice(
     ensures other { IfOk result (λ r. IsOther turn (plan_of plan.now) (instance_of instance.now.items) first.now spent r.1 r.0) }
 {
     let orderings = plan.orderings();
-    let trail = trail_of(alloc, schema, plan, instance)?;
+    let trail = trail_of(alloc, schema, plan, instance);
     for flipped in 0..orderings {
         let made = spent + flipped;
         if made == MOST_EVALUATIONS {
             return Ok((None, made));
         }
-        if agrees_turned(alloc, plan, &trail, first, flipped, turn)? {
+        if agrees_turned(alloc, plan, &trail, first, flipped, turn) {
             continue;
         }
         let turned = Turned {

@@ -25,23 +25,24 @@ const FEWEST_ORDERINGS: u32 = 4;
 /// The most values that are kept of one instance, 16 bytes each.
 const MOST_KEPT_VALUES: u64 = 1 << 25;
 
-/// Keeps what the nodes of a plan give over an instance, where it has several orderings and there is room.
+/// Keeps what the nodes of a plan give over an instance, where it has several orderings and there is room and memory.
 pub(crate) fn trail_of(
     alloc: Global,
     schema: &Schema,
     plan: &Plan,
     instance: &Instance,
-) -> Result<Option<Trail>, OutOfMemory>
+) -> Option<Trail>
     requires { fits (schema_of schema.now) (plan_of plan.now) ≡ true }
-    ensures { IfOk result (λ o. IfSome o (λ t. IsTrail t (plan_of plan.now) (instance_of instance.now.items))) }
+    ensures { IfSome result (λ t. IsTrail t (plan_of plan.now) (instance_of instance.now.items)) }
 {
     if plan.orderings() < FEWEST_ORDERINGS {
-        return Ok(None);
+        return None;
     }
-    follow(alloc, plan, schema, instance, MOST_KEPT_VALUES)
+    follow(alloc, plan, schema, instance, MOST_KEPT_VALUES).unwrap_or(None)
 }
 
-/// Whether the outcome is known to agree with the first one where the ordering with this number takes rows that tie in a turn.
+/// Whether the outcome is known to agree with the first one where the ordering with this number takes rows that tie in a turn; not where
+/// memory runs out.
 pub(crate) fn agrees_turned(
     alloc: Global,
     plan: &Plan,
@@ -49,26 +50,35 @@ pub(crate) fn agrees_turned(
     first: &SortedOutcome,
     number: u32,
     turn: Turn,
-) -> Result<bool, OutOfMemory>
+) -> bool
     requires few { number < 2 ^ 32 - 1 }
     requires named { EachNamesClasses (plan_of plan.now) }
-    ensures { IfOk result (λ agrees. IsTrue agrees → (instance : Instance) → IfSome trail.now (λ t. IsTrail t (plan_of plan.now) instance) → IsFirst (plan_of plan.now) instance first.now → IsAgreeing turn (plan_of plan.now) instance first.now number) }
+    ensures { IsTrue result → (instance : Instance) → IfSome trail.now (λ t. IsTrail t (plan_of plan.now) instance) → IsFirst (plan_of plan.now) instance first.now → IsAgreeing turn (plan_of plan.now) instance first.now number }
 {
     let Some(trail) = trail else {
-        return Ok(false);
+        return false;
     };
-    match trail.turned(alloc, plan, number, turn)? {
-        Change::Same => Ok(true),
-        Change::Unknown => Ok(false),
-        Change::Rows(rows) => agree(alloc, first, rows),
+    match trail.turned(alloc, plan, number, turn) {
+        Ok(Change::Same) => true,
+        Ok(Change::Rows(rows)) => agree(alloc, first, rows),
+        Ok(Change::Unknown) | Err(_) => false,
     }
 }
 
-/// Whether the rows agree with an outcome.
-fn agree(alloc: Global, first: &SortedOutcome, rows: OwnRows) -> Result<bool, OutOfMemory>
-    ensures { IfOk result (λ agrees. IsTrue agrees → Agree first.now (Ok rows)) }
+/// Whether the rows are known to agree with an outcome.
+fn agree(alloc: Global, first: &SortedOutcome, rows: OwnRows) -> bool
+    ensures { IsTrue result → Agree first.now (Ok rows) }
+{
+    match outcome_of_rows(alloc, rows) {
+        Ok(other) => first.agrees(&other),
+        Err(_) => false,
+    }
+}
+
+/// Rows as an outcome.
+fn outcome_of_rows(alloc: Global, rows: OwnRows) -> Result<SortedOutcome, OutOfMemory>
+    ensures { IfOk result (λ s. s ≡ Ok rows) }
 {
     let outcome = Outcome::Rows(rows.into_list(alloc)?);
-    let other = SortedOutcome::new(alloc, outcome)?;
-    Ok(first.agrees(&other))
+    SortedOutcome::new(alloc, outcome)
 }

@@ -12,7 +12,7 @@ pub loop-flipped-init : goal.loop-flipped-init
 loop-flipped-init c = (
   omega (arith, c.requires.few),
   first_passes c.args.turn (plan_of c.args.plan.now) (instance_of c.args.instance.now.items) c.args.first.now c.requires.first,
-  c.in_ok-trail.ensures,
+  c.trail_of-trail.ensures,
 )
 
 pub returns-in_default-clause-other : goal.returns-in_default-clause-other
@@ -27,8 +27,8 @@ returns-in_default-clause-other c =
 pub agrees_turned-requires-clause-named : goal.agrees_turned-requires-clause-named
 agrees_turned-requires-clause-named c = names_classes (schema_of c.args.schema.now) (plan_of c.args.plan.now) c.requires.fitting
 
-pub loop-flipped-preserved-then-branch : goal.loop-flipped-preserved-then-branch
-loop-flipped-preserved-then-branch c =
+pub loop-flipped-preserved-then-agrees_turned : goal.loop-flipped-preserved-then-agrees_turned
+loop-flipped-preserved-then-agrees_turned c =
     let plan = plan_of c.args.plan.now in
     let instance = instance_of c.args.instance.now.items in
     let k = c.loop-flipped.flipped in
@@ -36,6 +36,6 @@ loop-flipped-preserved-then-branch c =
     let other = c.if-made-eq-MOST_EVALUATIONS.false in (
       omega arith,
       all_pass_more c.args.turn plan instance (k + 1) c.loop-flipped.invariant.1
-          (agreeing_passes c.args.turn plan instance c.args.first.now k c.requires.first (c.in_ok-agrees_turned.ensures c.if-branch.true instance c.loop-flipped.invariant.2 c.requires.first)),
+          (agreeing_passes c.args.turn plan instance c.args.first.now k c.requires.first (c.agrees_turned.ensures c.if-agrees_turned.true instance c.loop-flipped.invariant.2 c.requires.first)),
       c.loop-flipped.invariant.2,
     )
