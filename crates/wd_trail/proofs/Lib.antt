@@ -2,3 +2,4 @@ pub mod Giving
 pub mod Trails
 pub mod Windows
 pub mod Told
+pub mod Small

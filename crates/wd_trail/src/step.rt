@@ -1,7 +1,8 @@
 //! Steps over rows of their own.
 
-ghost use Rattle.std.specs.Prelude.{◌≡◌, Ok, option_map, IfOk, IfSome, IsTrue};
+ghost use Rattle.std.specs.Prelude.{◌≡◌, ◌≤◌, Ok, option_map, IfOk, IfSome, IsTrue};
 ghost use Rattle.wd_eval.specs.Turning.{IsStepUnder};
+ghost use Rattle.wd_nodes.specs.Relation.{most_rows};
 ghost use Rattle.wd_plan.specs.Expressions.{expression_of};
 ghost use Rattle.wd_plan.specs.Plans.{EachNamesClasses, Over, PlanTree, Step, plan_of};
 ghost use Rattle.wd_trail.specs.Trails.{IsJoinOver};
@@ -40,19 +41,22 @@ pub(crate) fn step_rows(
     }
 }
 
-/// The rows that a Join gives; none where it has a fault or too many rows.
+/// The rows that a Join gives; none where it has a fault, too many rows, or rows of more than `most` values. (A row counts as one value
+/// more than it has.) Its pairs are counted before a row of them is made.
 pub(crate) fn join_rows(
     alloc: Global,
     condition: &Option<Expr>,
     left: &OwnRows,
     right: OwnRows,
+    most: u64,
 ) -> Result<Option<OwnRows>, OutOfMemory>
     ensures { IfOk result (λ o. IfSome o (λ r. IsJoinOver (option_map expression_of condition.now) left.now right r)) }
 {
+    let most = most_pairs(left, &right, most);
     let tables = Tables::of_own(slice::from_ref(left));
     let first = Relation::Stored(StoredRows::Table(0));
     let second = Relation::Stored(StoredRows::Own(right));
-    match join_inputs(alloc, &tables, condition, Ok(first), Ok(second), MOST_ROWS) {
+    match join_inputs(alloc, &tables, condition, Ok(first), Ok(second), most) {
         Ok(Ok(joined)) => {
             let stored = store(alloc, &tables, joined)?;
             let rows = into_own_rows(alloc, &tables, stored)?;
@@ -61,6 +65,15 @@ pub(crate) fn join_rows(
         Err(StepError::OutOfMemory) => Err(OutOfMemory),
         Ok(Err(_)) | Err(StepError::TooManyRows) => Ok(None),
     }
+}
+
+/// The most pairs of two sides' rows that a step may have and whose rows have at most so many values.
+fn most_pairs(left: &OwnRows, right: &OwnRows, most: u64) -> u64
+    ensures { result ≤ most_rows }
+{
+    let width = left.source().width(0).saturating_add(right.source().width(0));
+    let rows = most / (width as u64).saturating_add(1);
+    if rows < MOST_ROWS { rows } else { MOST_ROWS }
 }
 
 /// Whether two lists of rows are the same.

@@ -144,7 +144,7 @@ fn join(
         return Ok(None);
     };
     let second = copy_all(alloc, &right.rows().source())?;
-    match join_rows(alloc, condition, left.rows(), second)? {
+    match join_rows(alloc, condition, left.rows(), second, *room)? {
         Some(rows) if has_room(&rows, room) => {
             let (left, right) = (Box::new(alloc, left)?, Box::new(alloc, right)?);
             Ok(Some(Trail::Join(rows, left, right)))

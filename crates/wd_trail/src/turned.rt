@@ -24,18 +24,20 @@ pub enum Change {
     Same,
     /// Other rows.
     Rows(OwnRows),
-    /// This can't be told: a step has a fault or too many rows, or its nodes are not kept.
+    /// This can't be told: a step has a fault, too many rows or too large a join, or its nodes are not kept.
     Unknown,
 }
 
 impl Trail {
-    /// What the plan gives where the ordering with this number takes rows that tie in a turn.
+    /// What the plan gives where the ordering with this number takes rows that tie in a turn. It can't be told where a Join gives rows of
+    /// more than `most` values then. (A row counts as one value more than it has.)
     pub fn turned(
         &self,
         alloc: Global,
         plan: &Plan,
         number: u32,
         turn: Turn,
+        most: u64,
     ) -> Result<Change, OutOfMemory>
         requires few { number < 2 ^ 32 - 1 }
         requires named { EachNamesClasses (plan_of plan.now) }
@@ -48,7 +50,7 @@ impl Trail {
                 Some(input) => {
                     let before = input.orderings();
                     if number < before {
-                        let change = below.turned(alloc, input, number, turn)?;
+                        let change = below.turned(alloc, input, number, turn, most)?;
                         step_over(alloc, plan, change, rows)
                     } else {
                         own_turned(alloc, plan, below.rows(), number - before, turn, rows)
@@ -63,11 +65,11 @@ impl Trail {
                 } => {
                     let before = left.orderings();
                     if number < before {
-                        let change = on_left.turned(alloc, left, number, turn)?;
-                        left_changed(alloc, condition, change, on_right.rows(), rows)
+                        let change = on_left.turned(alloc, left, number, turn, most)?;
+                        left_changed(alloc, condition, change, on_right.rows(), rows, most)
                     } else {
-                        let change = on_right.turned(alloc, right, number - before, turn)?;
-                        right_changed(alloc, condition, on_left.rows(), change, rows)
+                        let change = on_right.turned(alloc, right, number - before, turn, most)?;
+                        right_changed(alloc, condition, on_left.rows(), change, rows, most)
                     }
                 }
                 _ => Ok(Change::Unknown),
@@ -183,6 +185,7 @@ fn left_changed(
     change: Change,
     right: &OwnRows,
     given: &OwnRows,
+    most: u64,
 ) -> Result<Change, OutOfMemory>
     ensures { IfOk result (λ r. (left : List Row) → IsJoinOver (option_map expression_of condition.now) left right.now given.now → IsToldOver (λ rows found. IsJoinOver (option_map expression_of condition.now) rows right.now found) (rows_shown left change) (rows_shown given.now r)) }
 {
@@ -191,7 +194,7 @@ fn left_changed(
         Change::Unknown => Ok(Change::Unknown),
         Change::Rows(rows) => {
             let right = copy_all(alloc, &right.source())?;
-            let found = join_rows(alloc, condition, &rows, right)?;
+            let found = join_rows(alloc, condition, &rows, right, most)?;
             Ok(compared(found, given))
         }
     }
@@ -204,6 +207,7 @@ fn right_changed(
     left: &OwnRows,
     change: Change,
     given: &OwnRows,
+    most: u64,
 ) -> Result<Change, OutOfMemory>
     ensures { IfOk result (λ r. (right : List Row) → IsJoinOver (option_map expression_of condition.now) left.now right given.now → IsToldOver (λ rows found. IsJoinOver (option_map expression_of condition.now) left.now rows found) (rows_shown right change) (rows_shown given.now r)) }
 {
@@ -211,7 +215,7 @@ fn right_changed(
         Change::Same => Ok(Change::Same),
         Change::Unknown => Ok(Change::Unknown),
         Change::Rows(rows) => {
-            let found = join_rows(alloc, condition, left, rows)?;
+            let found = join_rows(alloc, condition, left, rows, most)?;
             Ok(compared(found, given))
         }
     }

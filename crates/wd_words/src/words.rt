@@ -82,20 +82,21 @@ const COLOURS: [&str; 3] = ["auto", "always", "never"];
 
 // The command line.
 fn command_line<'a>(alloc: Global) -> Result<Command<'a>, AllocError> {
-    with_flags(alloc, program(alloc)?)?
-        .arg(schema_word(alloc))?
-        .arg(format_word(alloc))?
-        .arg(page_word(alloc))?
-        .arg(baseline_word(alloc))?
-        .arg(colour_word(alloc))?
-        .arg(paths_words(alloc))
+    let words = Vec::from_array(alloc, words_of_report(alloc))?;
+    program(alloc)?.args(words)
 }
 
 // The program, with its commands.
 fn program<'a>(alloc: Global) -> Result<Command<'a>, AllocError> {
-    let schema = Command::new(alloc, "schema").about(
-        "Prints the SQL that makes a schema file from a PostgreSQL database: psql -qAt -f <(wdreport schema) DATABASE > schema.sql",
-    );
+    let lock = lock_command(alloc)?;
+    let commands = Vec::from_array(alloc, [schema_command(alloc), lock])?;
+    described_program(alloc)
+        .bin_name("wdreport")?
+        .subcommands(commands)
+}
+
+// The program by itself.
+fn described_program<'a>(alloc: Global) -> Command<'a> {
     Command::new(alloc, "wdreport")
         .about(
             "Tells which SQL queries have more than one answer, where, and with which sort key they have one.",
@@ -105,45 +106,56 @@ fn program<'a>(alloc: Global) -> Result<Command<'a>, AllocError> {
         .no_binary_name(true)
         .args_conflicts_with_subcommands(true)
         .disable_help_subcommand(true)
-        .bin_name("wdreport")?
-        .subcommand(schema)?
-        .subcommand(lock_command(alloc)?)
+}
+
+// The command that prints the SQL of a schema.
+fn schema_command<'a>(alloc: Global) -> Command<'a> {
+    Command::new(alloc, "schema").about(
+        "Prints the SQL that makes a schema file from a PostgreSQL database: psql -qAt -f <(wdreport schema) DATABASE > schema.sql",
+    )
 }
 
 // The command that writes locks.
 fn lock_command<'a>(alloc: Global) -> Result<Command<'a>, AllocError> {
+    let words = Vec::from_array(alloc, [schema_word(alloc), paths_words(alloc)])?;
     Command::new(alloc, "lock")
         .about(
             "Writes the certificates of queries beside them, so that a later run tells which of them no longer hold",
         )
         .after_help(LOCKS)
-        .arg(schema_word(alloc))?
-        .arg(paths_words(alloc))
+        .args(words)
 }
 
-// The program with its flags.
-fn with_flags<'a>(alloc: Global, command: Command<'a>) -> Result<Command<'a>, AllocError> {
-    command
-        .arg(flag(
+// The words of a report.
+fn words_of_report<'a>(alloc: Global) -> [Arg<'a>; 10] {
+    [
+        flag(
             alloc,
             "fix",
             "Writes the sort keys into the files; with the path -, prints what standard input becomes",
-        ))?
-        .arg(flag(
+        ),
+        flag(
             alloc,
             "allow-unknown",
             "Queries that may tie pass: the status is 0 where no other is open",
-        ))?
-        .arg(flag(
+        ),
+        flag(
             alloc,
             "baseline-write",
             "Writes the baseline: all that is found now is known",
-        ))?
-        .arg(flag(
+        ),
+        flag(
             alloc,
             "show-respelled",
             "Prints, in place of a report, each schema's tables as queries are judged over them",
-        ))
+        ),
+        schema_word(alloc),
+        format_word(alloc),
+        page_word(alloc),
+        baseline_word(alloc),
+        colour_word(alloc),
+        paths_words(alloc),
+    ]
 }
 
 // A word that stands or not.
