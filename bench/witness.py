@@ -8,7 +8,8 @@ First come the searches, by `check`: eight tables joined to all their pairs of r
 takes nothing stands on top, so that no two outcomes differ and the search goes on to its end. In the first the limit alone is
 open, which is 18 evaluations; in the second there are calls enough for 2,000, a third of them over four rows in each table, and all
 of one window; in the third each has a column of its own to sort by; in the fourth, of some 400 bytes, seven tables are joined below
-eight calls, each with an order of its own. In these two no call's value is shown in place of that limit. Then
+eight calls, each with an order of its own; in the fifth, of as many bytes, seven tables of 51 columns are joined to a table that is
+numbered four ways. In these three no call's value is shown in place of that limit. Then
 come the witnesses, by `refute`: three tables of 64 rows, joined to 262,144 rows, in which two rows differ, and four, the fourth
 of 38 rows, joined to 9,961,472, near the most that a step may have. Of these the last choices are 170 MB of text; in the others, of
 3 and 4 KB, the rows of one table are numbered before they are joined, and the answer has 5 and 17 columns. Prints the seconds and the most memory of one run each.
@@ -51,6 +52,14 @@ def unused_texts():
     return {"schema.sql": SCHEMA, "query.sql": "SELECT s.id FROM (%s) AS s\n" % inner}
 
 
+def wide_texts(columns):
+    """A query of one column of a table that is numbered four ways, joined to seven more tables with so many columns."""
+    numbers = "".join(", ROW_NUMBER() OVER (ORDER BY v%d) AS n%d" % (n, n) for n in range(4))
+    others = ", ".join("t AS %s" % name for name in JOINED[1:])
+    whole = ", ".join(["id BIGINT PRIMARY KEY"] + ["v%d BIGINT" % n for n in range(columns - 1)])
+    return {"schema.sql": "CREATE TABLE t (%s);\n" % whole, "query.sql": "SELECT s.id FROM (SELECT id%s FROM t) AS s, %s\n" % (numbers, others)}
+
+
 def witness_texts(sizes):
     """A query over all pairs of rows, and a witness whose choices swap two rows that tie."""
     names = ["t%d" % n for n in range(len(sizes))]
@@ -86,6 +95,7 @@ def all_texts():
     yield "2,000 evaluations", "check", (2,), search_texts(CALLS)
     yield "2,000 evaluations, a column for each call", "check", (2,), columns_texts(CALLS)
     yield "calls not shown", "check", (2,), unused_texts()
+    yield "calls not shown, joined to 51 columns", "check", (2,), wide_texts(51)
     yield "262,144 rows", "refute", (1,), witness_texts([ROWS] * 3)
     yield "9,961,472 rows", "refute", (1,), witness_texts([ROWS] * 3 + [LAST_ROWS])
     yield "9,961,472 rows of 5 columns", "refute", (1,), numbered_texts([ROWS] * 3 + [LAST_ROWS], 1)

@@ -4,7 +4,9 @@ use crate::mended::words_of_error;
 use crate::outputs::{Used, lock_path};
 use crate::queries::Queries;
 use crate::run::{Run, Step, WRONG, steps};
+use crate::schema::SchemaFile;
 use crate::stop::Stop;
+use crate::walk::{EachFile, walk};
 use std::alloc::Global;
 use std::io::Write;
 use std::rt::Clock;
@@ -74,13 +76,6 @@ fn tell_no_lock<S: Sources>(
     Ok(None)
 }
 
-/// How many queries there are, and how many of them have a certificate.
-#[derive(Clone, Copy)]
-struct Count {
-    queries: u64,
-    certified: u64,
-}
-
 /// Writes the locks of all files.
 pub(crate) fn lock_all<'w, S: Sources, C: Clock, O: Write, E: Write>(
     alloc: Global,
@@ -92,76 +87,127 @@ pub(crate) fn lock_all<'w, S: Sources, C: Clock, O: Write, E: Write>(
     err: &mut E,
 ) -> Result<u8, Stop<'w>> {
     let steps = steps(alloc, &request.paths, sources)?;
-    let mut used = Used::new(alloc);
-    used.add_schemas(request.schema, &steps, sources)?;
-    used.add_queries(&steps, sources)?;
-    let mut run = Run::new(alloc, sources, request.schema);
+    let used = read_files(alloc, request, &steps, sources)?;
     let look = Look {
         colour: Colour::Auto,
         is_filter: false,
     };
+    let mut run = Run::new(alloc, sources, request.schema);
     let mut screen = Screen::new(look, terminals, steps.len() as u64, clock, out, err);
-    let mut count = Count {
+    let mut locks = Locks {
+        used: &used,
         queries: 0,
         certified: 0,
     };
-    for step in &steps {
-        screen.begin_file();
-        let mut report = Report::new(alloc, Format::Text);
-        match step {
-            Step::File(path) => {
-                lock_file(
-                    &mut run,
-                    &used,
-                    path.as_str(),
-                    &mut count,
-                    &mut report,
-                    &mut screen,
-                )?;
-            }
-            Step::Wrong(path, error) => run.tell_wrong(path.as_str(), *error, &mut report)?,
-        }
-        screen.tell(alloc, &report)?;
-    }
-    let Count { queries, certified } = count;
-    let line = format!(in alloc; "locked: {certified} of {queries} queries\n")?;
-    screen.write(line.as_bytes())?;
-    screen.finish(b"")?;
+    walk(&mut run, &steps, Format::Text, &mut locks, &mut screen)?;
+    locks.show(alloc, &mut screen)?;
     Ok(if run.is_wrong { WRONG } else { 0 })
 }
 
-/// Writes the lock of one file.
-fn lock_file<S: Sources, W: Watch>(
+/// The files that are read, over which no lock is written.
+fn read_files<S: Sources>(
+    alloc: Global,
+    request: &FilesRequest<'_>,
+    steps: &[Step],
+    sources: &mut S,
+) -> Result<Used, OutOfMemory> {
+    let mut used = Used::new(alloc);
+    used.add_schemas(request.schema, steps, sources)?;
+    used.add_queries(steps, sources)?;
+    Ok(used)
+}
+
+/// The locks of all files.
+#[derive(Drop)]
+struct Locks<'u> {
+    /// The files over which none is written.
+    used: &'u Used,
+    /// How many queries there are so far.
+    queries: u64,
+    /// How many of them have a certificate.
+    certified: u64,
+}
+
+impl EachFile for Locks<'_> {
+    fn take<S: Sources, W: Watch>(
+        &mut self,
+        run: &mut Run<'_, S>,
+        path: &str,
+        report: &mut Report,
+        watch: &mut W,
+    ) -> Result<(), OutOfMemory> {
+        if path == STANDARD_INPUT {
+            let reason = "standard input has no place beside it";
+            return run.tell_not_done(NOT_LOCKED, path, reason, report);
+        }
+        let beside = lock_path(run.alloc, path)?;
+        match self.used.what(beside.as_str(), run.sources)? {
+            Some(what) => tell_read(run, path, what, report),
+            None => self.lock_file(run, path, beside.as_str(), report, watch),
+        }
+    }
+}
+
+impl Locks<'_> {
+    /// Writes the lock of one file.
+    fn lock_file<S: Sources, W: Watch>(
+        &mut self,
+        run: &mut Run<'_, S>,
+        path: &str,
+        beside: &str,
+        report: &mut Report,
+        watch: &mut W,
+    ) -> Result<(), OutOfMemory> {
+        let Some(text) = run.read(path, report)? else {
+            return Ok(());
+        };
+        let Some(number) = run.schema_for(path, report)? else {
+            return Ok(());
+        };
+        let Some(schema) = run.schemas.file(number) else {
+            return Ok(());
+        };
+        let lock = lock_over(run.alloc, schema, text, watch)?;
+        self.queries = self.queries.saturating_add(lock.entries.len() as u64);
+        self.certified = self.certified.saturating_add(lock.certified());
+        write_lock(run, path, beside, &lock, report)
+    }
+
+    /// Writes how many queries have a certificate.
+    fn show<C: Clock, O: Write, E: Write>(
+        &self,
+        alloc: Global,
+        screen: &mut Screen<'_, C, O, E>,
+    ) -> Result<(), Stop<'static>> {
+        let Locks {
+            queries, certified, ..
+        } = self;
+        let line = format!(in alloc; "locked: {certified} of {queries} queries\n")?;
+        screen.write(line.as_bytes())?;
+        Ok(screen.finish(b"")?)
+    }
+}
+
+/// Reports that a lock would overwrite a file that is read.
+fn tell_read<S: Sources>(
     run: &mut Run<'_, S>,
-    used: &Used,
     path: &str,
-    count: &mut Count,
+    what: &str,
     report: &mut Report,
-    watch: &mut W,
 ) -> Result<(), OutOfMemory> {
-    if path == STANDARD_INPUT {
-        let reason = "standard input has no place beside it";
-        return run.tell_not_done(NOT_LOCKED, path, reason, report);
-    }
-    let lock_path = lock_path(run.alloc, path)?;
-    if let Some(what) = used.what(lock_path.as_str(), run.sources)? {
-        let words = format!(in run.alloc; "its lock would be written over {what}")?;
-        return run.tell_not_done(NOT_LOCKED, path, words.as_str(), report);
-    }
-    let Some(text) = run.read(path, report)? else {
-        return Ok(());
-    };
-    let Some(number) = run.schema_for(path, report)? else {
-        return Ok(());
-    };
-    let Some(schema) = run.schemas.file(number) else {
-        return Ok(());
-    };
-    let queries = Queries::over(run.alloc, schema, text)?;
-    let lock = lock_statements(run.alloc, &schema.text, &queries.text, watch)?;
-    count.queries = count.queries.saturating_add(lock.entries.len() as u64);
-    count.certified = count.certified.saturating_add(lock.certified());
-    write_lock(run, path, lock_path.as_str(), &lock, report)
+    let words = format!(in run.alloc; "its lock would be written over {what}")?;
+    run.tell_not_done(NOT_LOCKED, path, words.as_str(), report)
+}
+
+/// The lock of a file's queries over a schema.
+fn lock_over<W: Watch>(
+    alloc: Global,
+    schema: &SchemaFile,
+    text: Vec<u8>,
+    watch: &mut W,
+) -> Result<Lock, OutOfMemory> {
+    let queries = Queries::over(alloc, schema, text)?;
+    lock_statements(alloc, &schema.text, &queries.text, watch)
 }
 
 /// Writes a lock, and reports how many certificates it has. A lock without certificates is not written, and an existing one is removed.

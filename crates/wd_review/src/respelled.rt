@@ -1,9 +1,10 @@
 //! The texts over which queries are checked.
 
 use crate::queries::Queries;
-use crate::run::{Run, Step, WRONG, steps};
+use crate::run::{Run, WRONG, steps};
 use crate::schema::{Reading, SchemaFile};
 use crate::stop::Stop;
+use crate::walk::{EachFile, walk};
 use std::alloc::Global;
 use std::io::Write;
 use std::rt::Clock;
@@ -39,15 +40,7 @@ pub(crate) fn show_respelled<'w, S: Sources, C: Clock, O: Write, E: Write>(
         count: 0,
         text: Vec::new(alloc),
     };
-    for step in &steps {
-        screen.begin_file();
-        let mut report = Report::new(alloc, Format::Text);
-        match step {
-            Step::File(path) => shown.add(&mut run, path.as_str(), &mut report)?,
-            Step::Wrong(path, error) => run.tell_wrong(path.as_str(), *error, &mut report)?,
-        }
-        screen.tell(alloc, &report)?;
-    }
+    walk(&mut run, &steps, Format::Text, &mut shown, &mut screen)?;
     screen.finish(&shown.text)?;
     if run.is_wrong {
         return Ok(WRONG);
@@ -59,7 +52,7 @@ pub(crate) fn show_respelled<'w, S: Sources, C: Clock, O: Write, E: Write>(
     })
 }
 
-/// The text to be printed.
+/// The text to be printed: of each file whose queries are respelled, and before it its schema, unless that was added before.
 #[derive(Drop)]
 struct Shown {
     /// How many of the schemas that were read are in the text.
@@ -67,18 +60,18 @@ struct Shown {
     text: Vec<u8>,
 }
 
-impl Shown {
-    /// Adds a query's file, if some of its queries are respelled; and before it its schema, unless that was added before.
-    fn add<S: Sources>(
+impl EachFile for Shown {
+    fn take<S: Sources, W: Watch>(
         &mut self,
         run: &mut Run<'_, S>,
-        query: &str,
+        path: &str,
         report: &mut Report,
+        _watch: &mut W,
     ) -> Result<(), OutOfMemory> {
-        let Some(text) = run.read(query, report)? else {
+        let Some(text) = run.read(path, report)? else {
             return Ok(());
         };
-        let Some(number) = run.schema_for(query, report)? else {
+        let Some(number) = run.schema_for(path, report)? else {
             return Ok(());
         };
         let Some(schema) = run.schemas.file(number) else {
@@ -88,15 +81,28 @@ impl Shown {
             self.count = number.saturating_add(1);
             self.add_schema(run.alloc, schema, report)?;
         }
-        let queries = Queries::over(run.alloc, schema, text)?;
-        if queries.is_respelled {
-            let file = File {
-                path: query,
-                text: &queries.text,
-            };
-            self.add_text(run.alloc, file)?;
+        self.add_queries(run.alloc, schema, path, text)
+    }
+}
+
+impl Shown {
+    /// Adds a file, if some of its queries are respelled over its schema.
+    fn add_queries(
+        &mut self,
+        alloc: Global,
+        schema: &SchemaFile,
+        path: &str,
+        text: Vec<u8>,
+    ) -> Result<(), OutOfMemory> {
+        let queries = Queries::over(alloc, schema, text)?;
+        if !queries.is_respelled {
+            return Ok(());
         }
-        Ok(())
+        let file = File {
+            path,
+            text: &queries.text,
+        };
+        self.add_text(alloc, file)
     }
 
     /// Adds a schema, if it was read.

@@ -5,9 +5,10 @@ use crate::mended::write_mended;
 use crate::outputs::{check_outputs, knowledge, write_baseline, write_page};
 use crate::queries::Queries;
 use crate::respelled::show_respelled;
-use crate::run::{Run, Step, WRONG, steps};
+use crate::run::{Run, WRONG, steps};
 use crate::schema::Reading;
 use crate::stop::Stop;
+use crate::walk::{EachFile, walk};
 use clap::Error;
 use std::alloc::Global;
 use std::io::Write;
@@ -70,14 +71,6 @@ fn show<O: Write, E: Write>(error: &Error, out: &mut O, err: &mut E) -> u8 {
     }
 }
 
-/// What was found so far.
-#[derive(Drop)]
-struct Review {
-    tally: Tally,
-    /// The new text of standard input.
-    input: Vec<u8>,
-}
-
 /// Judges all files.
 fn review_all<'w, S: Sources, C: Clock, O: Write, E: Write>(
     alloc: Global,
@@ -91,75 +84,89 @@ fn review_all<'w, S: Sources, C: Clock, O: Write, E: Write>(
     let knowledge = knowledge(alloc, request, sources, err)?;
     let steps = steps(alloc, &request.paths, sources)?;
     check_outputs(alloc, request, &steps, sources)?;
-    let mut review = Review {
-        tally: Tally::new(
-            request.is_fix,
-            knowledge,
-            request.html.map(|_| wd_page::Report::new(alloc)),
-        ),
-        input: Vec::new(alloc),
-    };
+    let mut review = Review::new(alloc, request.is_fix, request.html.is_some(), knowledge);
     let look = Look {
         colour: request.colour,
         is_filter: request.is_fix && request.paths.iter().any(|path| *path == STANDARD_INPUT),
     };
     let mut screen = Screen::new(look, terminals, steps.len() as u64, clock, out, err);
     let mut run = Run::new(alloc, sources, request.schema);
-    for step in &steps {
-        screen.begin_file();
-        let mut report = Report::new(alloc, request.format);
-        match step {
-            Step::File(path) => {
-                review_file(
-                    &mut run,
-                    request,
-                    path.as_str(),
-                    &mut review,
-                    &mut report,
-                    &mut screen,
-                )?;
-            }
-            Step::Wrong(path, error) => run.tell_wrong(path.as_str(), *error, &mut report)?,
-        }
-        screen.tell(alloc, &report)?;
-    }
+    walk(&mut run, &steps, request.format, &mut review, &mut screen)?;
     finish(run, request, review, &mut screen)
 }
 
-/// Judges one file.
-fn review_file<S: Sources, W: Watch>(
-    run: &mut Run<'_, S>,
-    request: &Request<'_>,
-    path: &str,
-    review: &mut Review,
-    report: &mut Report,
-    watch: &mut W,
-) -> Result<(), OutOfMemory> {
-    let Some(text) = run.read(path, report)? else {
-        return Ok(());
-    };
-    let Some(number) = run.schema_for(path, report)? else {
-        return Ok(());
-    };
-    let queries = match run.schemas.file(number) {
-        Some(schema) if !request.is_fix => Queries::over(run.alloc, schema, text)?,
-        _ => Queries::as_written(run.alloc, text),
-    };
-    queries.tell(run.alloc, path, report)?;
-    let file = File {
-        path,
-        text: &queries.text,
-    };
-    let Some(reviewed) = review_text(run, file, number, &mut review.tally, report, watch)? else {
-        return Ok(());
-    };
-    if !reviewed.is_lock_read {
-        run.is_wrong = true;
+/// What was found so far.
+#[derive(Drop)]
+struct Review {
+    /// Whether files are written with their keys.
+    is_fix: bool,
+    tally: Tally,
+    /// The new text of standard input.
+    input: Vec<u8>,
+}
+
+impl Review {
+    /// Nothing yet.
+    fn new(alloc: Global, is_fix: bool, has_page: bool, knowledge: Knowledge) -> Review {
+        let page = if has_page {
+            Some(wd_page::Report::new(alloc))
+        } else {
+            None
+        };
+        Review {
+            is_fix,
+            tally: Tally::new(is_fix, knowledge, page),
+            input: Vec::new(alloc),
+        }
     }
-    if request.is_fix {
-        return write_mended(run, file, reviewed, &mut review.input, report);
+
+    /// Judges a file over the schema with this number among those that were read.
+    fn review_over<S: Sources, W: Watch>(
+        &mut self,
+        run: &mut Run<'_, S>,
+        file: File<'_>,
+        schema: usize,
+        report: &mut Report,
+        watch: &mut W,
+    ) -> Result<(), OutOfMemory> {
+        let Some(reviewed) = review_text(run, file, schema, &mut self.tally, report, watch)? else {
+            return Ok(());
+        };
+        if !reviewed.is_lock_read {
+            run.is_wrong = true;
+        }
+        if self.is_fix {
+            return write_mended(run, file, reviewed, &mut self.input, report);
+        }
+        Ok(())
     }
-    Ok(())
+}
+
+impl EachFile for Review {
+    fn take<S: Sources, W: Watch>(
+        &mut self,
+        run: &mut Run<'_, S>,
+        path: &str,
+        report: &mut Report,
+        watch: &mut W,
+    ) -> Result<(), OutOfMemory> {
+        let Some(text) = run.read(path, report)? else {
+            return Ok(());
+        };
+        let Some(number) = run.schema_for(path, report)? else {
+            return Ok(());
+        };
+        let queries = match run.schemas.file(number) {
+            Some(schema) if !self.is_fix => Queries::over(run.alloc, schema, text)?,
+            _ => Queries::as_written(run.alloc, text),
+        };
+        queries.tell(run.alloc, path, report)?;
+        let file = File {
+            path,
+            text: &queries.text,
+        };
+        self.review_over(run, file, number, report, watch)
+    }
 }
 
 /// Reports what is found of a file, over the schema with this number among those that were read. A schema that is refused in the form of
@@ -215,16 +222,15 @@ fn finish<'w, S: Sources, C: Clock, O: Write, E: Write>(
         is_wrong,
         ..
     } = run;
-    let Review { mut tally, input } = review;
+    let Review {
+        mut tally, input, ..
+    } = review;
     let gone = tally.knowledge.left();
     let knowledge = mem::replace(&mut tally.knowledge, Knowledge::Nothing);
     write_baseline(alloc, request, knowledge, sources)?;
     write_page(alloc, request, &tally, sources)?;
     if request.format != Format::Json {
-        let mut line = String::new(alloc);
-        tally.found.add_line(&mut line)?;
-        add_gone(&mut line, gone)?;
-        add_lost(&mut line, tally.lost)?;
+        let line = counts(alloc, &tally, gone)?;
         screen.write(line.as_bytes())?;
     }
     screen.finish(&input)?;
@@ -232,6 +238,15 @@ fn finish<'w, S: Sources, C: Clock, O: Write, E: Write>(
         return Ok(WRONG);
     }
     Ok(tally.status(request.allows_unknown))
+}
+
+/// The line with the counts, and lines on findings of the baseline that no longer occur and on lost certificates.
+fn counts(alloc: Global, tally: &Tally, gone: u64) -> Result<String, OutOfMemory> {
+    let mut line = String::new(alloc);
+    tally.found.add_line(&mut line)?;
+    add_gone(&mut line, gone)?;
+    add_lost(&mut line, tally.lost)?;
+    Ok(line)
 }
 
 /// Adds how many findings of the baseline no longer occur, if there are any.
