@@ -859,14 +859,23 @@ def the_written():
             else:
                 check(f"schema: {text[:80]}", (ended, " ".join(shown.split())) == (0, "-- schema.sql " + wanted), (ended, shown, told))
                 check(f"schema: {text[:80]}: judged", (status, err) == (0, "") and "1 query: 1 deterministic" in out and NOTES["same"] in out and told == out.split("1 query")[0], (status, out, told))
-    for name in FOLDERS:
+    for name, table in {"shop": "orders", "bank": "accounts", "web": "events", "hr": "employees", "dump": "parcels"}.items():
         with tempfile.TemporaryDirectory() as folder:
-            put(folder, {"schema.sql": held(f"{TOP}/tests/report/written/{name}.sql"), "q.sql": "SELECT 1 AS one FROM " + {"shop": "orders", "bank": "accounts", "web": "events", "hr": "employees"}[name]})
+            put(folder, {"schema.sql": held(f"{TOP}/tests/report/written/{name}.sql"), "q.sql": f"SELECT 1 AS one FROM {table}"})
             shown, told, ended = run("--show-respelled", "q.sql", cwd=folder)
+            if name == "dump":
+                check("notes on a dump", NOTES["passed"].format("DEFAULT, CHECK, REFERENCES, other statements") in told and all(NOTES[it] in told for it in ("order", "same", "units")), told)
             check(f"schema of {name}", (ended, shown.split()) == (0, ["--", "schema.sql"] + held(f"{TOP}/tests/report/written/{name}.tables").split()), (ended, shown, told))
             put(folder, {"schema.sql": shown})
             again, told, ended = run("--show-respelled", "q.sql", cwd=folder)
             check(f"schema of {name}: read as it is", (ended, told) == (0, "") and again.split() == ["--", "schema.sql"] + shown.split(), (ended, again, told))
+    for text in ("CREATE TABLE t (a BIGINT;", FIRST_TABLE + "CREATE FUNCTION f() RETURNS integer AS $$ SELECT 1 $$ LANGUAGE sql;"):
+        with tempfile.TemporaryDirectory() as folder:
+            put(folder, {"schema.sql": text, "q.sql": "SELECT a FROM t"})
+            shown, told, ended = run("--show-respelled", "q.sql", cwd=folder)
+            check(f"schema: {text}", (ended, shown) == (2, "") and "schema.sql" in told and "not read: judge a query over it to see where" in told, (ended, shown, told))
+            out, _, status = run("q.sql", cwd=folder)
+            check(f"schema: {text}: judged", status == 2 and "1 not read" in out, (status, out))
 
 
 def the_written_judged():

@@ -2,4 +2,3 @@ pub mod Giving
 pub mod Trails
 pub mod Windows
 pub mod Told
-pub mod Small
