@@ -1,15 +1,15 @@
 -- What a node gives under sorted orderings, from what is below it.
-use Rattle.std.proofs.Common.{◌≡◌, ℕ, ◌+◌, ◌<◌, ◌≤◌, Bool, false, cond, ◌||◌, List, [], ◌++◌, take, drop, length, get_or, Option, Some, None, Ok, inl, inr, sym, ap, ◌∙◌, subst, arith, length-append, length-drop, length-take, zero-add}
+use Rattle.std.proofs.Common.{◌≡◌, ℕ, ◌+◌, ◌<◌, ◌≤◌, Bool, false, cond, ◌||◌, List, [], ◌++◌, take, drop, length, Option, Some, None, Ok, inl, inr, sym, ap, ◌∙◌, subst, arith, length-append, zero-add}
 use Rattle.std.specs.Prelude.{nat_eq}
 use Rattle.std.proofs.Math.Seq.{drop-append_seam}
 use Rattle.std.proofs.lemmas.Bool.{cases_eq, eq-eqb, ne_eqb}
-use Rattle.std.proofs.lemmas.List.{append-nil, drop-append-le, get_or-append-add, take_all}
+use Rattle.std.proofs.lemmas.List.{get_or-append-add, take_all}
 use Rattle.wd_value.specs.Rows.{Row, Instance}
-use Rattle.wd_plan.specs.Choices.{AreLawful, AreOrderingsOver, IsValidChoice}
+use Rattle.wd_plan.specs.Choices.{AreLawful, AreOrderingsOver}
 use Rattle.wd_plan.specs.Expressions.{Expression}
 use Rattle.wd_plan.specs.Faults.{and_then}
 use Rattle.wd_plan.specs.Outcomes.{RowsOrFault, class_among, join_outcome, ordering_at, outcome, pairs, step_outcome}
-use Rattle.wd_plan.specs.Plans.{ClassRule, Step, PlanTree, Scan, Join, Over, step_classes, ordering_count, own_orderings}
+use Rattle.wd_plan.specs.Plans.{Step, PlanTree, Scan, Join, Over, step_classes, ordering_count, own_orderings}
 use Rattle.wd_plan.proofs.ChoiceLaws.{AreLawful-append, outcome-append}
 use Rattle.wd_join.specs.Joins.{has_more_rows}
 use Rattle.wd_nodes.specs.Relation.{most_rows}
@@ -17,7 +17,6 @@ use Rattle.wd_partition.specs.declared.turn.Turn.{Turn}
 use Rattle.wd_partition.specs.declared.turn.Turn.TheVariants.{AsGiven}
 use Rattle.wd_eval.specs.Steps.{has_large_step, is_large}
 use Rattle.wd_eval.specs.Tied.{AreTied, IsSortedOver, turn_of, turned_at}
-use Rattle.wd_eval.specs.Ties.{AreSortedOver}
 use Rattle.wd_eval.specs.Turning.{IsStepUnder}
 use Rattle.wd_eval.specs.declared.turned.Turned.{Turned}
 use Rattle.wd_eval.proofs.Putting.{lawful_all}

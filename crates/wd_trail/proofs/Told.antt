@@ -1,5 +1,5 @@
 -- What a plan gives where an ordering is turned, from what its nodes gave.
-use Rattle.std.proofs.Common.{◌≡◌, ℕ, ◌+◌, ◌<◌, ◌≤◌, List, Option, Some, None, Ok, IfSome, sym, ap, ◌∙◌, subst, arith}
+use Rattle.std.proofs.Common.{◌≡◌, ℕ, ◌+◌, ◌<◌, ◌≤◌, List, Option, Some, None, Ok, IfSome, subst, arith}
 use Rattle.std.proofs.lemmas.Option.{IfSome_then}
 use Rattle.wd_value.specs.Rows.{Row, Instance}
 use Rattle.wd_plan.specs.Expressions.{Expression}

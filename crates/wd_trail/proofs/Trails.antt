@@ -2,7 +2,6 @@
 use Rattle.std.proofs.Common.{◌+◌, None, refl}
 use Rattle.wd_value.specs.Rows.{Instance}
 use Rattle.wd_plan.specs.Plans.{PlanTree, Scan, Join, Over, ordering_count}
-use Rattle.wd_eval.specs.declared.turned.Turned.{Turned}
 use Rattle.wd_trail.specs.Trails.{Gives, IsTrail, rows_in}
 use Rattle.wd_trail.specs.declared.trail.Trail.{Trail}
 use Rattle.wd_trail.specs.declared.trail.Trail.TheVariants as kept

@@ -1,16 +1,15 @@
 -- A Window of which one class is turned.
-use Rattle.std.proofs.Common.{◌≡◌, ℕ, ◌+◌, ◌-◌, ◌<◌, false, nat_lt, nat_eq, cond, List, [], ◌++◌, map, length, get_or, Some, None, Result, Ok, Err, inl, inr, refl, sym, ap, ◌∙◌, subst, arith, length-append, zero-add}
+use Rattle.std.proofs.Common.{◌≡◌, ℕ, ◌+◌, ◌-◌, ◌<◌, false, nat_lt, cond, List, [], ◌++◌, map, length, get_or, Some, None, Result, Ok, Err, inl, inr, refl, sym, ap, ◌∙◌, subst, arith, length-append, zero-add}
 use Rattle.std.proofs.lemmas.Bool.{cases_eq, eq-eqb}
-use Rattle.std.proofs.lemmas.List.{get_or-append-add, get_or_default, length-map}
+use Rattle.std.proofs.lemmas.List.{get_or-append-add}
 use Rattle.std.proofs.lemmas.List.FromFn.{get_or-range_with_len, length-range_with_len}
-use Rattle.wd_value.specs.declared.value.Value.{Value}
 use Rattle.wd_value.specs.declared.value.Value.TheVariants.{Null}
 use Rattle.wd_value.specs.declared.value.Fault.{Fault}
 use Rattle.wd_value.specs.Bags.{positions}
 use Rattle.wd_value.specs.Rows.{Row, column_of, row_at}
 use Rattle.wd_plan.specs.declared.window.Call.{Call}
 use Rattle.wd_plan.specs.Faults.{all_ok, and_then}
-use Rattle.wd_plan.specs.Outcomes.{RowsOrFault, call_at, class_at, class_among, extended, ordering_at, window_outcome}
+use Rattle.wd_plan.specs.Outcomes.{RowsOrFault, call_at, class_at, extended, ordering_at, window_outcome}
 use Rattle.wd_plan.specs.Plans.{Window, WindowRule}
 use Rattle.wd_join.specs.Joins.{has_more_rows}
 use Rattle.wd_laws.proofs.AllValues.{AllOk, all_ok_each}

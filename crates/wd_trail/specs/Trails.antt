@@ -1,10 +1,10 @@
 -- What the nodes of a plan give under sorted orderings, and what one of them gives where an ordering is turned.
-use Rattle.std.specs.Prelude.{◌≡◌, ℕ, ◌+◌, ◌<◌, false, List, Option, Some, None, Ok, option_map, IfSome}
+use Rattle.std.specs.Prelude.{◌≡◌, ℕ, false, List, Option, Some, None, Ok, IfSome}
 use Rattle.wd_value.specs.Rows.{Row, Instance}
 use Rattle.wd_plan.specs.Choices.{IsValidChoice}
 use Rattle.wd_plan.specs.Expressions.{Expression}
 use Rattle.wd_plan.specs.Outcomes.{outcome, join_outcome, pairs}
-use Rattle.wd_plan.specs.Plans.{Step, PlanTree, Scan, Join, Over}
+use Rattle.wd_plan.specs.Plans.{PlanTree, Scan, Join, Over}
 use Rattle.wd_nodes.specs.Relation.{IsSmall, most_rows}
 use Rattle.wd_eval.specs.Steps.{has_large_step}
 use Rattle.wd_eval.specs.Tied.{AreTied}

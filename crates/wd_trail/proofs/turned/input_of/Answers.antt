@@ -1,6 +1,6 @@
 use Rattle.std.proofs.Common.{◌≡◌, ◌∙◌, map, sym, ap, ⊎_elim}
 use Rattle.wd_plan.specs.Expressions.{expression_of}
-use Rattle.wd_plan.specs.Plans.{Distinct, Filter, Group, Limit, Map, Over, PlanTree, Step, Window, grouping_of, limit_of, plan_of, window_of}
+use Rattle.wd_plan.specs.Plans.{Distinct, Filter, Group, Limit, Map, Over, Step, Window, grouping_of, limit_of, plan_of, window_of}
 use Rattle.wd_trail.proofs.turned.input_of.Goals as goal
 
 pub returns-in-Filter : goal.returns-in-Filter

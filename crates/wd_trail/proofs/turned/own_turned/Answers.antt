@@ -1,4 +1,4 @@
-use Rattle.std.proofs.Common.{◌≡◌, List, Some, Ok, IfSome, sym, subst}
+use Rattle.std.proofs.Common.{List, Some, Ok, IfSome, sym, subst}
 use Rattle.std.proofs.lemmas.Option.{IfSome_then}
 use Rattle.wd_value.specs.Rows.{Row}
 use Rattle.wd_eval.specs.Tied.{turned_at}
