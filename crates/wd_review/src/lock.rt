@@ -3,7 +3,7 @@
 use crate::mended::words_of_error;
 use crate::outputs::{Used, lock_path};
 use crate::queries::Queries;
-use crate::run::{Run, Step, WRONG, steps};
+use crate::run::{QueryFile, Run, Step, WRONG, steps};
 use crate::schema::SchemaFile;
 use crate::stop::Stop;
 use crate::walk::{EachFile, walk};
@@ -158,13 +158,11 @@ impl Locks<'_> {
         report: &mut Report,
         watch: &mut W,
     ) -> Result<(), OutOfMemory> {
-        let Some(text) = run.read(path, report)? else {
+        let Some(query) = run.query(path, report)? else {
             return Ok(());
         };
-        let Some(number) = run.schema_for(path, report)? else {
-            return Ok(());
-        };
-        let Some(schema) = run.schemas.file(number) else {
+        let QueryFile { text, schema } = query;
+        let Some(schema) = run.schemas.file(schema) else {
             return Ok(());
         };
         let lock = lock_over(run.alloc, schema, text, watch)?;
@@ -180,7 +178,9 @@ impl Locks<'_> {
         screen: &mut Screen<'_, C, O, E>,
     ) -> Result<(), Stop<'static>> {
         let Locks {
-            queries, certified, ..
+            queries,
+            certified,
+            ..
         } = self;
         let line = format!(in alloc; "locked: {certified} of {queries} queries\n")?;
         screen.write(line.as_bytes())?;

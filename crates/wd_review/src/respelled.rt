@@ -1,7 +1,7 @@
 //! The texts over which queries are checked.
 
 use crate::queries::Queries;
-use crate::run::{Run, WRONG, steps};
+use crate::run::{QueryFile, Run, WRONG, steps};
 use crate::schema::{Reading, SchemaFile};
 use crate::stop::Stop;
 use crate::walk::{EachFile, walk};
@@ -68,12 +68,13 @@ impl EachFile for Shown {
         report: &mut Report,
         _watch: &mut W,
     ) -> Result<(), OutOfMemory> {
-        let Some(text) = run.read(path, report)? else {
+        let Some(query) = run.query(path, report)? else {
             return Ok(());
         };
-        let Some(number) = run.schema_for(path, report)? else {
-            return Ok(());
-        };
+        let QueryFile {
+            text,
+            schema: number,
+        } = query;
         let Some(schema) = run.schemas.file(number) else {
             return Ok(());
         };

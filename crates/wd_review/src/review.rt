@@ -5,7 +5,7 @@ use crate::mended::write_mended;
 use crate::outputs::{check_outputs, knowledge, write_baseline, write_page};
 use crate::queries::Queries;
 use crate::respelled::show_respelled;
-use crate::run::{Run, WRONG, steps};
+use crate::run::{QueryFile, Run, WRONG, steps};
 use crate::schema::Reading;
 use crate::stop::Stop;
 use crate::walk::{EachFile, walk};
@@ -150,14 +150,12 @@ impl EachFile for Review {
         report: &mut Report,
         watch: &mut W,
     ) -> Result<(), OutOfMemory> {
-        let Some(text) = run.read(path, report)? else {
+        let Some(query) = run.query(path, report)? else {
             return Ok(());
         };
-        let Some(number) = run.schema_for(path, report)? else {
-            return Ok(());
-        };
-        let queries = match run.schemas.file(number) {
-            Some(schema) if !self.is_fix => Queries::over(run.alloc, schema, text)?,
+        let QueryFile { text, schema } = query;
+        let queries = match run.schemas.file(schema) {
+            Some(over) if !self.is_fix => Queries::over(run.alloc, over, text)?,
             _ => Queries::as_written(run.alloc, text),
         };
         queries.tell(run.alloc, path, report)?;
@@ -165,7 +163,7 @@ impl EachFile for Review {
             path,
             text: &queries.text,
         };
-        self.review_over(run, file, number, report, watch)
+        self.review_over(run, file, schema, report, watch)
     }
 }
 
@@ -223,7 +221,9 @@ fn finish<'w, S: Sources, C: Clock, O: Write, E: Write>(
         ..
     } = run;
     let Review {
-        mut tally, input, ..
+        mut tally,
+        input,
+        ..
     } = review;
     let gone = tally.knowledge.left();
     let knowledge = mem::replace(&mut tally.knowledge, Knowledge::Nothing);

@@ -38,6 +38,14 @@ pub(crate) fn steps<S: Sources>(
     Ok(steps)
 }
 
+/// A file of queries that was read.
+#[derive(Drop)]
+pub(crate) struct QueryFile {
+    pub(crate) text: Vec<u8>,
+    /// The number of its schema among those that were read.
+    pub(crate) schema: usize,
+}
+
 /// The schemas that were read.
 #[derive(Drop)]
 pub(crate) struct Schemas {
@@ -110,12 +118,23 @@ impl<'r, S: Sources> Run<'r, S> {
         }
     }
 
-    /// The text of a query's file; `None` where it cannot be read, which is reported.
-    pub(crate) fn read(
+    /// A file of queries, with its schema; `None` where one of them cannot be read, which is reported.
+    pub(crate) fn query(
         &mut self,
         path: &str,
         report: &mut Report,
-    ) -> Result<Option<Vec<u8>>, OutOfMemory> {
+    ) -> Result<Option<QueryFile>, OutOfMemory> {
+        let Some(text) = self.read(path, report)? else {
+            return Ok(None);
+        };
+        match self.schema_for(path, report)? {
+            Some(schema) => Ok(Some(QueryFile { text, schema })),
+            None => Ok(None),
+        }
+    }
+
+    /// The text of a query's file; `None` where it cannot be read, which is reported.
+    fn read(&mut self, path: &str, report: &mut Report) -> Result<Option<Vec<u8>>, OutOfMemory> {
         match self.sources.read(self.alloc, path, MOST_BYTES) {
             Ok(text) => Ok(Some(text)),
             Err(error) => {
@@ -156,7 +175,7 @@ impl<'r, S: Sources> Run<'r, S> {
 
     /// The number of a query's schema among those that were read: the given one, or the nearest; `None` where there is none, which is
     /// reported.
-    pub(crate) fn schema_for(
+    fn schema_for(
         &mut self,
         query: &str,
         report: &mut Report,

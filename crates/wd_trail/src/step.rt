@@ -71,7 +71,10 @@ pub(crate) fn join_rows(
 fn most_pairs(left: &OwnRows, right: &OwnRows, most: u64) -> u64
     ensures { result ≤ most_rows }
 {
-    let width = left.source().width(0).saturating_add(right.source().width(0));
+    let width = left
+        .source()
+        .width(0)
+        .saturating_add(right.source().width(0));
     let rows = most / (width as u64).saturating_add(1);
     if rows < MOST_ROWS { rows } else { MOST_ROWS }
 }
