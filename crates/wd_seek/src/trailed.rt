@@ -22,7 +22,7 @@ use wd_value::{Instance, OutOfMemory};
 /// The fewest orderings for which it pays to keep what each node gives.
 const FEWEST_ORDERINGS: u32 = 4;
 
-/// The most values that are kept of one instance, 16 bytes each, and that a join above a turned ordering may give.
+/// The most values that are kept of one instance, 16 bytes each.
 const MOST_KEPT_VALUES: u64 = 1 << 25;
 
 /// Keeps what the nodes of a plan give over an instance, where it has several orderings and there is room and memory.
@@ -58,7 +58,7 @@ pub(crate) fn agrees_turned(
     let Some(trail) = trail else {
         return false;
     };
-    match trail.turned(alloc, plan, number, turn, MOST_KEPT_VALUES) {
+    match trail.turned(alloc, plan, number, turn) {
         Ok(Change::Same) => true,
         Ok(Change::Rows(rows)) => agree(alloc, first, rows),
         Ok(Change::Unknown) | Err(_) => false,

@@ -41,18 +41,20 @@ pub(crate) fn step_rows(
     }
 }
 
-/// The rows that a Join gives; none where it has a fault, too many rows, or rows of more than `most` values. (A row counts as one value
-/// more than it has.) Its pairs are counted before a row of them is made.
+/// The most values that a Join's rows have here, 16 bytes each: they are made whole, where an evaluation makes what a select list above
+/// them shows.
+const MOST_JOINED_VALUES: u64 = 1 << 22;
+
+/// The rows that a Join gives; none where it has a fault, or too many rows or values. Its pairs are counted before a row of them is made.
 pub(crate) fn join_rows(
     alloc: Global,
     condition: &Option<Expr>,
     left: &OwnRows,
     right: OwnRows,
-    most: u64,
 ) -> Result<Option<OwnRows>, OutOfMemory>
     ensures { IfOk result (λ o. IfSome o (λ r. IsJoinOver (option_map expression_of condition.now) left.now right r)) }
 {
-    let most = most_pairs(left, &right, most);
+    let most = most_pairs(left, &right);
     let tables = Tables::of_own(slice::from_ref(left));
     let first = Relation::Stored(StoredRows::Table(0));
     let second = Relation::Stored(StoredRows::Own(right));
@@ -67,16 +69,15 @@ pub(crate) fn join_rows(
     }
 }
 
-/// The most pairs of two sides' rows that a step may have and whose rows have at most so many values.
-fn most_pairs(left: &OwnRows, right: &OwnRows, most: u64) -> u64
+/// The most pairs of two sides' rows that are made. (A row counts as one value more than it has.)
+fn most_pairs(left: &OwnRows, right: &OwnRows) -> u64
     ensures { result ≤ most_rows }
 {
     let width = left
         .source()
         .width(0)
         .saturating_add(right.source().width(0));
-    let rows = most / (width as u64).saturating_add(1);
-    if rows < MOST_ROWS { rows } else { MOST_ROWS }
+    MOST_JOINED_VALUES / (width as u64).saturating_add(1)
 }
 
 /// Whether two lists of rows are the same.

@@ -39,7 +39,7 @@ impl Trail {
 }
 
 /// Keeps what the nodes of a plan give over an instance, a part of the plan without orderings as one. Nothing is kept where a node has
-/// a fault or too many rows, or where the nodes have more than `most` values. (A row counts as one value more than it has.)
+/// a fault or too many rows, a Join above orderings too many values, or where the nodes have more than `most` values. (A row counts as one value more than it has.)
 pub fn follow(
     alloc: Global,
     plan: &Plan,
@@ -144,7 +144,7 @@ fn join(
         return Ok(None);
     };
     let second = copy_all(alloc, &right.rows().source())?;
-    match join_rows(alloc, condition, left.rows(), second, *room)? {
+    match join_rows(alloc, condition, left.rows(), second)? {
         Some(rows) if has_room(&rows, room) => {
             let (left, right) = (Box::new(alloc, left)?, Box::new(alloc, right)?);
             Ok(Some(Trail::Join(rows, left, right)))

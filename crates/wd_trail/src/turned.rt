@@ -24,20 +24,18 @@ pub enum Change {
     Same,
     /// Other rows.
     Rows(OwnRows),
-    /// This can't be told: a step has a fault, too many rows or too large a join, or its nodes are not kept.
+    /// This can't be told: a step has a fault or too many rows, a Join too many values, or its nodes are not kept.
     Unknown,
 }
 
 impl Trail {
-    /// What the plan gives where the ordering with this number takes rows that tie in a turn. It can't be told where a Join gives rows of
-    /// more than `most` values then. (A row counts as one value more than it has.)
+    /// What the plan gives where the ordering with this number takes rows that tie in a turn.
     pub fn turned(
         &self,
         alloc: Global,
         plan: &Plan,
         number: u32,
         turn: Turn,
-        most: u64,
     ) -> Result<Change, OutOfMemory>
         requires few { number < 2 ^ 32 - 1 }
         requires named { EachNamesClasses (plan_of plan.now) }
@@ -50,7 +48,7 @@ impl Trail {
                 Some(input) => {
                     let before = input.orderings();
                     if number < before {
-                        let change = below.turned(alloc, input, number, turn, most)?;
+                        let change = below.turned(alloc, input, number, turn)?;
                         step_over(alloc, plan, change, rows)
                     } else {
                         own_turned(alloc, plan, below.rows(), number - before, turn, rows)
@@ -65,11 +63,11 @@ impl Trail {
                 } => {
                     let before = left.orderings();
                     if number < before {
-                        let change = on_left.turned(alloc, left, number, turn, most)?;
-                        left_changed(alloc, condition, change, on_right.rows(), rows, most)
+                        let change = on_left.turned(alloc, left, number, turn)?;
+                        left_changed(alloc, condition, change, on_right.rows(), rows)
                     } else {
-                        let change = on_right.turned(alloc, right, number - before, turn, most)?;
-                        right_changed(alloc, condition, on_left.rows(), change, rows, most)
+                        let change = on_right.turned(alloc, right, number - before, turn)?;
+                        right_changed(alloc, condition, on_left.rows(), change, rows)
                     }
                 }
                 _ => Ok(Change::Unknown),
@@ -185,7 +183,6 @@ fn left_changed(
     change: Change,
     right: &OwnRows,
     given: &OwnRows,
-    most: u64,
 ) -> Result<Change, OutOfMemory>
     ensures { IfOk result (λ r. (left : List Row) → IsJoinOver (option_map expression_of condition.now) left right.now given.now → IsToldOver (λ rows found. IsJoinOver (option_map expression_of condition.now) rows right.now found) (rows_shown left change) (rows_shown given.now r)) }
 {
@@ -194,7 +191,7 @@ fn left_changed(
         Change::Unknown => Ok(Change::Unknown),
         Change::Rows(rows) => {
             let right = copy_all(alloc, &right.source())?;
-            let found = join_rows(alloc, condition, &rows, right, most)?;
+            let found = join_rows(alloc, condition, &rows, right)?;
             Ok(compared(found, given))
         }
     }
@@ -207,7 +204,6 @@ fn right_changed(
     left: &OwnRows,
     change: Change,
     given: &OwnRows,
-    most: u64,
 ) -> Result<Change, OutOfMemory>
     ensures { IfOk result (λ r. (right : List Row) → IsJoinOver (option_map expression_of condition.now) left.now right given.now → IsToldOver (λ rows found. IsJoinOver (option_map expression_of condition.now) left.now rows found) (rows_shown right change) (rows_shown given.now r)) }
 {
@@ -215,7 +211,7 @@ fn right_changed(
         Change::Same => Ok(Change::Same),
         Change::Unknown => Ok(Change::Unknown),
         Change::Rows(rows) => {
-            let found = join_rows(alloc, condition, left, rows, most)?;
+            let found = join_rows(alloc, condition, left, rows)?;
             Ok(compared(found, given))
         }
     }
