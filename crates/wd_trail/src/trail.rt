@@ -39,7 +39,8 @@ impl Trail {
 }
 
 /// Keeps what the nodes of a plan give over an instance, a part of the plan without orderings as one. Nothing is kept where a node has
-/// a fault or too many rows, a Join above orderings too many values, or where the nodes have more than `most` values. (A row counts as one value more than it has.)
+/// a fault or too many rows, a Join above orderings too many values, or where the nodes have more than `most` values. (A row counts as one
+/// value more than it has.)
 pub fn follow(
     alloc: Global,
     plan: &Plan,
