@@ -37,7 +37,7 @@ columns_along = values_along (λ c row. column_of row c)
 
 -- ---- all columns of rows that have as many values
 
-all_columns : (row : Row) (width : ℕ) → length row ≡ width → columns_of (positions width) row ≡ row
+pub all_columns : (row : Row) (width : ℕ) → length row ≡ width → columns_of (positions width) row ≡ row
 all_columns row width wide = sym (fill_by_all (column_of row) row width Null wide (λ k low. refl))
 
 pub even : (rows : List Row) (width : ℕ) → All (λ row. length row ≡ width) rows → map (columns_of (positions width)) rows ≡ rows

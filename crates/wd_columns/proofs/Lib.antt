@@ -5,3 +5,4 @@ pub mod RowsAlong
 pub mod Rooms
 pub mod Beside
 pub mod Copied
+pub mod Joining

@@ -1,7 +1,8 @@
 -- Rows along columns: where they stand, those with some of the columns, and one more.
-use Rattle.std.proofs.Common.{◌≡◌, ◌∙◌, ℕ, zero, suc, ◌+◌, ◌<◌, ◌≤◌, List, [], ◌∷◌, ◌++◌, map, length, get_or, set, refl, sym, ap, arith, zero-add}
+use Rattle.std.proofs.Common.{◌≡◌, ◌∙◌, ℕ, zero, suc, ◌+◌, ◌<◌, ◌≤◌, List, [], ◌∷◌, ◌++◌, All, map, length, get_or, set, refl, sym, ap, arith, zero-add}
 use Rattle.std.specs.List.{range_with_len}
 use Rattle.std.proofs.lemmas.List.{get_or-map as get_or_mapped, get_or_append_left, get_or_past, get_or_push, length-map, length_push, map_push, map-set, same_lists}
+use Rattle.std.proofs.lemmas.List.Elements.{All-map}
 use Rattle.std.proofs.lemmas.List.FromFn.{get_or-map-range_with_len, length-range_with_len, map-range_with_len_more}
 use Rattle.std.proofs.Math.ListN.{get_or-map}
 use Rattle.std.proofs.Math.Seq.{map-set_same}
@@ -21,6 +22,10 @@ at p column = get_or column p Null
 
 pub count : (columns : List Row) (n : ℕ) → length (rows_along columns n) ≡ n
 count columns n = length-map (positions n) (row_along columns) ∙ length-range_with_len 0 n
+
+-- each row has a value of each column
+pub even_rows : (columns : List Row) (n : ℕ) → All (λ row. length row ≡ length columns) (rows_along columns n)
+even_rows columns n = All-map (λ row. length row ≡ length columns) (row_along columns) (positions n) (λ k d low. length-map columns (at (get_or (positions n) k d)))
 
 pub value_is : (columns : List Row) (p c : ℕ) → column_of (row_along columns p) c ≡ get_or (row_at columns c) p Null
 value_is columns p c = get_or-map (at p) columns c []

@@ -3,3 +3,7 @@ pub mod Moves
 pub mod Kept
 pub mod Owned
 pub mod Room
+pub mod Joined
+pub mod Pairs
+pub mod Pairing
+pub mod Stored

@@ -1,6 +1,7 @@
 //! Tables kept column by column.
 
-ghost use Rattle.std.specs.Prelude.{◌≡◌, List, [], ◌∷◌, ◌++◌, IfOk, length, map, slice_index_or};
+ghost use Rattle.std.specs.Option.{option_copied};
+ghost use Rattle.std.specs.Prelude.{◌≡◌, List, [], ◌∷◌, ◌++◌, All, IfOk, length, map, slice_index_or, unwrap_or};
 ghost use Rattle.wd_columns.specs.Along as along;
 ghost use Rattle.wd_columns.specs.Along.{rows_along, with_values};
 ghost use Rattle.wd_columns.specs.Moves.{AreDifferent, AreWithin};
@@ -69,14 +70,28 @@ impl Columns {
         self.columns.len()
     }
 
+    /// How many values each row has.
+    pub(crate) fn column_count(&self) -> usize
+        ensures { All (λ row. length row ≡ result) self.now }
+    {
+        self.columns.len()
+    }
+
+    /// The value in a column of the row at a position; none past the last row or column.
+    pub(crate) fn get(&self, position: u64, column: usize) -> Option<&Value>
+        ensures { unwrap_or (option_copied result) value.Null ≡ column_of (row_at self.now position) column }
+    {
+        if position as usize >= self.count {
+            return None;
+        }
+        value_along(&self.columns, position as usize, column)
+    }
+
     /// The value in a column of the row at a position, and NULL past the last row or column.
     pub fn value(&self, position: u64, column: usize) -> &Value
         ensures { result.now ≡ column_of (row_at self.now position) column }
     {
-        if position as usize >= self.count {
-            return &self.null;
-        }
-        value_along(&self.columns, position as usize, column, &self.null)
+        self.get(position, column).unwrap_or(&self.null)
     }
 
     /// NULL.
@@ -139,17 +154,11 @@ fn push_column(columns: Vec<Vec<Value>>, column: Vec<Value>) -> Result<Vec<Vec<V
     Ok(grown)
 }
 
-/// The value in a column of the row at a position, and `null` past the last of either.
-fn value_along<'a>(
-    columns: &'a [Vec<Value>],
-    position: usize,
-    column: usize,
-    null: &'a Value,
-) -> &'a Value
-    requires { null.now ≡ value.Null }
-    ensures { result.now ≡ column_of (along.row_along (rows_of columns.now) position) column }
+/// The value in a column of the row at a position; none past the last of either.
+fn value_along(columns: &[Vec<Value>], position: usize, column: usize) -> Option<&Value>
+    ensures { unwrap_or (option_copied result) value.Null ≡ column_of (along.row_along (rows_of columns.now) position) column }
 {
-    value_in(column_in(columns, column), position, null)
+    value_in(column_in(columns, column), position)
 }
 
 /// The column with a number, and one without values past the last.
@@ -162,9 +171,8 @@ fn column_in(columns: &[Vec<Value>], column: usize) -> &[Value]
     }
 }
 
-fn value_in<'a>(column: &'a [Value], position: usize, null: &'a Value) -> &'a Value
-    requires { null.now ≡ value.Null }
-    ensures { result.now ≡ slice_index_or column.now position value.Null }
+fn value_in(column: &[Value], position: usize) -> Option<&Value>
+    ensures { unwrap_or (option_copied result) value.Null ≡ slice_index_or column.now position value.Null }
 {
-    column.get(position).unwrap_or(null)
+    column.get(position)
 }

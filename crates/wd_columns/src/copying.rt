@@ -1,10 +1,11 @@
 //! Copies of rows.
 
-ghost use Rattle.std.specs.Prelude.{◌≡◌, ◌++◌, All, IfOk, OnOk, length, map, true};
+ghost use Rattle.std.specs.Prelude.{◌≡◌, ◌++◌, All, IfOk, IfSome, OnOk, length, map, true};
 ghost use Rattle.wd_value.specs.Bags as bags;
 ghost use Rattle.wd_value.specs.Rows.{column_of, row_at, rows_at, rows_of};
 
 use crate::columns::Columns;
+use crate::joined::JoinedRows;
 use crate::own::OwnRows;
 use crate::source::RowSource;
 use std::alloc::Global;
@@ -27,12 +28,39 @@ pub fn copy_rows(alloc: Global, rows: &RowSource, positions: &[u64]) -> Result<O
     }
 }
 
-/// Copies of all rows, kept likewise.
+/// All rows as rows of their own: they share what joined rows are made of, and are copies of other rows, kept likewise.
 pub fn copy_all(alloc: Global, rows: &RowSource) -> Result<OwnRows, OutOfMemory>
     ensures { IfOk result (λ r. r ≡ rows.now) }
 {
+    match share_rows(alloc, rows)? {
+        Some(shared) => Ok(shared),
+        None => {
+            let all = all_positions(alloc, rows.len())?;
+            copy_rows(alloc, rows, &all)
+        }
+    }
+}
+
+/// The same rows, where they are joined rows: no value is copied. `None` for other rows.
+pub fn share_rows(alloc: Global, rows: &RowSource) -> Result<Option<OwnRows>, OutOfMemory>
+    ensures { IfOk result (λ o. IfSome o (λ r. r ≡ rows.now)) }
+{
+    match rows.joined() {
+        Some(joined) => {
+            let shared = joined.share(alloc)?;
+            Ok(Some(OwnRows::of_joined(shared)))
+        }
+        None => Ok(None),
+    }
+}
+
+/// Copies of joined rows as a list.
+pub(crate) fn listed(alloc: Global, rows: &JoinedRows) -> Result<Vec<Row>, OutOfMemory>
+    ensures { IfOk result (λ v. rows_of v.items ≡ rows.now) }
+{
+    let null = Value::Null;
     let all = all_positions(alloc, rows.len())?;
-    copy_rows(alloc, rows, &all)
+    copied_rows(alloc, &RowSource::of_joined(rows, &null), &all)
 }
 
 /// The first so many positions, in order.

@@ -3,12 +3,14 @@
 ghost use Rattle.std.specs.Prelude.{◌≡◌, IfOk, length, map};
 ghost use Rattle.wd_columns.specs.Along.{with_values};
 ghost use Rattle.wd_columns.specs.Moves.{AreDifferent, AreWithin};
-ghost use Rattle.wd_columns.specs.Owned.{rows_owned};
+ghost use Rattle.wd_columns.specs.Owned.{JoinedOr, rows_owned};
 ghost use Rattle.wd_value.specs.Rows.{columns_of, rows_at, rows_of};
 ghost use Rattle.wd_value.specs.declared.value.Value.TheVariants as value;
 
 use crate::appending::with_values_beside;
 use crate::columns::Columns;
+use crate::copying::listed;
+use crate::joined::JoinedRows;
 use crate::moved::moved_rows;
 use crate::picking::picked_columns;
 use crate::source::RowSource;
@@ -21,10 +23,11 @@ use wd_value::{OutOfMemory, Row, Value};
 enum Owned {
     ByRow(Vec<Row>),
     ByColumn(Columns),
+    ByPosition(JoinedRows),
 }
 
-/// Rows of their own, which are kept row by row or column by column. Contracts see the list of them. What is picked, selected or
-/// extended is kept as it was.
+/// Rows of their own, which are kept row by row, column by column or by their positions in tables of their own. Contracts see the list
+/// of them. What is picked, selected or extended is kept as it was.
 #[derive(Drop)]
 pub struct OwnRows {
     owned: Owned,
@@ -69,11 +72,43 @@ impl OwnRows {
         }
     }
 
+    /// Joined rows.
+    pub(crate) fn of_joined(rows: JoinedRows) -> OwnRows
+        ensures { result ≡ rows }
+    {
+        OwnRows {
+            owned: Owned::ByPosition(rows),
+            null: Value::Null,
+        }
+    }
+
+    /// The rows by their positions in tables; where they are kept row by row, the rows as they are.
+    pub(crate) fn into_joined(
+        self,
+        alloc: Global,
+    ) -> Result<Result<JoinedRows, OwnRows>, OutOfMemory>
+        ensures { IfOk result (λ r. JoinedOr self r) }
+    {
+        let OwnRows { owned, .. } = self;
+        match owned {
+            Owned::ByRow(rows) => Ok(Err(OwnRows::of_rows(rows))),
+            Owned::ByColumn(columns) => {
+                let joined = JoinedRows::of_columns(alloc, columns)?;
+                Ok(Ok(joined))
+            }
+            Owned::ByPosition(rows) => Ok(Ok(rows)),
+        }
+    }
+
     /// The rows to be read where they are.
     pub fn source(&self) -> RowSource<'_>
         ensures { result ≡ self.now }
     {
-        source_of(&self.owned, &self.null)
+        match &self.owned {
+            Owned::ByRow(rows) => RowSource::of_rows(rows, &self.null),
+            Owned::ByColumn(columns) => RowSource::of_columns(columns),
+            Owned::ByPosition(rows) => RowSource::of_joined(rows, &self.null),
+        }
     }
 
     /// The rows at these positions, in their order. Values are moved: no position is there twice, and each is one of a row.
@@ -91,6 +126,10 @@ impl OwnRows {
             Owned::ByColumn(columns) => {
                 let picked = columns.pick(alloc, positions)?;
                 Ok(OwnRows::of_columns(picked))
+            }
+            Owned::ByPosition(rows) => {
+                let picked = rows.pick(alloc, positions)?;
+                Ok(OwnRows::of_joined(picked))
             }
         }
     }
@@ -110,6 +149,10 @@ impl OwnRows {
                 let selected = all.select(alloc, columns)?;
                 Ok(OwnRows::of_columns(selected))
             }
+            Owned::ByPosition(rows) => {
+                let selected = rows.select(alloc, columns)?;
+                Ok(OwnRows::of_joined(selected))
+            }
         }
     }
 
@@ -127,6 +170,10 @@ impl OwnRows {
                 let extended = columns.with_column(values)?;
                 Ok(OwnRows::of_columns(extended))
             }
+            Owned::ByPosition(rows) => {
+                let extended = rows.with_column(values)?;
+                Ok(OwnRows::of_joined(extended))
+            }
         }
     }
 
@@ -138,16 +185,7 @@ impl OwnRows {
         match owned {
             Owned::ByRow(rows) => Ok(rows),
             Owned::ByColumn(columns) => columns.into_rows(alloc),
+            Owned::ByPosition(rows) => listed(alloc, &rows),
         }
-    }
-}
-
-fn source_of<'a>(owned: &'a Owned, null: &'a Value) -> RowSource<'a>
-    requires { null.now ≡ value.Null }
-    ensures { result ≡ rows_owned owned.now }
-{
-    match owned {
-        Owned::ByRow(rows) => RowSource::of_rows(rows, null),
-        Owned::ByColumn(columns) => RowSource::of_columns(columns),
     }
 }

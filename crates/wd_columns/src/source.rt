@@ -1,12 +1,16 @@
 //! Rows to be read, however they are kept.
 
-ghost use Rattle.std.specs.Prelude.{◌≡◌, length};
+ghost use Rattle.std.specs.Option.{option_copied};
+ghost use Rattle.std.specs.Prelude.{◌≡◌, IfSome, length, unwrap_or};
 ghost use Rattle.wd_columns.specs.Kept.{rows_kept};
+ghost use Rattle.wd_columns.specs.Stored.{Stores};
 ghost use Rattle.wd_value.specs.Rows as table;
 ghost use Rattle.wd_value.specs.Rows.{column_of, rows_of};
 ghost use Rattle.wd_value.specs.declared.value.Value.TheVariants as value;
 
 use crate::columns::Columns;
+use crate::joined::JoinedRows;
+use crate::origin::StoredColumn;
 use std::marker::Model;
 use wd_value::{Row, Value};
 
@@ -15,9 +19,10 @@ use wd_value::{Row, Value};
 enum Kept<'a> {
     ByRow(&'a [Row]),
     ByColumn(&'a Columns),
+    ByPosition(&'a JoinedRows),
 }
 
-/// Rows to be read, which are kept row by row or column by column. Contracts see the list of them.
+/// Rows to be read, which are kept row by row, column by column or by their positions in other tables. Contracts see the list of them.
 #[derive(Drop)]
 pub struct RowSource<'a> {
     kept: Kept<'a>,
@@ -63,6 +68,17 @@ impl<'a> RowSource<'a> {
         }
     }
 
+    /// Joined rows, and `null` past the last row or column.
+    pub(crate) fn of_joined(rows: &'a JoinedRows, null: &'a Value) -> RowSource<'a>
+        requires { null.now ≡ value.Null }
+        ensures { result ≡ rows.now }
+    {
+        RowSource {
+            kept: Kept::ByPosition(rows),
+            null,
+        }
+    }
+
     /// How many rows there are.
     pub fn len(&self) -> usize
         ensures { result ≡ length self.now }
@@ -81,7 +97,24 @@ impl<'a> RowSource<'a> {
     pub fn value(&self, position: u64, column: usize) -> &Value
         ensures { result.now ≡ column_of (table.row_at self.now position) column }
     {
-        value_of(&self.kept, position, column, self.null)
+        value_of(&self.kept, position, column).unwrap_or(self.null)
+    }
+
+    /// The joined rows that are read, if they are such.
+    pub(crate) fn joined(&self) -> Option<&JoinedRows>
+        ensures { IfSome result (λ rows. rows.now ≡ self.now) }
+    {
+        match self.kept {
+            Kept::ByPosition(rows) => Some(rows),
+            Kept::ByRow(_) | Kept::ByColumn(_) => None,
+        }
+    }
+
+    /// A column as it is stored, where the rows are kept by their positions in other tables.
+    pub fn stored_column(&self, column: usize) -> Option<StoredColumn<'_>>
+        ensures { IfSome result (Stores self.now column) }
+    {
+        column_stored(&self.kept, column)
     }
 
     /// NULL, as it is read past the last row or column.
@@ -98,6 +131,7 @@ fn count_of(kept: &Kept) -> usize
     match kept {
         Kept::ByRow(rows) => rows.len(),
         Kept::ByColumn(columns) => columns.len(),
+        Kept::ByPosition(rows) => rows.len(),
     }
 }
 
@@ -107,16 +141,27 @@ fn width_of(kept: &Kept, position: u64) -> usize
     match kept {
         Kept::ByRow(rows) => row_in(rows, position).len(),
         Kept::ByColumn(columns) => columns.width(position),
+        Kept::ByPosition(rows) => rows.width(position),
     }
 }
 
-fn value_of<'a>(kept: &'a Kept, position: u64, column: usize, null: &'a Value) -> &'a Value
-    requires { null.now ≡ value.Null }
-    ensures { result.now ≡ column_of (table.row_at (rows_kept kept.now) position) column }
+/// The value in a column of the row at a position; none past the last row or column.
+fn value_of<'a>(kept: &'a Kept, position: u64, column: usize) -> Option<&'a Value>
+    ensures { unwrap_or (option_copied result) value.Null ≡ column_of (table.row_at (rows_kept kept.now) position) column }
 {
     match kept {
-        Kept::ByRow(rows) => row_in(rows, position).get(column).unwrap_or(null),
-        Kept::ByColumn(columns) => columns.value(position, column),
+        Kept::ByRow(rows) => row_in(rows, position).get(column),
+        Kept::ByColumn(columns) => columns.get(position, column),
+        Kept::ByPosition(rows) => rows.get(position, column),
+    }
+}
+
+fn column_stored<'a>(kept: &'a Kept, column: usize) -> Option<StoredColumn<'a>>
+    ensures { IfSome result (Stores (rows_kept kept.now) column) }
+{
+    match kept {
+        Kept::ByPosition(rows) => rows.stored_column(column),
+        Kept::ByRow(_) | Kept::ByColumn(_) => None,
     }
 }
 

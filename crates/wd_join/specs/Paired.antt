@@ -5,15 +5,8 @@ use Rattle.wd_value.specs.Rows.{Row, row_at}
 use Rattle.wd_plan.specs.declared.expression.ComparisonOp.TheVariants.{Equal}
 use Rattle.wd_plan.specs.Expressions.{Expression, Column, Compare, And, is_true, value_of}
 use Rattle.wd_join.specs.declared.matching.JoinColumns.{JoinColumns}
-use Rattle.wd_join.specs.declared.paired.Pair.{Pair}
+use Rattle.wd_columns.specs.declared.pairs.Pair.{Pair}
 use Rattle.wd_join.specs.Matching.{agree}
-
--- the values of both rows of a pair, the left one's first
-abbrev pub row_paired : List Row → List Row → Pair → Row
-row_paired left right pair = row_at left pair.left ++ row_at right pair.right
-
-abbrev pub rows_paired : List Row → List Row → List Pair → List Row
-rows_paired left right pairs = map (row_paired left right) pairs
 
 -- a left position with each of some right ones
 abbrev pub with_each : ℕ → List ℕ → List Pair

@@ -17,4 +17,4 @@ mod walk;
 pub use error::StepError;
 pub use join::{filter_pairs, join_pairs};
 pub use narrow::narrow_pairs;
-pub use paired::{Pair, all_pairs, paired_columns, paired_rows};
+pub use paired::{all_pairs, paired_columns, paired_rows};

@@ -4,12 +4,12 @@ ghost use Rattle.std.specs.Prelude.{IfOk};
 ghost use Rattle.wd_plan.specs.Expressions.{expression_of};
 ghost use Rattle.wd_plan.specs.Outcomes.{pairs};
 ghost use Rattle.wd_join.specs.Joins.{AreEnough};
-ghost use Rattle.wd_join.specs.Paired.{rows_paired};
+ghost use Rattle.wd_columns.specs.Pairs.{rows_paired};
 
 use crate::matching::matching_columns;
-use crate::paired::{Pair, agreeing_pairs, all_pairs};
+use crate::paired::{agreeing_pairs, all_pairs};
 use std::alloc::Global;
-use wd_columns::RowSource;
+use wd_columns::{Pair, RowSource};
 use wd_plan::Expr;
 use wd_value::OutOfMemory;
 

@@ -6,7 +6,8 @@ ghost use Rattle.wd_plan.specs.Outcomes as spec;
 ghost use Rattle.wd_plan.specs.Outcomes.{join_outcome};
 ghost use Rattle.wd_join.specs.Joins.{has_more_rows};
 ghost use Rattle.wd_join.specs.Matching.{matching};
-ghost use Rattle.wd_join.specs.Paired.{IsOfEqualities, row_paired, rows_paired, with_each};
+ghost use Rattle.wd_columns.specs.Pairs.{row_paired, rows_paired};
+ghost use Rattle.wd_join.specs.Paired.{IsOfEqualities, with_each};
 ghost use Rattle.wd_join.specs.declared.error.StepError.TheVariants as error;
 ghost use Rattle.wd_value.specs.Rows.{column_of, columns_of, rows_of};
 
@@ -15,17 +16,10 @@ use crate::exact::exact_columns;
 use crate::matching::JoinColumns;
 use crate::walk::{agreeing_rows, positions_in};
 use std::alloc::Global;
-use wd_columns::{Columns, OwnRows, RowSource, all_positions, push_values};
+use wd_columns::{Columns, OwnRows, Pair, RowSource, all_positions, push_values};
 use wd_plan::Expr;
 use wd_scalar::value_in_pair;
 use wd_value::{OutOfMemory, Row, Value};
-
-/// The positions of a left and of a right row.
-#[derive(Clone, Copy)]
-pub struct Pair {
-    pub left: u64,
-    pub right: u64,
-}
 
 /// The pairs of a left and a right row, the left one outermost, for which the condition is true, by their positions, where it consists
 /// of equalities of a left and a right column; `None` exactly where it does not, or where rows of a side differ in width. The error is

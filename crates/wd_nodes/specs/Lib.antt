@@ -3,3 +3,4 @@ pub mod Tables
 pub mod Relation
 pub mod Held
 pub mod Taken
+pub mod Sides

@@ -7,11 +7,12 @@ ghost use Rattle.wd_plan.specs.Expressions.{expression_of};
 ghost use Rattle.wd_plan.specs.Outcomes.{outcome_of};
 ghost use Rattle.wd_value.specs.Rows.{Instance};
 
-use crate::stored::{StoredRows, into_own_rows, store_pairs};
+use crate::sides::store_pairs;
+use crate::stored::{StoredRows, into_own_rows};
 use crate::tables::Tables;
 use std::alloc::Global;
-use wd_columns::{Columns, OwnRows};
-use wd_join::{Pair, all_pairs, narrow_pairs};
+use wd_columns::{Columns, OwnRows, Pair};
+use wd_join::{all_pairs, narrow_pairs};
 use wd_plan::{Expr, Outcome};
 use wd_value::{Fault, OutOfMemory};
 
@@ -36,9 +37,9 @@ pub fn store(alloc: Global, tables: &Tables, relation: Relation) -> Result<Store
         Relation::Pairs(left, right) => {
             let left = store(alloc, tables, Box::into_inner(left))?;
             let pairs = all_pairs(alloc, &tables.source(&left), &tables.source(&right))?;
-            store_pairs(alloc, tables, &left, &right, &pairs)
+            store_pairs(alloc, tables, left, right, &pairs)
         }
-        Relation::Joined(left, right, pairs) => store_pairs(alloc, tables, &left, &right, &pairs),
+        Relation::Joined(left, right, pairs) => store_pairs(alloc, tables, left, right, &pairs),
     }
 }
 
@@ -61,7 +62,7 @@ pub(crate) fn narrow(
                 &tables.source(&left),
                 &tables.source(&right),
             )?;
-            store_pairs(alloc, tables, &left, &right, &pairs)
+            store_pairs(alloc, tables, left, right, &pairs)
         }
         other => store(alloc, tables, other),
     }

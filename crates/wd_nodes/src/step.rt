@@ -7,16 +7,17 @@ ghost use Rattle.wd_nodes.specs.Relation.{IsSmallOrLarge, joined_of, relation_of
 ghost use Rattle.wd_plan.specs.Expressions.{Column, expression_of};
 ghost use Rattle.wd_plan.specs.Outcomes as spec;
 ghost use Rattle.wd_plan.specs.Plans.{HaveMasks, grouping_of};
-ghost use Rattle.wd_join.specs.Paired.{rows_paired};
+ghost use Rattle.wd_columns.specs.Pairs.{rows_paired};
 ghost use Rattle.wd_value.specs.Rows.{Instance};
 
 use crate::relation::{Relation, from_columns, from_pairs, has_more, narrow, store};
-use crate::stored::{StoredRows, pick_rows, store_pairs};
+use crate::sides::{Sides, join_sides};
+use crate::stored::{StoredRows, pick_rows};
 use crate::tables::Tables;
 use std::alloc::Global;
-use wd_columns::{Columns, OwnRows, RowSource};
+use wd_columns::{Columns, OwnRows, Pair, RowSource, share_rows};
 use wd_group::group_rows;
-use wd_join::{Pair, StepError, all_pairs, filter_pairs, join_pairs, paired_columns};
+use wd_join::{StepError, all_pairs, filter_pairs, join_pairs, paired_columns, paired_rows};
 use wd_plan::{Expr, Group};
 use wd_steps::{distinct_positions, map_columns, passing_positions, shown_columns};
 use wd_value::{Fault, OutOfMemory};
@@ -184,34 +185,55 @@ pub fn map_input(
         Relation::Pairs(left, right) => {
             let left = store(alloc, tables, Box::into_inner(left))?;
             let pairs = all_pairs(alloc, &tables.source(&left), &tables.source(&right))?;
-            map_pairs(alloc, tables, outputs, &left, &right, &pairs)
+            map_pairs(alloc, tables, outputs, left, right, &pairs)
         }
         Relation::Joined(left, right, pairs) => {
-            map_pairs(alloc, tables, outputs, &left, &right, &pairs)
+            map_pairs(alloc, tables, outputs, left, right, &pairs)
         }
     }
 }
 
-/// The values of the outputs over pairs that are not made yet: where the outputs are columns, only these are made.
+/// The values of the outputs over pairs that are not made yet.
 fn map_pairs(
     alloc: Global,
     tables: &Tables,
     outputs: &[Expr],
-    left: &StoredRows,
-    right: &StoredRows,
+    left: StoredRows,
+    right: StoredRows,
     pairs: &[Pair],
 ) -> Result<Result<Relation, Fault>, OutOfMemory>
-    ensures { IfOk result (λ r. relation_or_fault_of tables.now r ≡ spec.map_outcome (map expression_of outputs.now) (rows_paired (stored_rows_of tables.now left.now) (stored_rows_of tables.now right.now) pairs.now)) }
+    ensures { IfOk result (λ r. relation_or_fault_of tables.now r ≡ spec.map_outcome (map expression_of outputs.now) (rows_paired (stored_rows_of tables.now left) (stored_rows_of tables.now right) pairs.now)) }
+{
+    match join_sides(alloc, tables, left, right, pairs)? {
+        Sides::Joined(rows) => map_own(alloc, outputs, rows),
+        Sides::Apart(left, right) => map_apart(
+            alloc,
+            outputs,
+            &tables.source(&left),
+            &tables.source(&right),
+            pairs,
+        ),
+    }
+}
+
+/// The values of the outputs over the pairs of two sides, whose rows are made: where the outputs are columns, with only these.
+fn map_apart(
+    alloc: Global,
+    outputs: &[Expr],
+    left: &RowSource,
+    right: &RowSource,
+    pairs: &[Pair],
+) -> Result<Result<Relation, Fault>, OutOfMemory>
+    ensures { IfOk result (λ r. (instance : Instance) → relation_or_fault_of instance r ≡ spec.map_outcome (map expression_of outputs.now) (rows_paired left.now right.now pairs.now)) }
 {
     match shown_columns(alloc, outputs)? {
         Some(columns) => {
-            let (first, second) = (tables.source(left), tables.source(right));
-            let picked = paired_columns(alloc, &first, &second, pairs, &columns)?;
+            let picked = paired_columns(alloc, left, right, pairs, &columns)?;
             Ok(from_columns(Ok(picked)))
         }
         None => {
-            let rows = store_pairs(alloc, tables, left, right, pairs)?;
-            map_stored(alloc, tables, outputs, rows)
+            let rows = paired_rows(alloc, left, right, pairs)?;
+            map_own(alloc, outputs, rows)
         }
     }
 }
@@ -226,8 +248,22 @@ fn map_stored(
     ensures { IfOk result (λ r. relation_or_fault_of tables.now r ≡ spec.map_outcome (map expression_of outputs.now) (stored_rows_of tables.now stored)) }
 {
     match stored {
-        StoredRows::Table(number) => map_source(alloc, outputs, &tables.table(number)),
+        StoredRows::Table(number) => map_table(alloc, outputs, &tables.table(number)),
         StoredRows::Own(rows) => map_own(alloc, outputs, rows),
+    }
+}
+
+/// The values of the outputs over a table: joined rows are shared.
+fn map_table(
+    alloc: Global,
+    outputs: &[Expr],
+    table: &RowSource,
+) -> Result<Result<Relation, Fault>, OutOfMemory>
+    ensures { IfOk result (λ r. (instance : Instance) → relation_or_fault_of instance r ≡ spec.map_outcome (map expression_of outputs.now) table.now) }
+{
+    match share_rows(alloc, table)? {
+        Some(shared) => map_own(alloc, outputs, shared),
+        None => map_source(alloc, outputs, table),
     }
 }
 

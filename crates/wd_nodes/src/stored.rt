@@ -2,14 +2,12 @@
 
 ghost use Rattle.std.specs.Prelude.{◌≡◌, IfOk, length};
 ghost use Rattle.wd_columns.specs.Moves.{AreDifferent, AreWithin};
-ghost use Rattle.wd_join.specs.Paired.{rows_paired};
 ghost use Rattle.wd_nodes.specs.Relation.{stored_rows_of};
 ghost use Rattle.wd_value.specs.Rows.{rows_at};
 
 use crate::tables::Tables;
 use std::alloc::Global;
-use wd_columns::{OwnRows, copy_all, copy_rows};
-use wd_join::{Pair, paired_rows};
+use wd_columns::{OwnRows, RowSource, copy_all, copy_rows, share_rows};
 use wd_value::OutOfMemory;
 
 /// Rows that are there: those of a table by its number, which stay where they are, or rows of their own.
@@ -19,7 +17,7 @@ pub enum StoredRows {
     Own(OwnRows),
 }
 
-/// Moves stored rows into rows of their own, for which those of a table are copied.
+/// Moves stored rows into rows of their own, for which those of a table are copied, or shared where they are joined rows.
 pub fn into_own_rows(
     alloc: Global,
     tables: &Tables,
@@ -33,8 +31,8 @@ pub fn into_own_rows(
     }
 }
 
-/// Moves out the stored rows at these positions, in their order; only those of a table are copied. No position is there twice, and each
-/// is one of a row.
+/// Moves out the stored rows at these positions, in their order; only those of a table that has no joined rows are copied. No position is
+/// there twice, and each is one of a row.
 pub fn pick_rows(
     alloc: Global,
     tables: &Tables,
@@ -47,8 +45,8 @@ pub fn pick_rows(
 {
     match stored {
         StoredRows::Table(number) => {
-            let copied = copy_rows(alloc, &tables.table(number), positions)?;
-            Ok(StoredRows::Own(copied))
+            let picked = pick_of_table(alloc, &tables.table(number), positions)?;
+            Ok(StoredRows::Own(picked))
         }
         StoredRows::Own(rows) => {
             let picked = rows.pick(alloc, positions)?;
@@ -57,16 +55,18 @@ pub fn pick_rows(
     }
 }
 
-/// Stores the rows of pairs that are known by their positions.
-pub(crate) fn store_pairs(
+/// The rows of a table at these positions: joined rows are shared, others copied.
+fn pick_of_table(
     alloc: Global,
-    tables: &Tables,
-    left: &StoredRows,
-    right: &StoredRows,
-    pairs: &[Pair],
-) -> Result<StoredRows, OutOfMemory>
-    ensures { IfOk result (λ s. stored_rows_of tables.now s ≡ rows_paired (stored_rows_of tables.now left.now) (stored_rows_of tables.now right.now) pairs.now) }
+    table: &RowSource,
+    positions: &[u64],
+) -> Result<OwnRows, OutOfMemory>
+    requires different { AreDifferent positions.now }
+    requires within { AreWithin (length table.now) positions.now }
+    ensures { IfOk result (λ r. r ≡ rows_at table.now positions.now) }
 {
-    let rows = paired_rows(alloc, &tables.source(left), &tables.source(right), pairs)?;
-    Ok(StoredRows::Own(rows))
+    match share_rows(alloc, table)? {
+        Some(shared) => shared.pick(alloc, positions),
+        None => copy_rows(alloc, table, positions),
+    }
 }

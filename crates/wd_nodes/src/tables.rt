@@ -11,6 +11,13 @@ use std::marker::Model;
 use wd_columns::{Columns, OwnRows, RowSource};
 use wd_value::{Row, Value};
 
+/// What is read past the last row or column.
+#[derive(Clone, Copy)]
+struct PastEnd<'a> {
+    null: &'a Value,
+    ghost is_null: { null.now ≡ value.Null },
+}
+
 /// How tables are kept.
 #[derive(Drop)]
 enum KeptTables<'a> {
@@ -77,72 +84,68 @@ impl<'a> Tables<'a> {
     pub fn table(&self, number: u16) -> RowSource<'_>
         ensures { result ≡ table_at self.now number }
     {
-        table_in(&self.kept, number as usize, &self.null)
+        let past = PastEnd { null: &self.null };
+        table_in(&self.kept, number as usize, past)
     }
 
     /// Stored rows to be read where they are.
     pub fn source<'b, 't: 'b>(&'t self, stored: &'b StoredRows) -> RowSource<'b>
         ensures { result ≡ stored_rows_of self.now stored.now }
     {
-        source_in(&self.kept, stored, &self.null)
+        let past = PastEnd { null: &self.null };
+        source_in(&self.kept, stored, past)
     }
 }
 
-fn source_in<'a>(kept: &'a KeptTables, stored: &'a StoredRows, null: &'a Value) -> RowSource<'a>
-    requires { null.now ≡ value.Null }
+fn source_in<'a>(kept: &'a KeptTables, stored: &'a StoredRows, past: PastEnd<'a>) -> RowSource<'a>
     ensures { result ≡ stored_rows_of (tables_kept kept.now) stored.now }
 {
     match stored {
-        StoredRows::Table(number) => table_in(kept, *number as usize, null),
+        StoredRows::Table(number) => table_in(kept, *number as usize, past),
         StoredRows::Own(rows) => rows.source(),
     }
 }
 
-fn table_in<'a>(kept: &'a KeptTables, number: usize, null: &'a Value) -> RowSource<'a>
-    requires { null.now ≡ value.Null }
+fn table_in<'a>(kept: &'a KeptTables, number: usize, past: PastEnd<'a>) -> RowSource<'a>
     ensures { result ≡ table_at (tables_kept kept.now) number }
 {
     match kept {
-        KeptTables::ByRow(tables) => list_in(tables, number, null),
-        KeptTables::ByColumn(tables) => columns_in(tables, number, null),
-        KeptTables::Own(tables) => own_in(tables, number, null),
+        KeptTables::ByRow(tables) => list_in(tables, number, past),
+        KeptTables::ByColumn(tables) => columns_in(tables, number, past),
+        KeptTables::Own(tables) => own_in(tables, number, past),
     }
 }
 
-fn list_in<'a>(tables: &'a [Vec<Row>], number: usize, null: &'a Value) -> RowSource<'a>
-    requires { null.now ≡ value.Null }
+fn list_in<'a>(tables: &'a [Vec<Row>], number: usize, past: PastEnd<'a>) -> RowSource<'a>
     ensures { result ≡ table_at (instance_of tables.now) number }
 {
     let rows = match tables.get(number) {
         Some(rows) => rows.as_slice(),
         None => &[],
     };
-    RowSource::of_rows(rows, null)
+    RowSource::of_rows(rows, past.null)
 }
 
-fn columns_in<'a>(tables: &'a [Columns], number: usize, null: &'a Value) -> RowSource<'a>
-    requires { null.now ≡ value.Null }
+fn columns_in<'a>(tables: &'a [Columns], number: usize, past: PastEnd<'a>) -> RowSource<'a>
     ensures { result ≡ table_at tables.now number }
 {
     match tables.get(number) {
         Some(columns) => RowSource::of_columns(columns),
-        None => no_rows(null),
+        None => no_rows(past),
     }
 }
 
-fn own_in<'a>(tables: &'a [OwnRows], number: usize, null: &'a Value) -> RowSource<'a>
-    requires { null.now ≡ value.Null }
+fn own_in<'a>(tables: &'a [OwnRows], number: usize, past: PastEnd<'a>) -> RowSource<'a>
     ensures { result ≡ table_at tables.now number }
 {
     match tables.get(number) {
         Some(rows) => rows.source(),
-        None => no_rows(null),
+        None => no_rows(past),
     }
 }
 
-fn no_rows(null: &Value) -> RowSource<'_>
-    requires { null.now ≡ value.Null }
+fn no_rows(past: PastEnd<'_>) -> RowSource<'_>
     ensures { result ≡ [] }
 {
-    RowSource::of_rows(&[], null)
+    RowSource::of_rows(&[], past.null)
 }

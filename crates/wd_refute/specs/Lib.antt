@@ -4,3 +4,4 @@ pub mod Laws
 pub mod Ready
 pub mod Numbers
 pub mod Kept
+pub mod Stored

@@ -15,6 +15,7 @@ mod numbers;
 mod outcome;
 mod places;
 mod rows;
+mod stored;
 mod texts;
 
 pub use error::{Refusal, WitnessError, WitnessOrigin};

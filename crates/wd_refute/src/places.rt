@@ -100,47 +100,46 @@ impl Places {
     }
 }
 
-/// For each column of the first row, the values of all rows in it.
+/// For each column of the first row, the values of all rows in it; of a column that is stored in a table of no more rows, the values of
+/// all rows there.
 pub(crate) fn places_of(
     alloc: Global,
     rows: &RowSource,
     seeded: Seeded,
 ) -> Result<Vec<Places>, OutOfMemory> {
-    let mut places = no_places(alloc, rows.width(0), seeded)?;
-    for i in 0..rows.len() {
-        meet_row(alloc, &mut places, rows, i as u64)?;
+    let mut places = Vec::with_capacity(alloc, rows.width(0))?;
+    for column in 0..rows.width(0) {
+        places.push(column_places(alloc, rows, column, seeded)?)?;
     }
     Ok(places)
 }
 
-/// Places without values for `width` columns.
-fn no_places(alloc: Global, width: usize, seeded: Seeded) -> Result<Vec<Places>, OutOfMemory> {
-    let mut places = Vec::with_capacity(alloc, width)?;
-    for _ in 0..width {
-        places.push(Places::new(alloc, seeded)?)?;
-    }
-    Ok(places)
-}
-
-/// Stores the values of the row at a position.
-fn meet_row(
+fn column_places(
     alloc: Global,
-    places: &mut Vec<Places>,
     rows: &RowSource,
-    position: u64,
-) -> Result<(), OutOfMemory> {
-    for column in 0..places.len() {
-        meet_value(alloc, &mut places[column], rows, position, column)?;
+    column: usize,
+    seeded: Seeded,
+) -> Result<Places, OutOfMemory> {
+    let mut places = Places::new(alloc, seeded)?;
+    match rows.stored_column(column) {
+        Some(stored) if stored.table.len() <= rows.len() => {
+            let table = RowSource::of_columns(stored.table);
+            meet_column(alloc, &mut places, &table, stored.column)?;
+        }
+        _ => meet_column(alloc, &mut places, rows, column)?,
     }
-    Ok(())
+    Ok(places)
 }
 
-fn meet_value(
+/// Stores the values of all rows in a column.
+fn meet_column(
     alloc: Global,
     places: &mut Places,
     rows: &RowSource,
-    position: u64,
     column: usize,
 ) -> Result<(), OutOfMemory> {
-    places.meet(alloc, rows.value(position, column))
+    for position in 0..rows.len() {
+        places.meet(alloc, rows.value(position as u64, column))?;
+    }
+    Ok(())
 }

@@ -27,7 +27,7 @@ pub fn value_numbers(alloc: Global, rows: &RowSource, column: u16) -> Result<Cod
             let no = Value::Bool(false);
             let yes = Value::Bool(true);
             let seeded = Seeded::by_column(rows, column, &all);
-            let known = Known::new(alloc, seeded, rows.null(), &no, &yes)?;
+            let known = Known::new(alloc, seeded, rows, &no, &yes)?;
             known_numbers(alloc, rows, column, &all, known)
         }
     }

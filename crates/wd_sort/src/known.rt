@@ -6,6 +6,7 @@ ghost use Rattle.wd_sort.specs.Known.{AreKnown, Keeps, place_in};
 use crate::seeded::Seeded;
 use std::alloc::Global;
 use std::collections::HashMap;
+use wd_columns::RowSource;
 use wd_value::{OutOfMemory, Value};
 
 /// NULL, the truth values, and then the texts and whole numbers in order of first appearance, with the place of each.
@@ -17,20 +18,19 @@ pub struct Known<'a> {
 }
 
 impl<'a> Known<'a> {
-    /// No text and no whole number yet. The seed is that of the hashes.
+    /// No text and no whole number of the rows yet. The seed is that of the hashes.
     pub fn new(
         alloc: Global,
         seeded: Seeded,
-        null: &'a Value,
+        rows: &'a RowSource<'_>,
         no: &'a Value,
         yes: &'a Value,
     ) -> Result<Known<'a>, OutOfMemory>
-        requires null { null.now ≡ Value.Null }
         requires no { no.now ≡ Value.Bool false }
         requires yes { yes.now ≡ Value.Bool true }
         ensures { IfOk result AreKnown }
     {
-        let values = [null, no, yes].to_vec(alloc)?;
+        let values = [rows.null(), no, yes].to_vec(alloc)?;
         Ok(Known {
             values,
             texts: HashMap::with_hasher(alloc, seeded),

@@ -24,7 +24,7 @@ pub fn value_codes(
     let no = Value::Bool(false);
     let yes = Value::Bool(true);
     let seeded = Seeded::by_column(rows, column.column, positions);
-    let known = Known::new(alloc, seeded, rows.null(), &no, &yes)?;
+    let known = Known::new(alloc, seeded, rows, &no, &yes)?;
     known_codes(alloc, rows, column, positions, known)
 }
 

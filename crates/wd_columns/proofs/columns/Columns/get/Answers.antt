@@ -2,11 +2,11 @@ use Rattle.std.proofs.Common.{◌∙◌, sym, ap}
 use Rattle.wd_value.specs.Rows.{column_of, row_at, rows_of}
 use Rattle.wd_columns.specs.Along.{row_along}
 use Rattle.wd_columns.proofs.RowsAlong.{past_is, row_is}
-use Rattle.wd_columns.proofs.columns.Columns.value.Goals as goal
+use Rattle.wd_columns.proofs.columns.Columns.get.Goals as goal
 
 pub returns-then-position-self : goal.returns-then-position-self
 returns-then-position-self c =
-    c.self.invariant ∙ sym (ap (λ row. column_of row c.args.column) ((λ i. row_at (sym c.self.view_is i) c.args.position) ∙ past_is (rows_of c.self.inside.columns.items) c.self.inside.count c.args.position c.if-position-self.true))
+    sym (ap (λ row. column_of row c.args.column) ((λ i. row_at (sym c.self.view_is i) c.args.position) ∙ past_is (rows_of c.self.inside.columns.items) c.self.inside.count c.args.position c.if-position-self.true))
 
 pub returns : goal.returns
 returns c =

@@ -1,0 +1,13 @@
+-- A column of rows as it is stored.
+use Rattle.std.specs.Prelude.{◌≡◌, ℕ, ◌<◌, List, length, slice_index_or}
+use Rattle.wd_value.specs.declared.value.Value.{Value}
+use Rattle.wd_value.specs.Rows.{Row, column_of, row_at}
+use Rattle.wd_columns.specs.declared.origin.StoredColumn.{StoredColumn}
+
+-- the value for the row at a position
+abbrev pub stored_value : StoredColumn → ℕ → Value
+stored_value s p = column_of (row_at s.table.now (slice_index_or s.positions.now p 0)) s.column
+
+-- its values are those of a column of these rows
+abbrev pub Stores : List Row → ℕ → StoredColumn → Type 0
+Stores rows column s = (p : ℕ) → p < length rows → stored_value s p ≡ column_of (row_at rows p) column
