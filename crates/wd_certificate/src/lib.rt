@@ -9,6 +9,8 @@ mod certificate;
 mod error;
 mod forms;
 pub mod laws;
+mod node;
+mod parts;
 mod read;
 mod write;
 

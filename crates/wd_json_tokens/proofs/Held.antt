@@ -62,8 +62,11 @@ not_found_at Less k l d r e other = refl
 not_found_at Equal k l d r e other = absurd (other (exact_bytes k l e))
 not_found_at Greater k l d r e other = refl
 
-not_found : (k l : List ℕ) (d : Data) (ms : Members) → k ≢ l → get_member k (member l d ms) ≡ get_member k ms
+pub not_found : (k l : List ℕ) (d : Data) (ms : Members) → k ≢ l → get_member k (member l d ms) ≡ get_member k ms
 not_found k l d ms other = not_found_at (slice_cmp nat_cmp k l) k l d (get_member k ms) refl other
+
+pub same_members : (ms ns : Members) → object ms ≡ object ns → ms ≡ ns
+same_members ms ns e = cc
 
 -- ---- two slots
 
@@ -85,9 +88,6 @@ module _ {A B : Type 0} (k l : List ℕ) (f : A → Data) (g : B → Data) where
   abbrev pub pair_json : A × B → Data
   pair_json p = two_members_json k (f p.0) l (g p.1)
 
-  abbrev same_members : (ms ns : Members) → object ms ≡ object ns → ms ≡ ns
-  same_members ms ns e = cc
-
   pub is_pair : (x : A) (y : B) (ms : Members) → HoldsPair k l f g (Some (Some x)) (Some (Some y)) false ms → object ms ≡ pair_json (x, y)
   is_pair x y ms h = ap object (h.4 ∙ ap (λ v. with_member k v (with_member l h.1 no_members)) (h.2.1 ∙ ap Some h.2.2) ∙ ap (λ w. member k (f x) (with_member l w no_members)) (h.3.1 ∙ ap Some h.3.2))
 
@@ -106,10 +106,10 @@ module _ {A B : Type 0} (k l : List ℕ) (f : A → Data) (g : B → Data) where
   both_held : (a : Option (Option A)) (b : Option (Option B)) (ms : Members) (h : HoldsPair k l f g a b false ms) (p : A × B) → object ms ≡ pair_json p → (h.0 ≡ Some (f p.0)) × (h.1 ≡ Some (g p.1))
   both_held a b ms h p e = pair_of h.0 h.1 p (sym h.4 ∙ same_members ms _ e)
 
-not_absent : {A : Type 0} (f : A → Data) (v : Option Data) (x : A) → Fills f None v → v ≡ Some (f x) → ⊥
+pub not_absent : {A : Type 0} (f : A → Data) (v : Option Data) (x : A) → Fills f None v → v ≡ Some (f x) → ⊥
 not_absent f v x h e = let never : None ≡ Some (f x) = sym h ∙ e in cc
 
-not_other : {A : Type 0} (f : A → Data) (v : Option Data) (x : A) → Fills f (Some None) v → v ≡ Some (f x) → ⊥
+pub not_other : {A : Type 0} (f : A → Data) (v : Option Data) (x : A) → Fills f (Some None) v → v ≡ Some (f x) → ⊥
 not_other f v x h e = h.2 x (let same : Some h.0 ≡ Some (f x) = sym h.1 ∙ e in cc)
 
 abbrev pub slot_of : {U V : Type 0} → (U → V) → Option (Option U) → Option (Option V)

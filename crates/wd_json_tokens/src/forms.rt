@@ -1,7 +1,7 @@
 //! Types that are read from tokens, and the simple ones among them.
 
-ghost use Rattle.std.specs.Prelude.{◌≡◌, ℕ, List, map, Option, None, option_map, IfOk, IfErr};
-ghost use Rattle.serde_json.specs.Data.{Data};
+ghost use Rattle.std.specs.Prelude.{◌≡◌, ℕ, List, map, Option, None, option_map, string_bytes, IfOk, IfErr};
+ghost use Rattle.serde_json.specs.Data.{Data, string};
 ghost use Rattle.wd_json.specs.Json.{number_json, list_json, optional_json};
 ghost use Rattle.wd_json_tokens.specs.Values.{value_at};
 ghost use Rattle.wd_json_tokens.specs.Forms.{Takes};
@@ -59,6 +59,25 @@ impl FromTokens for Option<u64> {
         match take_top(reader, depth)? {
             Top::Number(Some(number)) => Ok(Some(Some(number))),
             Top::Null => Ok(Some(None)),
+            _ => Ok(None),
+        }
+    }
+}
+
+impl FromTokens for String {
+    ghost Said = { List ℕ };
+
+    ghost said = { λ s. string_bytes s };
+
+    ghost json = { λ s. string s };
+
+    fn read(
+        alloc: Global,
+        reader: &mut Reader<'_>,
+        depth: usize,
+    ) -> Result<Option<String>, Unread> {
+        match take_top(reader, depth)? {
+            Top::Text(text) => Ok(Some(String::from_str(alloc, text)?)),
             _ => Ok(None),
         }
     }
