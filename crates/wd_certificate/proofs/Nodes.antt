@@ -1,12 +1,12 @@
 -- A node's members by their slots.
-use Rattle.std.proofs.Common.{◌≡◌, ◌≢◌, ℕ, List, codes, Bool, true, false, Option, Some, None, option_map, map, refl, sym, ap, ◌∙◌}
+use Rattle.std.proofs.Common.{◌≡◌, ◌≢◌, ℕ, List, codes, Bool, true, false, Option, Some, None, refl, sym, ap, ◌∙◌}
 use Rattle.std.specs.Option.{option_flatten, option_zip}
 use Rattle.serde_json.specs.Data.{Data, object, Members, no_members, member, put}
 use Rattle.serde_json.specs.Find.{get_member}
 use Rattle.serde_json.proofs.Views.{get_member-put, get_member-put_other}
 use Rattle.wd_json.specs.Json.{list_json, optional_json}
 use Rattle.wd_json_tokens.specs.Forms.{IsForm}
-use Rattle.wd_json_tokens.specs.Pairs.{Fills, with_member, ComesBefore}
+use Rattle.wd_json_tokens.specs.Pairs.{with_member, ComesBefore, slot_seen}
 use Rattle.wd_json_tokens.proofs.Held.{goes_first, put_here, put_past, not_found, same_members}
 use Rattle.wd_certificate.specs.Certificates.{TraceRecord, KeptRecord, NodeRecord}
 use Rattle.wd_certificate.specs.Json.{rule_json, kept_json, trace_json, node_json}
@@ -119,11 +119,8 @@ module _ {X Y L Z : Type 0} (p : X → List Rule) (q : Y → List KeptRecord) (r
   abbrev pub all_slots : Option (Option X) → Option (Option Y) → Option (Option L) → Option (Option Z) → Option ((X × Y) × (L × Z))
   all_slots a b c d = option_zip (option_zip (option_flatten a) (option_flatten b)) (option_zip (option_flatten c) (option_flatten d))
 
-  abbrev pub HoldsSlots : Option (Option X) → Option (Option Y) → Option (Option L) → Option (Option Z) → Bool → Members → Type 0
-  HoldsSlots a b c d other ms = HoldsNode (option_map (option_map p) a) (option_map (option_map q) b) (option_map (option_map r) c) (option_map (option_map t) d) other ms
-
   pub all_read : (a : Option (Option X)) (b : Option (Option Y)) (c : Option (Option L)) (d : Option (Option Z)) (x : X) (y : Y) (l : L) (z : Z) (ms : Members)
-      → all_slots a b c d ≡ Some ((x, y), (l, z)) → HoldsSlots a b c d false ms → object ms ≡ node_json (record { calls = p x; keep = q y; limit = r l; traces = t z })
+      → all_slots a b c d ≡ Some ((x, y), (l, z)) → HoldsNode (slot_seen p a) (slot_seen q b) (slot_seen r c) (slot_seen t d) false ms → object ms ≡ node_json (record { calls = p x; keep = q y; limit = r l; traces = t z })
   all_read None b c d x y l z ms some h = absurd (cc)
   all_read (Some None) b c d x y l z ms some h = absurd (cc)
   all_read (Some (Some x')) None c d x y l z ms some h = absurd (cc)

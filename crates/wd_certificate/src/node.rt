@@ -1,11 +1,11 @@
 //! A node from a text's tokens, member by member.
 
-ghost use Rattle.std.specs.Prelude.{map, option_map, ⊤};
+ghost use Rattle.std.specs.Prelude.{option_map, ⊤};
 ghost use Rattle.serde_json.specs.Data.{Members, object};
 ghost use Rattle.wd_json_tokens.specs.Forms.{IsForm};
-ghost use Rattle.wd_certificate.specs.Certificates.{NodeRecord, trace_of, kept_of, node_of};
+ghost use Rattle.wd_certificate.specs.Certificates.{NodeRecord, node_of};
 ghost use Rattle.wd_certificate.specs.Json.{node_json};
-ghost use Rattle.wd_certificate.specs.Members.{HoldsNode};
+ghost use Rattle.wd_certificate.specs.Members.{HoldsSlots};
 
 use crate::certificate::{Kept, Node, Rule, Trace};
 use json::Reader;
@@ -27,8 +27,7 @@ impl Slots for NodeSlots {
 
     ghost names = { λ s. tt };
 
-    ghost Holds = { λ s ms. HoldsNode (option_map (option_map (λ v. map (λ r. r) v.items)) s.calls) (option_map (option_map (λ v. map kept_of v.items)) s.keep)
-        (option_map (option_map (λ o. o)) s.limit) (option_map (option_map (λ v. map trace_of v.items)) s.traces) s.has_other ms };
+    ghost Holds = { HoldsSlots };
 
     fn read_member(
         &mut self,
@@ -55,10 +54,7 @@ impl Slots for NodeSlots {
 
 /// The node of the members that were read, and `None` where one is missing, is of another form or has another name.
 fn node_of_slots(slots: NodeSlots) -> Option<Node>
-    ensures { (ms : Members) → let s = slots in
-        HoldsNode (option_map (option_map (λ v. map (λ r. r) v.items)) s.calls) (option_map (option_map (λ v. map kept_of v.items)) s.keep)
-        (option_map (option_map (λ o. o)) s.limit) (option_map (option_map (λ v. map trace_of v.items)) s.traces) s.has_other ms
-        → IsForm node_json (option_map node_of result) (object ms) }
+    ensures { (ms : Members) → HoldsSlots slots ms → IsForm node_json (option_map node_of result) (object ms) }
 {
     if slots.has_other {
         return None;

@@ -8,9 +8,8 @@ use Rattle.std.proofs.lemmas.Cmp.{nat_list_cmp_total}
 use Rattle.serde_json.specs.Data.{Data, object, Members, no_members, member, put}
 use Rattle.serde_json.specs.Find.{get_member}
 use Rattle.serde_json.proofs.Views.{get_member-put, get_member-put_other}
-use Rattle.wd_json.specs.Json.{two_members_json}
 use Rattle.wd_json_tokens.specs.Forms.{IsForm}
-use Rattle.wd_json_tokens.specs.Pairs.{Fills, with_member, ComesBefore, HasOther, HoldsPair}
+use Rattle.wd_json_tokens.specs.Pairs.{Fills, with_member, ComesBefore, pair_json, both_seen, slot_seen, HasOther, HoldsPair}
 
 -- ---- names in order
 
@@ -85,13 +84,10 @@ module _ {A B : Type 0} (k l : List ℕ) (f : A → Data) (g : B → Data) where
   pub put_other : (name : List ℕ) (a : Option (Option A)) (b : Option (Option B)) (d : Data) (ms : Members) → name ≢ k → name ≢ l → HoldsPair k l f g a b true (put name d ms)
   put_other name a b d ms not_first not_second = (name, d, get_member-put name d ms, not_first, not_second)
 
-  abbrev pub pair_json : A × B → Data
-  pair_json p = two_members_json k (f p.0) l (g p.1)
-
-  pub is_pair : (x : A) (y : B) (ms : Members) → HoldsPair k l f g (Some (Some x)) (Some (Some y)) false ms → object ms ≡ pair_json (x, y)
+  pub is_pair : (x : A) (y : B) (ms : Members) → HoldsPair k l f g (Some (Some x)) (Some (Some y)) false ms → object ms ≡ pair_json k l f g (x, y)
   is_pair x y ms h = ap object (h.4 ∙ ap (λ v. with_member k v (with_member l h.1 no_members)) (h.2.1 ∙ ap Some h.2.2) ∙ ap (λ w. member k (f x) (with_member l w no_members)) (h.3.1 ∙ ap Some h.3.2))
 
-  pub other_no_pair : (a : Option (Option A)) (b : Option (Option B)) (ms : Members) → HoldsPair k l f g a b true ms → (p : A × B) → object ms ≢ pair_json p
+  pub other_no_pair : (a : Option (Option A)) (b : Option (Option B)) (ms : Members) → HoldsPair k l f g a b true ms → (p : A × B) → object ms ≢ pair_json k l f g p
   other_no_pair a b ms h p e =
       let same = same_members ms _ e in
       let none : get_member h.0 ms ≡ None = ap (get_member h.0) same ∙ not_found h.0 k (f p.0) (member l (g p.1) no_members) h.3 ∙ not_found h.0 l (g p.1) no_members h.4 in
@@ -103,7 +99,7 @@ module _ {A B : Type 0} (k l : List ℕ) (f : A → Data) (g : B → Data) where
   pair_of (Some c) None p e = absurd (cc)
   pair_of (Some c) (Some d) p e = (ap Some (let h : c ≡ f p.0 = cc in h), ap Some (let h : d ≡ g p.1 = cc in h))
 
-  both_held : (a : Option (Option A)) (b : Option (Option B)) (ms : Members) (h : HoldsPair k l f g a b false ms) (p : A × B) → object ms ≡ pair_json p → (h.0 ≡ Some (f p.0)) × (h.1 ≡ Some (g p.1))
+  both_held : (a : Option (Option A)) (b : Option (Option B)) (ms : Members) (h : HoldsPair k l f g a b false ms) (p : A × B) → object ms ≡ pair_json k l f g p → (h.0 ≡ Some (f p.0)) × (h.1 ≡ Some (g p.1))
   both_held a b ms h p e = pair_of h.0 h.1 p (sym h.4 ∙ same_members ms _ e)
 
 pub not_absent : {A : Type 0} (f : A → Data) (v : Option Data) (x : A) → Fills f None v → v ≡ Some (f x) → ⊥
@@ -112,15 +108,12 @@ not_absent f v x h e = let never : None ≡ Some (f x) = sym h ∙ e in cc
 pub not_other : {A : Type 0} (f : A → Data) (v : Option Data) (x : A) → Fills f (Some None) v → v ≡ Some (f x) → ⊥
 not_other f v x h e = h.2 x (let same : Some h.0 ≡ Some (f x) = sym h.1 ∙ e in cc)
 
-abbrev pub slot_of : {U V : Type 0} → (U → V) → Option (Option U) → Option (Option V)
-slot_of h o = option_map (option_map h) o
-
 module _ {X Y A B : Type 0} (k l : List ℕ) (s : X → A) (t : Y → B) (f : A → Data) (g : B → Data) where
   -- what is read of two slots, where no member has another name
-  pub pair_read : (a : Option (Option X)) (b : Option (Option Y)) (ms : Members) → HoldsPair k l f g (slot_of s a) (slot_of t b) false ms
-      → IsForm {A = A × B} (pair_json k l f g) (option_map {T = X × Y} {U = A × B} (λ p. (s p.0, t p.1)) (option_zip (option_flatten a) (option_flatten b))) (object ms)
-  pair_read None b ms h = λ p e. not_absent f h.0 p.0 h.2 (both_held k l f g None (slot_of t b) ms h p e).0
-  pair_read (Some None) b ms h = λ p e. not_other f h.0 p.0 h.2 (both_held k l f g (Some None) (slot_of t b) ms h p e).0
+  pub pair_read : (a : Option (Option X)) (b : Option (Option Y)) (ms : Members) → HoldsPair k l f g (slot_seen s a) (slot_seen t b) false ms
+      → IsForm (pair_json k l f g) (option_map (both_seen s t) (option_zip (option_flatten a) (option_flatten b))) (object ms)
+  pair_read None b ms h = λ p e. not_absent f h.0 p.0 h.2 (both_held k l f g None (slot_seen t b) ms h p e).0
+  pair_read (Some None) b ms h = λ p e. not_other f h.0 p.0 h.2 (both_held k l f g (Some None) (slot_seen t b) ms h p e).0
   pair_read (Some (Some x)) None ms h = λ p e. not_absent g h.1 p.1 h.3 (both_held k l f g (Some (Some (s x))) None ms h p e).1
   pair_read (Some (Some x)) (Some None) ms h = λ p e. not_other g h.1 p.1 h.3 (both_held k l f g (Some (Some (s x))) (Some None) ms h p e).1
   pair_read (Some (Some x)) (Some (Some y)) ms h = is_pair k l f g (s x) (t y) ms h

@@ -15,6 +15,9 @@ use crate::unread::Unread;
 use json::{Invalid, Reader};
 use std::alloc::Global;
 
+/// A list of fewer elements keeps no spare room.
+const SHORT: usize = 1024;
+
 /// The elements of a list, and `None` where the next value is no list or one of its elements is of another form.
 pub(crate) fn read_list<T: FromTokens>(
     alloc: Global,
@@ -68,5 +71,16 @@ fn read_items<T: FromTokens>(
             }
         }
     }
-    Ok(Some(found))
+    Ok(Some(trimmed(found)))
+}
+
+/// The list without its spare room where it is short, so that a text of many short lists takes little more than their elements.
+fn trimmed<T: Drop>(list: Vec<T>) -> Vec<T>
+    ensures { result.items ≡ list.items }
+{
+    let mut list = list;
+    if list.len() < SHORT {
+        list.shrink_to_fit();
+    }
+    list
 }

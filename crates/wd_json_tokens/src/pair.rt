@@ -2,10 +2,9 @@
 
 ghost use Rattle.std.specs.Prelude.{◌≡◌, ◌≢◌, ℕ, List, option_map, None, IfOk, IfErr};
 ghost use Rattle.serde_json.specs.Data.{object, Members, no_members};
-ghost use Rattle.wd_json.specs.Json.{two_members_json};
 ghost use Rattle.wd_json_tokens.specs.Values.{value_at};
 ghost use Rattle.wd_json_tokens.specs.Forms.{IsForm, Takes};
-ghost use Rattle.wd_json_tokens.specs.Pairs.{ComesBefore, HoldsPair};
+ghost use Rattle.wd_json_tokens.specs.Pairs.{ComesBefore, HoldsPair, pair_json, both_seen, slot_seen};
 ghost use Rattle.wd_json_tokens.specs.declared.unread.Unread.TheVariants as unread;
 
 use crate::forms::FromTokens;
@@ -31,7 +30,7 @@ impl<A: FromTokens, B: FromTokens> Slots for Pair<'_, A, B> {
     ghost names = { λ s. (s.first_name.now, s.second_name.now) };
 
     ghost Holds = { λ s ms. ComesBefore s.first_name.now s.second_name.now
-        × HoldsPair s.first_name.now s.second_name.now A.json B.json (option_map (option_map A.said) s.first) (option_map (option_map B.said) s.second) s.has_other ms };
+        × HoldsPair s.first_name.now s.second_name.now A.json B.json (slot_seen A.said s.first) (slot_seen B.said s.second) s.has_other ms };
 
     fn read_member(
         &mut self,
@@ -61,7 +60,8 @@ pub fn read_pair<A: FromTokens, B: FromTokens>(
     second_name: &str,
 ) -> Result<Option<(A, B)>, Unread>
     requires { ComesBefore first_name.now second_name.now }
-    ensures ok { IfOk result (λ o. Takes (λ (p : A.Said × B.Said). two_members_json first_name.now (A.json p.0) second_name.now (B.json p.1)) (option_map (λ (p : A × B). (A.said p.0, B.said p.1)) o) depth reader.old reader.new) }
+    ensures ok { IfOk result (λ o. Takes (pair_json first_name.now second_name.now A.json B.json) (option_map (both_seen A.said B.said) o)
+        depth reader.old reader.new) }
     ensures refused { IfErr result (λ e. e ≡ unread.NotJson → value_at depth reader.old ≡ None) }
 {
     let mut pair = Pair {
@@ -78,10 +78,11 @@ pub fn read_pair<A: FromTokens, B: FromTokens>(
     }
 }
 
+/// The values of both members, and `None` where one is missing, is of another form or has another name.
 fn both<A: FromTokens, B: FromTokens>(pair: Pair<'_, A, B>) -> Option<(A, B)>
     ensures { (ms : Members) → let s = pair.entry in
-        HoldsPair s.first_name.now s.second_name.now A.json B.json (option_map (option_map A.said) s.first) (option_map (option_map B.said) s.second) s.has_other ms
-        → IsForm (λ (p : A.Said × B.Said). two_members_json s.first_name.now (A.json p.0) s.second_name.now (B.json p.1)) (option_map (λ (p : A × B). (A.said p.0, B.said p.1)) result) (object ms) }
+        HoldsPair s.first_name.now s.second_name.now A.json B.json (slot_seen A.said s.first) (slot_seen B.said s.second) s.has_other ms
+        → IsForm (pair_json s.first_name.now s.second_name.now A.json B.json) (option_map (both_seen A.said B.said) result) (object ms) }
 {
     if pair.has_other {
         None

@@ -1,6 +1,7 @@
-use Rattle.std.proofs.Common.{◌≡◌, ◌<◌, List, length, map, Some, None, option_map, refl, sym, ap, ◌∙◌, arith}
+use Rattle.std.proofs.Common.{◌≡◌, List, map, Some, None, sym, ap, ◌∙◌, arith}
 use Rattle.json.specs.Json.{after_end_array, parse_map}
 use Rattle.serde_json.specs.Data.{Data, item, array}
+use Rattle.wd_json.specs.Json.{list_json}
 use Rattle.wd_json_tokens.specs.Values.{value_at, items_at}
 use Rattle.wd_json_tokens.specs.Forms.{IsForm}
 use Rattle.wd_json_tokens.specs.declared.unread.Unread.TheVariants as unread
@@ -68,4 +69,4 @@ returns-clause-ok g c =
     let said = g.T.FromTokens.said in
     let form = g.T.FromTokens.json in
     let r = c.take_end_array.new.self in
-    (_, l.invariant ∙ ap (parse_map (items_before (forms_of said form l.found.items))) (items_over c.args.depth l.reader r (grind arith)), ap array (items_before-no_items (forms_of said form l.found.items)))
+    (_, l.invariant ∙ ap (parse_map (items_before (forms_of said form l.found.items))) (items_over c.args.depth l.reader r (grind arith)), ap array (items_before-no_items (forms_of said form l.found.items)) ∙ ap (λ xs. list_json form (map said xs)) (sym c.trimmed.ensures))

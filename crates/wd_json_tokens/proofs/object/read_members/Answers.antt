@@ -1,8 +1,8 @@
-use Rattle.std.proofs.Common.{◌≡◌, ◌<◌, length, Some, None, ◌∙◌, arith}
+use Rattle.std.proofs.Common.{◌≡◌, Some, None, ◌∙◌, arith}
 use Rattle.json.specs.Json.{read_key}
 use Rattle.json.proofs.Grammar.{read_key-shorter}
 use Rattle.serde_json.specs.Data.{no_members, put}
-use Rattle.wd_json_tokens.specs.Values.{value_at, members_at}
+use Rattle.wd_json_tokens.specs.Values.{members_at}
 use Rattle.wd_json_tokens.specs.declared.unread.Unread.TheVariants as unread
 use Rattle.wd_json_tokens.proofs.Turns.{value_at-shorter, member_read, member_refused, key_refused, members_over}
 use Rattle.wd_json_tokens.proofs.Lists.{IfErr-of, IfErr-from_same}

@@ -1,4 +1,4 @@
-use Rattle.std.proofs.Common.{◌≡◌, ◌<◌, ◌≤◌, length, Some, None, refl, ap, ◌∙◌, arith}
+use Rattle.std.proofs.Common.{◌≡◌, Some, None, refl, ap, ◌∙◌, arith}
 use Rattle.json.specs.Json.{after_end_array, read_key}
 use Rattle.json.proofs.Grammar.{left, read_key-shorter}
 use Rattle.serde_json.specs.Data.{no_members, put}
@@ -13,8 +13,7 @@ skip_items-items-preserved t c =
     let done = c.in_ok-skip_value.ensures.ok in
     let r = c.skip_value.new.reader in
     let read : value_at c.args.depth l.reader ≡ Some (done.0, r) = rw (← going.1) done.1 in
-    let less = value_at-shorter c.args.depth l.reader r done.0 read in
-    (l.invariant.0 ∙ ap left (item_read c.args.depth l.reader r done.0 going.0 read) ∙ left_item done.0 _, omega (arith, l.invariant.1))
+    l.invariant ∙ ap left (item_read c.args.depth l.reader r done.0 going.0 read) ∙ left_item done.0 _
 
 pub skip_items-items-smaller : goal.skip_items-items-smaller
 skip_items-items-smaller t c =
@@ -28,16 +27,16 @@ pub skip_items-returns-in_err-skip_value-clause-refused : goal.skip_items-return
 skip_items-returns-in_err-skip_value-clause-refused t c =
     let l = c.items in
     let going : (after_end_array l.reader ≡ None) × (c.take_end_array.new.self ≡ l.reader) = grind arith in
-    OnErr-of _ _ (items_none c.args.depth _ l.reader l.invariant.0 (item_refused c.args.depth l.reader going.0 (rw (← going.1) c.in_err-skip_value.ensures.refused)))
+    OnErr-of _ _ (items_none c.args.depth _ l.reader l.invariant (item_refused c.args.depth l.reader going.0 (rw (← going.1) c.in_err-skip_value.ensures.refused)))
 
 pub skip_items-returns-clause-ok : goal.skip_items-returns-clause-ok
 skip_items-returns-clause-ok t c =
     let l = c.items in
     let r = c.take_end_array.new.self in
-    items_left c.args.depth _ l.reader r l.invariant.0 (items_over c.args.depth l.reader r (grind arith))
+    items_left c.args.depth _ l.reader r l.invariant (items_over c.args.depth l.reader r (grind arith))
 
 pub skip_members-members-init : goal.skip_members-members-init
-skip_members-members-init t c = (no_members, refl, omega arith)
+skip_members-members-init t c = (no_members, refl)
 
 pub skip_members-returns-in_err-next_key-clause-refused : goal.skip_members-returns-in_err-next_key-clause-refused
 skip_members-returns-in_err-next_key-clause-refused t c =
@@ -60,9 +59,7 @@ skip_members-members-preserved t c =
     let r = c.skip_value.new.reader in
     let named : read_key l.reader ≡ Some (Some k, s) = grind arith in
     let done = c.in_ok-skip_value.ensures.ok in
-    let less = read_key-shorter l.reader (Some k) s named in
-    let lesser = value_at-shorter c.args.depth s r done.0 done.1 in
-    (put k done.0 l.invariant.0, l.invariant.1 ∙ member_read c.args.depth l.invariant.0 k l.reader s r done.0 named done.1, omega (arith, l.invariant.2))
+    (put k done.0 l.invariant.0, l.invariant.1 ∙ member_read c.args.depth l.invariant.0 k l.reader s r done.0 named done.1)
 
 pub skip_members-members-smaller : goal.skip_members-members-smaller
 skip_members-members-smaller t c =

@@ -1,9 +1,8 @@
-use Rattle.std.proofs.Common.{◌≡◌, ◌<◌, List, [], ◌∷◌, Option, Some, None, option_map, refl, sym, ap, ap₂, ◌∙◌, arith, rules}
+use Rattle.std.proofs.Common.{◌≡◌, [], ◌∷◌, Some, None, option_map, refl, ap, ap₂, ◌∙◌, arith}
 use Rattle.json.specs.Token as token
 use Rattle.json.specs.Json.{value}
 use Rattle.json.proofs.Grammar.{value_is}
 use Rattle.json.specs.Reads.{token_of}
-use Rattle.serde_json.specs.Data.{Num}
 use Rattle.serde_json.specs.Find.{as_u64}
 use Rattle.serde_json.specs.Read.{number_of, of_json, converted}
 use Rattle.wd_json_tokens.specs.Values.{value_at}
