@@ -1,42 +1,39 @@
 //! A certificate from its text.
 
 ghost use Rattle.std.specs.Prelude.{◌≡◌, ◌≢◌, ℕ, List, map, None, IfSome, IfOk, IfErr};
-ghost use Rattle.serde_json.specs.View.{view};
-ghost use Rattle.wd_certificate.specs.Certificates.{NodeRecord, certificate_of, node_of};
-ghost use Rattle.wd_json.specs.Json.{IsJsonOf};
+ghost use Rattle.wd_certificate.specs.Certificates.{NodeRecord, certificate_of, node_of, nodes_of};
 ghost use Rattle.wd_certificate.specs.Json.{certificate_json, Spells, version_number};
 ghost use Rattle.wd_certificate.specs.Refusals.{HasCause};
-ghost use Rattle.wd_json.specs.declared.misread.Misread.TheVariants as misread;
+ghost use Rattle.wd_certificate.specs.declared.error.CertError.TheVariants as error;
 
 use crate::certificate::{Certificate, Node, Version};
 use crate::error::CertError;
-use serde_json::Value;
+use json::Reader;
 use std::alloc::Global;
-use wd_json::{Misread, number, read_list, two_members};
+use wd_json_tokens::{FromTokens, Unread, read_pair, read_text};
 
-/// The nodes and the version of a certificate of any version.
-fn certificate(alloc: Global, value: &Value) -> Result<(Vec<Node>, u64), Misread>
-    ensures ok { IfOk result (λ p. view value.now ≡ certificate_json p.1 (map node_of p.0.items)) }
-    ensures refused { IfErr result (λ e. e ≡ misread.Shape → (version : ℕ) (xs : List NodeRecord) → view value.now ≢ certificate_json version xs) }
-{
-    let (entries, version) = two_members(value, "nodes", "version")?;
-    let entries = read_list(alloc, entries)?;
-    let version = number(version)?;
-    Ok((entries, version))
+/// The nodes of a certificate, and the number of its version, which may be any.
+#[derive(Drop)]
+struct Numbered {
+    nodes: Vec<Node>,
+    version: u64,
 }
 
-fn value_of(alloc: Global, bytes: &[u8]) -> Result<Value, CertError>
-    ensures ok { IfOk result (λ v. IsJsonOf (view v) bytes.now) }
-    ensures refused { IfErr result (λ e. HasCause e bytes.now) }
-{
-    match Value::from_slice(alloc, bytes) {
-        Ok(value) => Ok(value),
-        Err(e) => {
-            if e.is_memory() {
-                Err(CertError::OutOfMemory)
-            } else {
-                Err(CertError::NotJson)
-            }
+impl FromTokens for Numbered {
+    ghost Said = { List NodeRecord × ℕ };
+
+    ghost said = { λ c. (map node_of c.nodes.items, c.version) };
+
+    ghost json = { λ p. certificate_json p.1 p.0 };
+
+    fn read(
+        alloc: Global,
+        reader: &mut Reader<'_>,
+        depth: usize,
+    ) -> Result<Option<Numbered>, Unread> {
+        match read_pair(alloc, reader, depth, "nodes", "version")? {
+            Some((nodes, version)) => Ok(Some(Numbered { nodes, version })),
+            None => Ok(None),
         }
     }
 }
@@ -53,6 +50,20 @@ fn version_of_number(number: u64) -> Option<Version>
     }
 }
 
+/// The certificate, if it is of a version that is read.
+fn of_known_version(certificate: Numbered) -> Result<Certificate, CertError>
+    ensures ok { IfOk result (λ c. (version_number c.version ≡ certificate.version) × (nodes_of c ≡ map node_of certificate.nodes.items)) }
+    ensures refused { IfErr result (λ e. (e ≡ error.Version) × (certificate.version ≢ 1) × (certificate.version ≢ 2)) }
+{
+    match version_of_number(certificate.version) {
+        Some(version) => Ok(Certificate {
+            nodes: certificate.nodes,
+            version,
+        }),
+        None => Err(CertError::Version),
+    }
+}
+
 /// The certificate that a text spells. Members may appear in any order, with white space between them, and the last of equal ones
 /// counts, as RFC 8259 leaves open; a number is whole, from 0 to 2^64 - 1, and written in digits alone. It refuses, in this order, a
 /// text that is not JSON (501), JSON of another shape (502) and another version than 1 and 2 (503).
@@ -60,13 +71,10 @@ pub fn from_json(alloc: Global, bytes: &[u8]) -> Result<Certificate, CertError>
     ensures ok { IfOk result (λ c. Spells (certificate_of c) bytes.now) }
     ensures refused { IfErr result (λ e. HasCause e bytes.now) }
 {
-    let value = value_of(alloc, bytes)?;
-    match certificate(alloc, &value) {
-        Ok((nodes, number)) => match version_of_number(number) {
-            Some(version) => Ok(Certificate { nodes, version }),
-            None => Err(CertError::Version),
-        },
-        Err(Misread::Shape) => Err(CertError::Shape),
-        Err(Misread::OutOfMemory) => Err(CertError::OutOfMemory),
+    match read_text(alloc, bytes) {
+        Ok(Some(certificate)) => of_known_version(certificate),
+        Ok(None) => Err(CertError::Shape),
+        Err(Unread::NotJson) => Err(CertError::NotJson),
+        Err(Unread::OutOfMemory) => Err(CertError::OutOfMemory),
     }
 }

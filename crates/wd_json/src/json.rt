@@ -1,9 +1,9 @@
 //! The parts of a JSON value: its members one after another, lists, numbers and texts.
 
-ghost use Rattle.std.specs.Prelude.{◌≡◌, ◌≢◌, ℕ, List, Option, IfOk, IfErr};
+ghost use Rattle.std.specs.Prelude.{◌≡◌, ◌≢◌, ℕ, List, IfOk, IfErr};
 ghost use Rattle.serde_json.specs.Data.{Data, Items, Members, string, array, object, member, no_members};
 ghost use Rattle.serde_json.specs.View.{view, items_view, members_view};
-ghost use Rattle.wd_json.specs.Json.{number_json, two_members_json, optional_json};
+ghost use Rattle.wd_json.specs.Json.{number_json};
 
 use crate::misread::Misread;
 use serde_json::{Map, Value};
@@ -60,22 +60,6 @@ pub fn list<'v>(value: &'v Value) -> Result<&'v [Value], Misread>
     }
 }
 
-/// The values of an object that has these two members and no other, in the order of the names; any other value is refused.
-pub fn two_members<'v>(
-    value: &'v Value,
-    first: &str,
-    second: &str,
-) -> Result<(&'v Value, &'v Value), Misread>
-    ensures ok { IfOk result (λ p. view value.now ≡ two_members_json first.now (view p.0.now) second.now (view p.1.now)) }
-    ensures refused { IfErr result (λ e. (a b : Data) → view value.now ≢ two_members_json first.now a second.now b) }
-{
-    let mut members = object(value)?.iter();
-    let a = next_member(&mut members, first)?;
-    let b = next_member(&mut members, second)?;
-    no_more_members(&mut members)?;
-    Ok((a, b))
-}
-
 /// A whole number below 2^64, written without a fraction or an exponent; any other value is refused.
 pub fn number(value: &Value) -> Result<u64, Misread>
     ensures ok { IfOk result (λ n. view value.now ≡ number_json n) }
@@ -84,17 +68,6 @@ pub fn number(value: &Value) -> Result<u64, Misread>
     match value.as_u64() {
         Some(n) => Ok(n),
         None => Err(Misread::Shape),
-    }
-}
-
-/// A number or null; any other value is refused.
-pub fn optional_number(value: &Value) -> Result<Option<u64>, Misread>
-    ensures ok { IfOk result (λ o. view value.now ≡ optional_json o) }
-    ensures refused { IfErr result (λ e. (o : Option ℕ) → view value.now ≢ optional_json o) }
-{
-    match value {
-        Value::Null => Ok(None),
-        _ => Ok(Some(number(value)?)),
     }
 }
 

@@ -1,11 +1,10 @@
 //! Whole numbers and lists of them.
 
-ghost use Rattle.std.specs.Prelude.{◌≡◌, ◌≢◌, ℕ, List, IfOk, IfErr};
+ghost use Rattle.std.specs.Prelude.{◌≡◌, ℕ, List, IfOk};
 ghost use Rattle.serde_json.specs.View.{view};
 ghost use Rattle.wd_json.specs.Json.{number_json, list_json};
-ghost use Rattle.wd_json.specs.declared.misread.Misread.TheVariants as misread;
 
-use crate::forms::{InJson, list_value, read_list};
+use crate::forms::{FromJson, InJson, list_value, read_list};
 use crate::json::number;
 use crate::misread::Misread;
 use serde_json::Value;
@@ -19,12 +18,14 @@ impl InJson for u64 {
 
     ghost json = { number_json };
 
-    fn from_value(_alloc: Global, value: &Value) -> Result<u64, Misread> {
-        number(value)
-    }
-
     fn to_value(&self, _alloc: Global) -> Result<Value, OutOfMemory> {
         Ok(Value::from(*self))
+    }
+}
+
+impl FromJson for u64 {
+    fn from_value(_alloc: Global, value: &Value) -> Result<u64, Misread> {
+        number(value)
     }
 }
 
@@ -35,21 +36,15 @@ impl InJson for Vec<u64> {
 
     ghost json = { λ ns. list_json number_json ns };
 
-    fn from_value(alloc: Global, value: &Value) -> Result<Vec<u64>, Misread> {
-        read_list(alloc, value)
-    }
-
     fn to_value(&self, alloc: Global) -> Result<Value, OutOfMemory> {
         list_value(alloc, self)
     }
 }
 
-/// The numbers of a list, each a whole number below 2^64; any other value is refused.
-pub fn read_numbers(alloc: Global, value: &Value) -> Result<Vec<u64>, Misread>
-    ensures ok { IfOk result (λ v. view value.now ≡ list_json number_json v.items) }
-    ensures refused { IfErr result (λ e. e ≡ misread.Shape → (xs : List ℕ) → view value.now ≢ list_json number_json xs) }
-{
-    read_list(alloc, value)
+impl FromJson for Vec<u64> {
+    fn from_value(alloc: Global, value: &Value) -> Result<Vec<u64>, Misread> {
+        read_list(alloc, value)
+    }
 }
 
 /// A list of numbers.

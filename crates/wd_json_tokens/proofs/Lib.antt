@@ -1,0 +1,4 @@
+pub mod Turns
+pub mod Lists
+pub mod Whole
+pub mod Held

@@ -1,0 +1,4 @@
+pub mod Values
+pub mod Tops
+pub mod Forms
+pub mod Pairs
