@@ -18,32 +18,46 @@ pub fn candidates(
     plan: &Plan,
     query: &[u8],
 ) -> Result<Vec<String>, OutOfMemory> {
-    let tokens = match lex(alloc, query) {
-        Ok(tokens) => tokens,
-        Err(_) => return Ok(Vec::new(alloc)),
-    };
+    match lex(alloc, query) {
+        Ok(tokens) => candidates_of(alloc, schema, plan, &tokens),
+        Err(_) => Ok(Vec::new(alloc)),
+    }
+}
+
+/// The lists that may be tried for a query of these tokens.
+fn candidates_of(
+    alloc: Global,
+    schema: &Schema,
+    plan: &Plan,
+    tokens: &[Token],
+) -> Result<Vec<String>, OutOfMemory> {
     let tables = tables_read(alloc, schema, plan)?;
-    let prefixes = prefixes(alloc, &tokens, &tables)?;
+    let prefixes = prefixes(alloc, tokens, &tables)?;
     let mut found = Vec::new(alloc);
-    for table in &tables {
-        add_keys(alloc, table, 1, &prefixes, &mut found)?;
-    }
-    let keys = found.len();
-    for table in &tables {
-        add_parts(alloc, table, &prefixes, &mut found)?;
-    }
-    for table in &tables {
-        add_columns(alloc, table, &prefixes, &mut found)?;
-    }
-    add_aliases(alloc, &tokens, &mut found)?;
-    for table in &tables {
-        add_keys(alloc, table, 2, &prefixes, &mut found)?;
-    }
-    add_pairs(alloc, keys.min(MOST_PAIRED), &mut found)?;
-    for table in &tables {
-        add_keys(alloc, table, 3, &prefixes, &mut found)?;
-    }
+    add_candidates(alloc, tokens, &tables, &prefixes, &mut found)?;
     Ok(found)
+}
+
+/// Adds the lists in the order in which they are tried.
+fn add_candidates(
+    alloc: Global,
+    tokens: &[Token],
+    tables: &[&Table],
+    prefixes: &[String],
+    found: &mut Vec<String>,
+) -> Result<(), OutOfMemory> {
+    add_keys_of_all(alloc, tables, 1, prefixes, found)?;
+    let keys = found.len();
+    for table in tables {
+        add_parts(alloc, table, prefixes, found)?;
+    }
+    for table in tables {
+        add_columns(alloc, table, prefixes, found)?;
+    }
+    add_aliases(alloc, tokens, found)?;
+    add_keys_of_all(alloc, tables, 2, prefixes, found)?;
+    add_pairs(alloc, keys.min(MOST_PAIRED), found)?;
+    add_keys_of_all(alloc, tables, 3, prefixes, found)
 }
 
 /// The tables that a plan reads, each once, in the order in which it reads them.
@@ -162,6 +176,20 @@ fn is_one_word(tokens: &[Token], name: &str) -> bool {
         },
         _ => false,
     }
+}
+
+/// Adds the tables' keys of `length` columns.
+fn add_keys_of_all(
+    alloc: Global,
+    tables: &[&Table],
+    length: usize,
+    prefixes: &[String],
+    found: &mut Vec<String>,
+) -> Result<(), OutOfMemory> {
+    for table in tables {
+        add_keys(alloc, table, length, prefixes, found)?;
+    }
+    Ok(())
 }
 
 /// Adds a table's keys of `length` columns.

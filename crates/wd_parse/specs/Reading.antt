@@ -21,7 +21,7 @@ use Rattle.wd_syntax.specs.declared.query.Limits.TheVariants.{OffsetFirst, Count
 use Rattle.wd_read_cursor.specs.Tokens.{Kinds}
 use Rattle.wd_syntax.specs.Tokens.{whole_height}
 use Rattle.wd_read_cursor.specs.Cursor.{Fault, Unexpected, Limit, ◌>>=◌, Reads, Parser, Chance, choose, eat, some_or_unexpected, expect, eat_word, expect_word, eat_name, name_at, number_at, many, list_at, try, optional}
-use Rattle.wd_syntax.specs.Tree.{Tree, WindowTree, ItemTree, all_columns, all_of, shown, SetTree, one_column, columns, GroupTree, grouped_by, constructed, GroupingTree, TableTree, named, derived, JoinTree, comma, cross, inner, SelectTree, select, QueryTree, query, keys_of, joins_of}
+use Rattle.wd_syntax.specs.Tree.{Tree, WindowTree, ItemTree, all_columns, all_of, shown, SetTree, one_column, columns, GroupTree, grouped_by, constructed, GroupingTree, Tail, TableTree, named, derived, JoinTree, comma, cross, inner, SelectTree, select, QueryTree, query, Key, keys_of, joins_of}
 use Rattle.wd_read_expression.specs.Reading.{order_at, window_at, enter, Deeper, deeper_of, read}
 
 -- ---- selects
@@ -206,6 +206,16 @@ select_at limit depth inside ts =
     filter_at (read limit depth whole_height) tables.1 >>= λ filter. grouping_at depth (read limit depth whole_height) filter.1 >>= λ grouping. windows_at (deeper_of limit depth) grouping.1 >>= λ windows.
     order_at (read limit depth whole_height) windows.1 >>= λ order. limits_at order.1 >>= λ limits.
     Ok (select (record { quantifier = (quantifier_at r).0; items = items.0; tail = record { filter = filter.0; grouping = grouping.0; windows = windows.0; order = keys_of order.0; limits = limits.0 } }) tables.0.0 (joins_of tables.0.1), limits.1)
+
+-- what follows HAVING: that part of select_at by itself
+unfoldable pub ending_at : ℕ → ℕ → Parser (List (Name × WindowTree) × List Key × Option Limits)
+ending_at limit depth ts = windows_at (deeper_of limit depth) ts >>= λ windows. order_at (read limit depth whole_height) windows.1 >>= λ order. limits_at order.1 >>= λ limits. Ok ((windows.0, order.0, limits.0), limits.1)
+
+-- what follows FROM: that part of select_at by itself
+unfoldable pub tail_at : ℕ → ℕ → Parser Tail
+tail_at limit depth ts =
+    filter_at (read limit depth whole_height) ts >>= λ filter. grouping_at depth (read limit depth whole_height) filter.1 >>= λ grouping. ending_at limit depth grouping.1 >>= λ ending.
+    Ok (record { filter = filter.0; grouping = grouping.0; windows = ending.0.0; order = keys_of ending.0.1; limits = ending.0.2 }, ending.1)
 
 -- a select with the given number of levels left
 unfoldable pub selects : ℕ → ℕ → Parser SelectTree

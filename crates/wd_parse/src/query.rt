@@ -7,10 +7,10 @@ ghost use Rattle.wd_syntax.specs.Tokens.{whole_height};
 ghost use Rattle.wd_syntax.specs.Tree.{derived, query};
 ghost use Rattle.wd_syntax.specs.View.{view_item, view_named_window, view_option, view_table, view_joined, view_select, view_query};
 ghost use Rattle.wd_read_expression.specs.Reading.{read, deeper_of};
-ghost use Rattle.wd_parse.specs.Reading.{inside_of, selects, quantifier_at, required_alias_at, alias_at, star_at, filter_at, windows_at, table_at, inner_at, join_at, from_at, if_last, whole};
+ghost use Rattle.wd_parse.specs.Reading.{inside_of, selects, quantifier_at, required_alias_at, alias_at, star_at, filter_at, windows_at, ending_at, tail_at, table_at, inner_at, join_at, from_at, if_last, whole};
 ghost use Rattle.wd_read_cursor.specs.Cursor.{list_at, many};
 ghost use Rattle.wd_read_cursor.specs.Given.{Gives, MayFind, MayGive};
-ghost use Rattle.wd_parse.specs.Given.{view_from};
+ghost use Rattle.wd_parse.specs.Given.{view_from, view_ending, view_tail};
 
 use crate::group::grouping;
 use crate::limits::limits_at;
@@ -19,7 +19,8 @@ use wd_lex::{Terminal, Token};
 use wd_read_cursor::{Reader, Refusal, eat, eat_name, expect, list_at, name_at, unexpected_token};
 use wd_read_expression::{deeper, expression_at, order_at, window_at};
 use wd_syntax::{
-    Alias, Expr, From, Item, Joined, Name, NamedWindow, Quantifier, Query, Select, Table,
+    Alias, Expr, From, Grouping, Item, Joined, Limits, Name, NamedWindow, Quantifier, Query,
+    Select, SortKey, Table,
 };
 
 /// The most levels that are open at once.
@@ -214,6 +215,58 @@ fn windows(
     }
 }
 
+/// What follows HAVING.
+#[derive(Drop)]
+struct Ending {
+    windows: Vec<NamedWindow>,
+    order: Vec<SortKey>,
+    limits: Option<Limits>,
+}
+
+/// What follows FROM.
+#[derive(Drop)]
+struct Tail {
+    filter: Option<Expr>,
+    grouping: Grouping,
+    ending: Ending,
+}
+
+/// From WINDOW to the limits.
+#[tactic(auto, unfolding(crate::specs::Reading::ending_at))]
+fn ending_at(alloc: Global, depth: u8, tokens: &[Token]) -> Result<(Ending, &[Token]), Refusal>
+    ensures { Gives (λ x. (view_ending x.0, kinds_of x.1.now)) result (ending_at most_operators depth (kinds_of tokens.now)) }
+{
+    let (windows, rest) = windows(alloc, depth, tokens)?;
+    let (order, rest) = order_at(alloc, depth, rest)?;
+    let (limits, rest) = limits_at(rest)?;
+    Ok((
+        Ending {
+            windows,
+            order,
+            limits,
+        },
+        rest,
+    ))
+}
+
+/// From WHERE to the limits.
+#[tactic(auto, unfolding(crate::specs::Reading::tail_at))]
+fn tail_at(alloc: Global, depth: u8, tokens: &[Token]) -> Result<(Tail, &[Token]), Refusal>
+    ensures { Gives (λ x. (view_tail x.0, kinds_of x.1.now)) result (tail_at most_operators depth (kinds_of tokens.now)) }
+{
+    let (filter, rest) = filter(alloc, depth, tokens)?;
+    let (grouping, rest) = grouping(alloc, depth, rest)?;
+    let (ending, rest) = ending_at(alloc, depth, rest)?;
+    Ok((
+        Tail {
+            filter,
+            grouping,
+            ending,
+        },
+        rest,
+    ))
+}
+
 // A Vec inside the tree is a list of its elements there: this says once what it holds.
 fn derived_table(select: Box<Select>, alias: Alias) -> Table
     ensures { view_table result ≡ derived (view_select select.value) alias }
@@ -318,7 +371,7 @@ fn from(alloc: Global, depth: u8, tokens: &[Token]) -> Result<(From, &[Token]), 
 }
 
 /// A select, up to its limits.
-#[tactic(auto, unfolding(crate::specs::Reading::select_at), using(crate::proofs::CompleteQuery::selects_are))]
+#[tactic(auto, using(crate::proofs::CompleteQuery::selects_by_tail))]
 #[cycle(select)]
 fn select(alloc: Global, depth: u8, tokens: &[Token]) -> Result<(Box<Select>, &[Token]), Refusal>
     ensures { Gives (λ x. (view_select x.0.value, kinds_of x.1.now)) result (selects most_operators depth (kinds_of tokens.now)) }
@@ -328,20 +381,16 @@ fn select(alloc: Global, depth: u8, tokens: &[Token]) -> Result<(Box<Select>, &[
     let (items, rest) = list_at(alloc, &Items { depth }, Terminal::Comma, rest)?;
     let rest = expect(rest, Terminal::From)?;
     let (from, rest) = from(alloc, depth, rest)?;
-    let (filter, rest) = filter(alloc, depth, rest)?;
-    let (grouping, rest) = grouping(alloc, depth, rest)?;
-    let (windows, rest) = windows(alloc, depth, rest)?;
-    let (order, rest) = order_at(alloc, depth, rest)?;
-    let (limits, rest) = limits_at(rest)?;
+    let (tail, rest) = tail_at(alloc, depth, rest)?;
     let select = Select {
         quantifier,
         items,
         from,
-        filter,
-        grouping,
-        windows,
-        order,
-        limits,
+        filter: tail.filter,
+        grouping: tail.grouping,
+        windows: tail.ending.windows,
+        order: tail.ending.order,
+        limits: tail.ending.limits,
     };
     Ok((Box::new(alloc, select)?, rest))
 }

@@ -4,6 +4,7 @@ ghost use Rattle.std.specs.Prelude.{◌≡◌, ◌+◌, ◌<◌, ◌≤◌, ◌^
 ghost use Rattle.wd_plan.specs.Expressions.{expression_of};
 ghost use Rattle.wd_plan.specs.Fits.{fits, width};
 ghost use Rattle.wd_plan.specs.Plans.{group_call_of, grouping_of, has, limit_of, plan_of, window_of};
+ghost use Rattle.wd_plan.specs.Plans as nodes;
 ghost use Rattle.wd_schema.specs.Schemas.{schema_of};
 ghost use Rattle.wd_simpler.specs.OwnPlace as peers;
 ghost use Rattle.wd_simpler.specs.Sets.{HasAlso, read_of};
@@ -40,6 +41,7 @@ pub fn simpler(alloc: Global, schema: &Schema, plan: Plan) -> Result<Plan, OutOf
 }
 
 /// The simpler plan of which only these columns are read.
+#[cycle(narrow)]
 fn narrow_plan(
     alloc: Global,
     schema: &Schema,
@@ -55,73 +57,153 @@ fn narrow_plan(
             left,
             right,
             condition,
-        } => {
-            let more = with_condition(read, &condition)?;
-            let beside = right_of(alloc, &more, left.width(), right.width())?;
-            let left = narrow_plan(alloc, schema, Box::into_inner(left), more)?;
-            let right = narrow_plan(alloc, schema, Box::into_inner(right), beside)?;
-            Ok(Plan::Join {
-                left: Box::new(alloc, left)?,
-                right: Box::new(alloc, right)?,
-                condition,
-            })
-        }
-        Plan::Filter { input, condition } => {
-            let unmet = is_unmet(schema, &input, &condition);
-            let condition = read_condition(unmet, condition);
-            let more = with_used(kept_reads(alloc, unmet, read), &condition)?;
-            let input = narrow_plan(alloc, schema, Box::into_inner(input), more)?;
-            Ok(Plan::Filter {
-                input: Box::new(alloc, input)?,
-                condition,
-            })
-        }
-        Plan::Map { input, outputs } => {
-            let outputs = read_outputs(alloc, &read, outputs)?;
-            let below = uses_of(alloc, &outputs)?;
-            let input = narrow_plan(alloc, schema, Box::into_inner(input), below)?;
-            Ok(Plan::Map {
-                input: Box::new(alloc, input)?,
-                outputs,
-            })
-        }
-        Plan::Group { input, group } => {
-            let group = read_group(alloc, &read, group)?;
-            let below = read_by_group(alloc, &group)?;
-            let input = narrow_plan(alloc, schema, Box::into_inner(input), below)?;
-            Ok(Plan::Group {
-                input: Box::new(alloc, input)?,
-                group,
-            })
-        }
-        Plan::Window { input, window } => {
-            let none = is_empty(schema, &input);
-            let window = keyed_window(alloc, schema, &input, window)?;
-            let window = read_window(alloc, none, &read, input.width(), window)?;
-            let more = with_window(read, &window)?;
-            let input = narrow_plan(alloc, schema, Box::into_inner(input), more)?;
-            Ok(Plan::Window {
-                input: Box::new(alloc, input)?,
-                window,
-            })
-        }
+        } => narrow_join(alloc, schema, left, right, condition, read),
+        Plan::Filter { input, condition } => narrow_filter(alloc, schema, input, condition, read),
+        Plan::Map { input, outputs } => narrow_map(alloc, schema, input, outputs, &read),
+        Plan::Group { input, group } => narrow_group(alloc, schema, input, group, &read),
+        Plan::Window { input, window } => narrow_window(alloc, schema, input, window, read),
         Plan::Distinct { input } => {
-            let input = narrow_plan(alloc, schema, Box::into_inner(input), None)?;
-            Ok(Plan::Distinct {
-                input: Box::new(alloc, input)?,
-            })
+            let input = narrow_input(alloc, schema, input, None)?;
+            Ok(Plan::Distinct { input })
         }
-        Plan::Limit { input, limit } => {
-            let none = is_empty(schema, &input);
-            let limit = keyed_limit(alloc, schema, &input, limit)?;
-            let more = with_keys(kept_reads(alloc, takes_none(&limit), read), &limit)?;
-            let input = narrow_plan(alloc, schema, Box::into_inner(input), more)?;
-            Ok(Plan::Limit {
-                input: Box::new(alloc, input)?,
-                limit: read_limit(none, limit),
-            })
-        }
+        Plan::Limit { input, limit } => narrow_limit(alloc, schema, input, limit, read),
     }
+}
+
+/// The simpler plan below a step.
+#[cycle(narrow)]
+fn narrow_input(
+    alloc: Global,
+    schema: &Schema,
+    input: Box<Plan>,
+    read: Option<Set>,
+) -> Result<Box<Plan>, OutOfMemory>
+    requires { fits (schema_of schema.now) (plan_of input.value) ≡ true }
+    ensures { IfOk result (λ p. plan_of p.value ≡ spec.narrowed (schema_of schema.now) (plan_of input.value) (read_of read)) }
+{
+    let input = narrow_plan(alloc, schema, Box::into_inner(input), read)?;
+    Ok(Box::new(alloc, input)?)
+}
+
+/// The Join of simpler plans.
+#[cycle(narrow)]
+fn narrow_join(
+    alloc: Global,
+    schema: &Schema,
+    left: Box<Plan>,
+    right: Box<Plan>,
+    condition: Option<Expr>,
+    read: Option<Set>,
+) -> Result<Plan, OutOfMemory>
+    requires { fits (schema_of schema.now) (nodes.Join (option_map expression_of condition) (plan_of left.value) (plan_of right.value)) ≡ true }
+    ensures { IfOk result (λ p. plan_of p ≡ spec.narrowed (schema_of schema.now) (nodes.Join (option_map expression_of condition) (plan_of left.value) (plan_of right.value)) (read_of read)) }
+{
+    let more = with_condition(read, &condition)?;
+    let beside = right_of(alloc, &more, left.width(), right.width())?;
+    let left = narrow_input(alloc, schema, left, more)?;
+    let right = narrow_input(alloc, schema, right, beside)?;
+    Ok(Plan::Join {
+        left,
+        right,
+        condition,
+    })
+}
+
+/// The Filter over the simpler plan; with FALSE for a condition that no row meets.
+#[cycle(narrow)]
+fn narrow_filter(
+    alloc: Global,
+    schema: &Schema,
+    input: Box<Plan>,
+    condition: Expr,
+    read: Option<Set>,
+) -> Result<Plan, OutOfMemory>
+    requires { fits (schema_of schema.now) (nodes.Over (nodes.Filter (expression_of condition)) (plan_of input.value)) ≡ true }
+    ensures { IfOk result (λ p. plan_of p ≡ spec.narrowed (schema_of schema.now) (nodes.Over (nodes.Filter (expression_of condition)) (plan_of input.value)) (read_of read)) }
+{
+    let unmet = is_unmet(schema, &input, &condition);
+    let condition = read_condition(unmet, condition);
+    let more = with_used(kept_reads(alloc, unmet, read), &condition)?;
+    let input = narrow_input(alloc, schema, input, more)?;
+    Ok(Plan::Filter { input, condition })
+}
+
+/// The Map of the outputs that are read, over the simpler plan.
+#[cycle(narrow)]
+fn narrow_map(
+    alloc: Global,
+    schema: &Schema,
+    input: Box<Plan>,
+    outputs: Vec<Expr>,
+    read: &Option<Set>,
+) -> Result<Plan, OutOfMemory>
+    requires { fits (schema_of schema.now) (nodes.Over (nodes.Map (map expression_of outputs.items)) (plan_of input.value)) ≡ true }
+    ensures { IfOk result (λ p. plan_of p ≡ spec.narrowed (schema_of schema.now) (nodes.Over (nodes.Map (map expression_of outputs.items)) (plan_of input.value)) (read_of read.now)) }
+{
+    let outputs = read_outputs(alloc, read, outputs)?;
+    let below = uses_of(alloc, &outputs)?;
+    let input = narrow_input(alloc, schema, input, below)?;
+    Ok(Plan::Map { input, outputs })
+}
+
+/// The Group with the calls that are read, over the simpler plan.
+#[cycle(narrow)]
+fn narrow_group(
+    alloc: Global,
+    schema: &Schema,
+    input: Box<Plan>,
+    group: Group,
+    read: &Option<Set>,
+) -> Result<Plan, OutOfMemory>
+    requires { fits (schema_of schema.now) (nodes.Over (nodes.Group (grouping_of group)) (plan_of input.value)) ≡ true }
+    ensures { IfOk result (λ p. plan_of p ≡ spec.narrowed (schema_of schema.now) (nodes.Over (nodes.Group (grouping_of group)) (plan_of input.value)) (read_of read.now)) }
+{
+    let group = read_group(alloc, read, group)?;
+    let below = read_by_group(alloc, &group)?;
+    let input = narrow_input(alloc, schema, input, below)?;
+    Ok(Plan::Group { input, group })
+}
+
+/// The Window with the calls that are read, over the simpler plan.
+#[cycle(narrow)]
+fn narrow_window(
+    alloc: Global,
+    schema: &Schema,
+    input: Box<Plan>,
+    window: Window,
+    read: Option<Set>,
+) -> Result<Plan, OutOfMemory>
+    requires { fits (schema_of schema.now) (nodes.Over (nodes.Window (window_of window)) (plan_of input.value)) ≡ true }
+    ensures { IfOk result (λ p. plan_of p ≡ spec.narrowed (schema_of schema.now) (nodes.Over (nodes.Window (window_of window)) (plan_of input.value)) (read_of read)) }
+{
+    let none = is_empty(schema, &input);
+    let window = keyed_window(alloc, schema, &input, window)?;
+    let window = read_window(alloc, none, &read, input.width(), window)?;
+    let more = with_window(read, &window)?;
+    let input = narrow_input(alloc, schema, input, more)?;
+    Ok(Plan::Window { input, window })
+}
+
+/// The Limit over the simpler plan.
+#[cycle(narrow)]
+fn narrow_limit(
+    alloc: Global,
+    schema: &Schema,
+    input: Box<Plan>,
+    limit: Limit,
+    read: Option<Set>,
+) -> Result<Plan, OutOfMemory>
+    requires { fits (schema_of schema.now) (nodes.Over (nodes.Limit (limit_of limit)) (plan_of input.value)) ≡ true }
+    ensures { IfOk result (λ p. plan_of p ≡ spec.narrowed (schema_of schema.now) (nodes.Over (nodes.Limit (limit_of limit)) (plan_of input.value)) (read_of read)) }
+{
+    let none = is_empty(schema, &input);
+    let limit = keyed_limit(alloc, schema, &input, limit)?;
+    let more = with_keys(kept_reads(alloc, takes_none(&limit), read), &limit)?;
+    let input = narrow_input(alloc, schema, input, more)?;
+    Ok(Plan::Limit {
+        input,
+        limit: read_limit(none, limit),
+    })
 }
 
 // ---- what is read below a step

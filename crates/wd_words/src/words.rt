@@ -7,6 +7,15 @@ use std::alloc::{AllocError, Global};
 /// Reads the words after the program's own name. Help and version, which have a text too, are returned as the error.
 pub fn read_words<'a>(alloc: Global, words: &'a [&'a str]) -> Result<Asked<'a>, Error> {
     let mut command = command_line(alloc)?;
+    read_by(alloc, &mut command, words)
+}
+
+/// Reads the words of a command.
+fn read_by<'a>(
+    alloc: Global,
+    command: &mut Command<'a>,
+    words: &'a [&'a str],
+) -> Result<Asked<'a>, Error> {
     let matches = command.try_get_matches_from_mut(words)?;
     let asked = asked_in(alloc, &matches)?;
     Ok(asked)
