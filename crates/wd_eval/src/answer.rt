@@ -1,6 +1,6 @@
 //! What a plan gives, however its rows are kept.
 
-ghost use Rattle.std.specs.Prelude.{◌≡◌, IfOk};
+ghost use Rattle.std.specs.Prelude.{◌≡◌, IfOk, Ok};
 ghost use Rattle.wd_nodes.specs.Relation.{relation_or_fault_of};
 ghost use Rattle.wd_plan.specs.Outcomes.{outcome_of};
 
@@ -26,6 +26,23 @@ impl Model for Answer {
 }
 
 impl Answer {
+    /// An outcome.
+    pub fn of_outcome(outcome: Outcome) -> Answer
+        ensures { result ≡ outcome_of outcome }
+    {
+        match outcome {
+            Outcome::Rows(rows) => Answer::of_rows(OwnRows::of_rows(rows)),
+            Outcome::Fault(fault) => Answer { kept: Err(fault) },
+        }
+    }
+
+    /// These rows.
+    pub fn of_rows(rows: OwnRows) -> Answer
+        ensures { result ≡ Ok rows }
+    {
+        Answer { kept: Ok(rows) }
+    }
+
     /// The rows, or the fault.
     pub fn rows(&self) -> Result<RowSource<'_>, Fault>
         ensures { result ≡ self.now }

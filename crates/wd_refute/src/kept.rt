@@ -106,8 +106,7 @@ fn numbered_rows(
 fn sorted_answer(alloc: Global, answer: Answer) -> Result<Kept, OutOfMemory>
     ensures { IfOk result (λ k. IsKept answer k) }
 {
-    let outcome = answer.into_outcome(alloc)?;
-    let sorted = SortedOutcome::new(alloc, outcome)?;
+    let sorted = SortedOutcome::of_answer(alloc, answer)?;
     Ok(Kept::Sorted(sorted))
 }
 
@@ -115,7 +114,6 @@ fn sorted_answer(alloc: Global, answer: Answer) -> Result<Kept, OutOfMemory>
 fn sorted_agrees(alloc: Global, first: &SortedOutcome, answer: Answer) -> Result<bool, OutOfMemory>
     ensures { IfOk result (λ b. IsTrue b ↔ Agree first.now answer) }
 {
-    let outcome = answer.into_outcome(alloc)?;
-    let second = SortedOutcome::new(alloc, outcome)?;
+    let second = SortedOutcome::of_answer(alloc, answer)?;
     Ok(first.agrees(&second))
 }

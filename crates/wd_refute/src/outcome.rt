@@ -7,26 +7,27 @@ ghost use Rattle.wd_plan.specs.Outcomes.{Agree, outcome_of};
 use crate::rows::{row_order, show_the_same};
 use std::alloc::Global;
 use std::marker::Model;
+use wd_eval::Answer;
 use wd_plan::Outcome;
 use wd_value::OutOfMemory;
 
 /// An outcome prepared for comparison: the positions of its rows are sorted by the rows. Contracts see the outcome.
 #[derive(Drop)]
 pub struct SortedOutcome {
-    outcome: Outcome,
+    answer: Answer,
     /// Empty where the outcome is a fault.
     order: Vec<u64>,
 }
 
 impl Model for SortedOutcome {
-    ghost use Rattle.wd_plan.specs.Outcomes.{RowsOrFault, outcome_of};
+    ghost use Rattle.wd_plan.specs.Outcomes.{RowsOrFault};
     ghost use Rattle.wd_refute.specs.Ready.{IsReady};
 
     ghost Value = { RowsOrFault };
 
-    ghost view = { λ s. outcome_of s.outcome };
+    ghost view = { λ s. s.answer };
 
-    ghost invariant = { λ s. IsReady (outcome_of s.outcome) s.order.items };
+    ghost invariant = { λ s. IsReady s.answer s.order.items };
 }
 
 impl SortedOutcome {
@@ -37,8 +38,18 @@ impl SortedOutcome {
     pub fn new(alloc: Global, outcome: Outcome) -> Result<SortedOutcome, OutOfMemory>
         ensures { IfOk result (λ s. s ≡ outcome_of outcome) }
     {
-        let order = order_of(alloc, &outcome)?;
-        Ok(SortedOutcome { outcome, order })
+        SortedOutcome::of_answer(alloc, Answer::of_outcome(outcome))
+    }
+
+    /// Prepares an answer, whose rows stay as they are kept.
+    ///
+    /// # Errors
+    /// Where memory runs out; the answer is then dropped.
+    pub fn of_answer(alloc: Global, answer: Answer) -> Result<SortedOutcome, OutOfMemory>
+        ensures { IfOk result (λ s. s ≡ answer) }
+    {
+        let order = order_of(alloc, &answer)?;
+        Ok(SortedOutcome { answer, order })
     }
 
     /// Whether two outcomes agree: the same fault, or rows with each row equally often. Takes no
@@ -46,22 +57,20 @@ impl SortedOutcome {
     pub fn agrees(&self, other: &SortedOutcome) -> bool
         ensures { IsTrue result ↔ Agree self.now other.now }
     {
-        match (&self.outcome, &other.outcome) {
-            (Outcome::Rows(rows), Outcome::Rows(others)) => {
-                show_the_same(rows, &self.order, others, &other.order)
-            }
-            (Outcome::Fault(fault), Outcome::Fault(found)) => *fault == *found,
+        match (self.answer.rows(), other.answer.rows()) {
+            (Ok(rows), Ok(others)) => show_the_same(&rows, &self.order, &others, &other.order),
+            (Err(fault), Err(found)) => fault == found,
             _ => false,
         }
     }
 }
 
-/// The positions of an outcome's rows, sorted by the rows; empty for a fault.
-fn order_of(alloc: Global, outcome: &Outcome) -> Result<Vec<u64>, OutOfMemory>
-    ensures { IfOk result (λ v. IsReady (outcome_of outcome.now) v.items) }
+/// The positions of an answer's rows, sorted by the rows; empty for a fault.
+fn order_of(alloc: Global, answer: &Answer) -> Result<Vec<u64>, OutOfMemory>
+    ensures { IfOk result (λ v. IsReady answer.now v.items) }
 {
-    match outcome {
-        Outcome::Rows(rows) => row_order(alloc, rows),
-        Outcome::Fault(_) => Ok(Vec::new(alloc)),
+    match answer.rows() {
+        Ok(rows) => row_order(alloc, &rows),
+        Err(_) => Ok(Vec::new(alloc)),
     }
 }

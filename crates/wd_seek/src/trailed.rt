@@ -12,8 +12,8 @@ ghost use Rattle.wd_value.specs.Rows.{Instance, instance_of};
 
 use std::alloc::Global;
 use wd_columns::OwnRows;
-use wd_eval::Turn;
-use wd_plan::{Outcome, Plan};
+use wd_eval::{Answer, Turn};
+use wd_plan::Plan;
 use wd_refute::SortedOutcome;
 use wd_schema::Schema;
 use wd_trail::{Change, Trail, follow};
@@ -79,6 +79,5 @@ fn agree(alloc: Global, first: &SortedOutcome, rows: OwnRows) -> bool
 fn outcome_of_rows(alloc: Global, rows: OwnRows) -> Result<SortedOutcome, OutOfMemory>
     ensures { IfOk result (λ s. s ≡ Ok rows) }
 {
-    let outcome = Outcome::Rows(rows.into_list(alloc)?);
-    SortedOutcome::new(alloc, outcome)
+    SortedOutcome::of_answer(alloc, Answer::of_rows(rows))
 }
