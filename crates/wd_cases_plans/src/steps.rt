@@ -4,8 +4,8 @@ use crate::shown::{push, push_fault, push_rows, push_truth, push_value_or_fault}
 use std::alloc::Global;
 use wd_cases::Failure;
 use wd_cases_notation::{Line, State, Word};
-use wd_columns::{OwnRows, RowSource, copy_rows};
-use wd_join::{Pair, StepError, all_pairs, join_pairs, paired_rows};
+use wd_columns::{OwnRows, Pair, RowSource, copy_rows};
+use wd_join::{StepError, all_pairs, join_pairs, paired_rows};
 use wd_plan::{Expr, Limit};
 use wd_scalar::{has_arithmetic, is_true, value_at};
 use wd_steps::{distinct_positions, kept_positions, map_columns, passing_positions, with_fault};
