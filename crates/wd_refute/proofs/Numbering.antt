@@ -1,11 +1,12 @@
 -- Rows that have numbers are told apart by them.
-use Rattle.std.proofs.Common.{◌≡◌, ◌∙◌, ℕ, zero, suc, ◌+◌, ◌*◌, ◌/◌, ◌%◌, ◌^◌, ◌<◌, ◌≤◌, ◌↔◌, Bool, true, false, cond, List, [], ◌∷◌, map, get_or, length, nat_eq, refl, sym, ap, subst, arith, Option, Some, None}
-use Rattle.std.specs.Prelude.{IsSome, option_and_then, slice_get, nat_lt, if◌then◌else◌, unwrap_or}
+use Rattle.std.proofs.Common.{◌≡◌, ◌∙◌, inl, inr, ℕ, zero, suc, ◌+◌, ◌*◌, ◌/◌, ◌%◌, ◌^◌, ◌<◌, ◌≤◌, ◌↔◌, Bool, true, false, cond, List, [], ◌∷◌, ◌++◌, map, get_or, length, nat_eq, refl, sym, ap, subst, arith, Option, Some, None}
+use Rattle.std.specs.Prelude.{IfSome, IsSome, option_and_then, slice_get, nat_lt, if◌then◌else◌, unwrap_or}
 use Rattle.std.specs.List.{AllByRecursion}
 use Rattle.std.specs.List.Sorted.{IsNonDecreasingBy}
 use Rattle.std.specs.Option.{option_map_or}
-use Rattle.std.proofs.lemmas.Bool.{false≢true}
+use Rattle.std.proofs.lemmas.Bool.{cases_lt, false≢true}
 use Rattle.std.proofs.lemmas.Bool.Decides.{Decides-eqb}
+use Rattle.std.proofs.lemmas.List.{get_or_append_left, get_or_push}
 use Rattle.std.proofs.lemmas.List.Elements.{All-from_get_or}
 use Rattle.std.proofs.lemmas.List.Sorted.{IsNonDecreasingBy-from_sort}
 use Rattle.std.proofs.lemmas.Nat.{mod-mul-add}
@@ -20,6 +21,19 @@ use Rattle.wd_value.proofs.SameLaws.{same-Decides, same_row-Decides}
 use Rattle.wd_sort.proofs.Packing.{Perm-from_IsPermutation, Up, Up-unique}
 use Rattle.wd_refute.specs.Numbers.{AreNumbers, AreSortedNumbers, HaveNumbers, number_from, number_of, place_in, stands_at, with_digit}
 use Rattle.wd_refute.specs.declared.places.Places.{Places}
+
+pub if_some-map : {A : Type 0} {P Q : A → Type 0} (o : Option A) → ((a : A) → P a → Q a) → IfSome o P → IfSome o Q
+if_some-map None step h = h
+if_some-map (Some a) step h = step a h
+
+-- what holds of each element holds with one more
+pub each_also : {A : Type 0} (d : A) (P : ℕ → A → Type 0) (xs : List A) (x : A) (n : ℕ) → length xs ≡ n → P n x → ((q : ℕ) → q < n → P q (get_or xs q d)) → (q : ℕ) → q < n + 1 → P q (get_or (xs ++ x ∷ []) q d)
+each_also d P xs x n long here before q low = elim (cases_lt q n) [
+  | inl l ↦ subst (P q) (sym (get_or_append_left xs (x ∷ []) d q (subst (λ m. q < m) (sym long) l))) (before q l)
+  | inr past ↦ (
+      let at : q ≡ n = omega arith in
+      subst (P q) (sym (get_or_push xs x d q (long ∙ sym at))) (subst (λ m. P m x) (sym at) here))
+]
 
 -- ---- a place has one value
 

@@ -26,10 +26,10 @@ pub(crate) fn row_order(alloc: Global, rows: &RowSource) -> Result<Vec<u64>, Out
 }
 
 /// Whether the rows at the first positions equal those at the second ones, place by place.
-pub(crate) fn show_the_same(
-    first: &RowSource,
+pub(crate) fn show_the_same<'a>(
+    first: &RowSource<'a>,
     first_order: &[u64],
-    second: &RowSource,
+    second: &RowSource<'a>,
     second_order: &[u64],
 ) -> bool
     ensures { IsTrue result ↔ (rows_at first.now first_order.now ≡ rows_at second.now second_order.now) }
@@ -46,14 +46,14 @@ pub(crate) fn show_the_same(
 }
 
 /// Whether the row at a position equals another one at another.
-fn is_same(first: &RowSource, p: u64, second: &RowSource, q: u64) -> bool
+fn is_same<'a>(first: &RowSource<'a>, p: u64, second: &RowSource<'a>, q: u64) -> bool
     ensures { IsTrue result ↔ (row_at first.now p ≡ row_at second.now q) }
 {
     compare_rows(first, p, second, q).is_eq()
 }
 
 /// The order of the row at a position and another one at another: the first values that differ decide, or else the lengths.
-fn compare_rows(first: &RowSource, p: u64, second: &RowSource, q: u64) -> Ordering
+fn compare_rows<'a>(first: &RowSource<'a>, p: u64, second: &RowSource<'a>, q: u64) -> Ordering
     ensures { result ≡ spec.compare_rows (row_at first.now p) (row_at second.now q) }
 {
     let (width, other_width) = (first.width(p), second.width(q));

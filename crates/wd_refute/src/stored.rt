@@ -1,9 +1,9 @@
 //! The places of a column's values where the rows are kept by their positions in other tables: found once for each value of the table.
 
-ghost use Rattle.std.specs.Prelude.{◌≡◌, ◌<◌, IfOk, IfSome, None, length, map, slice_index_or};
+ghost use Rattle.std.specs.Prelude.{◌≡◌, ◌<◌, IfOk, IfSome, None, length, slice_index_or, ℕ};
 ghost use Rattle.wd_refute.specs.Numbers.{place_in};
 ghost use Rattle.wd_refute.specs.Stored.{AreAllPlaces, ArePlaces};
-ghost use Rattle.wd_value.specs.Rows.{column_of};
+ghost use Rattle.wd_value.specs.Rows.{column_of, row_at};
 
 use crate::places::Places;
 use std::alloc::Global;
@@ -76,7 +76,8 @@ fn table_places(
     table: &Columns,
     column: usize,
 ) -> Result<Vec<Option<u64>>, OutOfMemory>
-    ensures { IfOk result (λ v. v.items ≡ map (λ row. place_in places.now (column_of row column)) table.now) }
+    ensures all { IfOk result (λ v. length v.items ≡ length table.now) }
+    ensures each { IfOk result (λ v. (q : ℕ) → q < length table.now → slice_index_or v.items q None ≡ place_in places.now (column_of (row_at table.now q) column)) }
 {
     let mut found = Vec::with_capacity(alloc, table.len())?;
     for position in 0..table.len() {
