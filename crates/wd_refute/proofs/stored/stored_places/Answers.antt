@@ -14,6 +14,7 @@ loop-column-preserved c =
     let one = c.in_ok-column_places.field-0 in
     let at : (column : Places) → c.index-places-column.result ≡ slice_index_or c.args.places.now c.loop-column.column column = λ column. c.index-places-column.is ∙ get_or_default c.args.places.now c.loop-column.column c.index-places-column.result column c.loop-column-test.true in
     let here : AreFor c.loop-column.column one = λ column. subst (λ p. IfSome one (ArePlaces p rows c.loop-column.column)) (at column) c.in_ok-column_places.ensures in
-    let new : c.push.new.self.items ≡ found ++ one ∷ [] = search rules in
-    (search rules,
-     λ k low. subst (λ all. AreFor k (slice_index_or all k None)) (sym new) (each_also None AreFor found one c.loop-column.column c.loop-column.invariant.0 here c.loop-column.invariant.1 k low))
+    let new : c.push.new.self.items ≡ found ++ one ∷ [] = search rules in (
+      search rules,
+      λ k low. subst (λ all. AreFor k (slice_index_or all k None)) (sym new) (each_also None AreFor found one c.loop-column.column c.loop-column.invariant.0 here c.loop-column.invariant.1 k low),
+    )
