@@ -25,8 +25,7 @@ pub fn frame_members(
 /// `call_values FRAME CALL : POSITIONS`: the values there, and whether one is out of range
 pub fn answer(alloc: Global, state: &State, out: &mut String) -> Result<(), Failure> {
     let call = state.stacks.window.calls.first().ok_or(Failure::NoCase)?;
-    let null = Value::Null;
-    let source = RowSource::of_rows(state.rows(), &null);
+    let source = RowSource::of_rows(state.rows());
     let partition = Partition {
         rows: &source,
         positions: state.ordering(),

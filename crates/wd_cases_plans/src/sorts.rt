@@ -8,7 +8,7 @@ use wd_columns::RowSource;
 use wd_partition::{Member, Partitions, Turn, is_ordering, partitions, sorted_ordering};
 use wd_plan::Class;
 use wd_sort::{compare_rows_at, is_sorted, sort_positions, sorted_positions, value_numbers};
-use wd_value::{Row, SortColumn, Value};
+use wd_value::{Row, SortColumn};
 
 /// `sorted_positions COLUMNS`, `sort_positions COLUMNS : POSITIONS`, `is_sorted COLUMNS : POSITIONS`,
 /// `value_numbers COLUMN`, for each row the first one with its number, and
@@ -54,8 +54,7 @@ fn push_value_numbers(
     out: &mut String,
 ) -> Result<(), Failure> {
     let asked = columns.first().ok_or(Failure::NoCase)?;
-    let null = Value::Null;
-    let numbers = value_numbers(alloc, &RowSource::of_rows(rows, &null), asked.column)?;
+    let numbers = value_numbers(alloc, &RowSource::of_rows(rows), asked.column)?;
     push_numbers(out, &firsts_of(alloc, &numbers.codes)?)
 }
 
@@ -107,8 +106,7 @@ fn push_ordering(
         "exchanged" => Turn::Exchanged,
         _ => Turn::AsGiven,
     };
-    let null = Value::Null;
-    let source = RowSource::of_rows(rows, &null);
+    let source = RowSource::of_rows(rows);
     let ordering = sorted_ordering(alloc, &source, &class.partition, &class.order, turn)?;
     push_numbers(out, &ordering)
 }
@@ -120,8 +118,7 @@ fn push_is_ordering(
     class: &Class,
     out: &mut String,
 ) -> Result<(), Failure> {
-    let null = Value::Null;
-    let source = RowSource::of_rows(state.rows(), &null);
+    let source = RowSource::of_rows(state.rows());
     let given = state.ordering();
     push_truth(
         out,
@@ -153,8 +150,7 @@ fn partitions_of(
     ordering: &[u64],
     asked: bool,
 ) -> Result<Option<Partitions>, Failure> {
-    let null = Value::Null;
-    let source = RowSource::of_rows(rows, &null);
+    let source = RowSource::of_rows(rows);
     if source.len() > u32::MAX as usize {
         return Err(Failure::NoCase);
     }

@@ -35,8 +35,7 @@ fn push_value_of(
     name: &str,
     out: &mut String,
 ) -> Result<(), Failure> {
-    let null = Value::Null;
-    let value = value_at(alloc, expression, &RowSource::of_rows(rows, &null), 0)?;
+    let value = value_at(alloc, expression, &RowSource::of_rows(rows), 0)?;
     if name == "is_true" {
         push_is_true(out, &value)
     } else {
@@ -52,7 +51,8 @@ fn push_filtered(
     out: &mut String,
 ) -> Result<(), Failure> {
     let copies = OwnRows::of_rows(copy_list(alloc, rows)?);
-    match passing_positions(alloc, condition, &copies.source())? {
+    let found = passing_positions(alloc, condition, &copies.source())?;
+    match found {
         Ok(kept) => push_own_rows(alloc, out, copies.pick(alloc, &kept)?),
         Err(fault) => push_fault(out, fault),
     }
@@ -65,8 +65,7 @@ fn push_copies(
     rows: &[Row],
     out: &mut String,
 ) -> Result<(), Failure> {
-    let null = Value::Null;
-    let rows = RowSource::of_rows(rows, &null);
+    let rows = RowSource::of_rows(rows);
     match passing_positions(alloc, condition, &rows)? {
         Ok(kept) => push_own_rows(alloc, out, copy_rows(alloc, &rows, &kept)?),
         Err(fault) => push_fault(out, fault),
@@ -110,16 +109,14 @@ fn push_mapped(
     rows: &[Row],
     out: &mut String,
 ) -> Result<(), Failure> {
-    let null = Value::Null;
-    match map_columns(alloc, outputs, &RowSource::of_rows(rows, &null))? {
+    match map_columns(alloc, outputs, &RowSource::of_rows(rows))? {
         Ok(columns) => push_own_rows(alloc, out, OwnRows::of_columns(columns)),
         Err(fault) => push_fault(out, fault),
     }
 }
 
 fn push_distinct(alloc: Global, rows: &[Row], out: &mut String) -> Result<(), Failure> {
-    let null = Value::Null;
-    let rows = RowSource::of_rows(rows, &null);
+    let rows = RowSource::of_rows(rows);
     let kept = distinct_positions(alloc, &rows)?;
     push_own_rows(alloc, out, copy_rows(alloc, &rows, &kept)?)
 }
@@ -129,9 +126,8 @@ fn push_distinct(alloc: Global, rows: &[Row], out: &mut String) -> Result<(), Fa
 fn push_joined(alloc: Global, state: &State, word: Word, out: &mut String) -> Result<(), Failure> {
     let most = word.number(0).ok_or(Failure::NoCase)?;
     let condition = state.stacks.expressions.first();
-    let null = Value::Null;
-    let left = RowSource::of_rows(state.rows(), &null);
-    let right = RowSource::of_rows(&state.right, &null);
+    let left = RowSource::of_rows(state.rows());
+    let right = RowSource::of_rows(&state.right);
     match pairs(alloc, condition, &left, &right, most) {
         Ok(Ok(pairs)) => push_own_rows(alloc, out, paired_rows(alloc, &left, &right, &pairs)?),
         Ok(Err(fault)) => push_fault(out, fault),
@@ -168,8 +164,7 @@ fn push_limit(alloc: Global, state: &State, word: Word, out: &mut String) -> Res
         count: counts.count,
         ties: counts.ties,
     };
-    let null = Value::Null;
-    let rows = RowSource::of_rows(state.rows(), &null);
+    let rows = RowSource::of_rows(state.rows());
     let kept = kept_positions(&limit, &rows, state.ordering());
     push_own_rows(alloc, out, copy_rows(alloc, &rows, kept)?)
 }

@@ -39,7 +39,7 @@ impl FromTokens for Target {
         depth: usize,
     ) -> Result<Option<Target>, Unread> {
         match take_top(reader, depth)? {
-            Top::Number(Some(column)) => Ok(Some(Target::Column(column))),
+            Top::Number(number) => Ok(number.as_u64().map(Target::Column)),
             Top::Text("row") => Ok(Some(Target::Row)),
             _ => Ok(None),
         }

@@ -9,7 +9,6 @@ use Rattle.std.proofs.lemmas.Simd.{map-map}
 use Rattle.std.proofs.Math.ListN.{get_or-map}
 use Rattle.std.specs.declared.alloc.Global.{Global}
 use Rattle.std.specs.declared.vec.Vec.{Vec}
-use Rattle.wd_value.specs.declared.value.Value.{Value}
 use Rattle.wd_value.specs.declared.value.Value.TheVariants.{Null}
 use Rattle.wd_value.specs.Bags.{positions}
 use Rattle.wd_value.specs.Rows.{Row, column_of, columns_of, row_at, rows_at, table_at}
@@ -168,43 +167,48 @@ column_at values p = elim (cases_lt p (length values)) [
   | inr past ↦ ap (λ row. column_of row 0) (along.past_is (values ∷ []) (length values) p past) ∙ sym (get_or_past values p Null past)
 ]
 
--- the column of the last of so many tables and one
-abbrev pub last_of : ℕ → Option Origin
-last_of n = Some (record { table = n; column = 0 })
+-- a column of the last of so many tables and one
+abbrev pub last_of : ℕ → ℕ → Option Origin
+last_of n column = Some (record { table = n; column = column })
 
-last_value : (tables : List (List Row)) (ps : List (List ℕ)) (n p : ℕ) (values : Row) → length ps ≡ length tables → p < n
-    → value_in (tables ++ rows_along (values ∷ []) (length values) ∷ []) (ps ++ positions n ∷ []) p (last_of (length tables)) ≡ get_or values p Null
-last_value tables ps n p values long low =
-    let table = rows_along (values ∷ []) (length values) in
-    let there : get_or (ps ++ positions n ∷ []) (length tables) [] ≡ positions n = get_or_push ps (positions n) [] (length tables) long in
-    let at : get_or (get_or (ps ++ positions n ∷ []) (length tables) []) p 0 ≡ p = ap (λ list. get_or list p 0) there ∙ get_or-range_with_len 0 n p 0 low ∙ zero-add p in
-    (λ i. column_of (row_at (get_or_push tables table [] (length tables) refl i) (at i)) 0) ∙ column_at values p
+last_value : (tables : List (List Row)) (ps : List (List ℕ)) (table : List Row) (list : List ℕ) (column p : ℕ) → length ps ≡ length tables
+    → value_in (tables ++ table ∷ []) (ps ++ list ∷ []) p (last_of (length tables) column) ≡ column_of (row_at table (get_or list p 0)) column
+last_value tables ps table list column p long =
+    let there : get_or (ps ++ list ∷ []) (length tables) [] ≡ list = get_or_push ps list [] (length tables) long in
+    (λ i. column_of (row_at (get_or_push tables table [] (length tables) refl i) (get_or (there i) p 0)) column)
 
-pub one_more : (tables : List (List Row)) (ps : List (List ℕ)) (origins : List (Option Origin)) (n : ℕ) (values : Row) → AreOfTables tables ps origins
-    → rows_joined (tables ++ rows_along (values ∷ []) (length values) ∷ []) (ps ++ positions n ∷ []) (origins ++ last_of (length tables) ∷ []) n ≡ with_values (rows_joined tables ps origins n) values
-one_more tables ps origins n values are =
-    let rows = rows_joined tables ps origins n in
-    let table = rows_along (values ∷ []) (length values) in
-    let all = tables ++ table ∷ [] in
-    let lists = ps ++ positions n ∷ [] in
-    let beside = λ (p : ℕ). row_at rows p ++ get_or values p Null ∷ [] in
-    let last = last_of (length tables) in
-    fill_by_all beside (rows_joined all lists (origins ++ last ∷ []) n) n [] (count all lists (origins ++ last ∷ []) n) (λ k low. (
-    row_is all lists (origins ++ last ∷ []) n k low
-    ∙ map_push (value_in all lists k) origins last
-    ∙ (λ i. row_before tables (table ∷ []) ps (positions n ∷ []) k are.lists origins are.within i ++ last_value tables ps n k values are.lists low i ∷ [])
-    ∙ ap (λ (row : Row). row ++ get_or values k Null ∷ []) (sym (row_is tables ps origins n k low))))
-    ∙ ap (λ m. map beside (positions m)) (sym (count tables ps origins n))
+-- a table of one column that all rows read at their own position
+pub own_value : (values : Row) (n p : ℕ) → p < n → column_of (row_at (rows_along (values ∷ []) (length values)) (get_or (positions n) p 0)) 0 ≡ get_or values p Null
+own_value values n p low =
+    let at : get_or (positions n) p 0 ≡ p = get_or-range_with_len 0 n p 0 low ∙ zero-add p in
+    (λ i. column_of (row_at (rows_along (values ∷ []) (length values)) (at i)) 0) ∙ column_at values p
 
-pub one_more_within : (tables : List (List Row)) (ps : List (List ℕ)) (origins : List (Option Origin)) (table : List Row) (list : List ℕ) → AreOfTables tables ps origins → AreOfTables (tables ++ table ∷ []) (ps ++ list ∷ []) (origins ++ last_of (length tables) ∷ [])
-one_more_within tables ps origins table list are =
-    let m = length (tables ++ table ∷ []) in
-    let long : m ≡ length tables + 1 = length_push tables table in
-    let lists = are.lists in
-    record {
-      lists = length_push ps list ∙ ap (λ n. n + 1) lists ∙ sym long;
-      within = All-push (StandsIn m) origins (last_of (length tables)) (stands_in_more (length tables) m (omega arith) origins are.within) (λ origin is. (let e : length tables ≡ origin.table = cc in omega arith));
-    }
+module _ (tables : List (List Row)) (ps : List (List ℕ)) (origins : List (Option Origin)) (n : ℕ) (table : List Row) (list : List ℕ) (column : ℕ) (are : AreOfTables tables ps origins) where
+  pub one_more : (values : Row) → ((p : ℕ) → p < n → column_of (row_at table (get_or list p 0)) column ≡ get_or values p Null)
+      → rows_joined (tables ++ table ∷ []) (ps ++ list ∷ []) (origins ++ last_of (length tables) column ∷ []) n ≡ with_values (rows_joined tables ps origins n) values
+  one_more values is =
+      let rows = rows_joined tables ps origins n in
+      let all = tables ++ table ∷ [] in
+      let lists = ps ++ list ∷ [] in
+      let beside = λ (p : ℕ). row_at rows p ++ get_or values p Null ∷ [] in
+      let last = last_of (length tables) column in
+      fill_by_all beside (rows_joined all lists (origins ++ last ∷ []) n) n [] (count all lists (origins ++ last ∷ []) n) (λ k low. (
+      let value = last_value tables ps table list column k are.lists ∙ is k low in
+      row_is all lists (origins ++ last ∷ []) n k low
+      ∙ map_push (value_in all lists k) origins last
+      ∙ (λ i. row_before tables (table ∷ []) ps (list ∷ []) k are.lists origins are.within i ++ value i ∷ [])
+      ∙ ap (λ (row : Row). row ++ get_or values k Null ∷ []) (sym (row_is tables ps origins n k low))))
+      ∙ ap (λ m. map beside (positions m)) (sym (count tables ps origins n))
+
+  pub one_more_within : AreOfTables (tables ++ table ∷ []) (ps ++ list ∷ []) (origins ++ last_of (length tables) column ∷ [])
+  one_more_within =
+      let m = length (tables ++ table ∷ []) in
+      let long : m ≡ length tables + 1 = length_push tables table in
+      let lists = are.lists in
+      record {
+        lists = length_push ps list ∙ ap (λ n. n + 1) lists ∙ sym long;
+        within = All-push (StandsIn m) origins (last_of (length tables) column) (stands_in_more (length tables) m (omega arith) origins are.within) (λ origin is. (let e : length tables ≡ origin.table = cc in omega arith));
+      }
 
 -- ---- pairs
 

@@ -1,9 +1,9 @@
 -- Rows along columns: at each position the value that each column has there.
-use Rattle.std.specs.Prelude.{◌≡◌, ℕ, List, [], ◌∷◌, ◌++◌, map, length, slice_index_or, All}
+use Rattle.std.specs.Prelude.{◌≡◌, ℕ, ◌-◌, List, [], ◌∷◌, ◌++◌, map, length, slice_index_or, All}
 use Rattle.wd_value.specs.declared.value.Value.{Value}
 use Rattle.wd_value.specs.declared.value.Value.TheVariants.{Null}
 use Rattle.wd_value.specs.Bags.{positions}
-use Rattle.wd_value.specs.Rows.{Row, row_at}
+use Rattle.wd_value.specs.Rows.{Row, column_of, row_at}
 
 -- a column is the list of its values, and past its last one there is NULL; the row at a position
 abbrev pub row_along : List Row → ℕ → Row
@@ -20,6 +20,10 @@ values_at column ps = map (λ p. slice_index_or column p Null) ps
 -- each row with the value beside it after its own, and NULL where there is none
 abbrev pub with_values : List Row → List Value → List Row
 with_values rows values = map (λ p. row_at rows p ++ slice_index_or values p Null ∷ []) (positions (length rows))
+
+-- the values that stand so many places before the end of each row
+abbrev pub values_before : List Row → ℕ → List Value
+values_before rows after = map (λ row. column_of row (length row - after)) rows
 
 -- each column has n values
 abbrev pub AreLong : ℕ → List Row → Type 0

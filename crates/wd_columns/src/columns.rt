@@ -94,13 +94,6 @@ impl Columns {
         self.get(position, column).unwrap_or(&self.null)
     }
 
-    /// NULL.
-    pub(crate) fn null(&self) -> &Value
-        ensures { result.now ≡ value.Null }
-    {
-        &self.null
-    }
-
     /// Each row with the value beside it after its own; past the last value there is NULL. The values
     /// are moved.
     pub fn with_column(self, values: Vec<Value>) -> Result<Columns, OutOfMemory>

@@ -1,6 +1,7 @@
 //! Copies of rows.
 
 ghost use Rattle.std.specs.Prelude.{◌≡◌, ◌++◌, All, IfOk, IfSome, OnOk, length, map, true};
+ghost use Rattle.wd_columns.specs.Along as along;
 ghost use Rattle.wd_value.specs.Bags as bags;
 ghost use Rattle.wd_value.specs.Rows.{column_of, row_at, rows_at, rows_of};
 
@@ -58,9 +59,9 @@ pub fn share_rows(alloc: Global, rows: &RowSource) -> Result<Option<OwnRows>, Ou
 pub(crate) fn listed(alloc: Global, rows: &JoinedRows) -> Result<Vec<Row>, OutOfMemory>
     ensures { IfOk result (λ v. rows_of v.items ≡ rows.now) }
 {
-    let null = Value::Null;
     let all = all_positions(alloc, rows.len())?;
-    copied_rows(alloc, &RowSource::of_joined(rows, &null), &all)
+    let list = copied_rows(alloc, &RowSource::of_joined(rows), &all)?;
+    Ok(list)
 }
 
 /// The first so many positions, in order.
@@ -113,6 +114,22 @@ fn copied_column(
     let mut values = Vec::with_capacity(alloc, positions.len())?;
     for position in positions {
         values.push(rows.value(*position, column).copy(alloc)?)?;
+    }
+    Ok(values)
+}
+
+/// Copies of the values that stand so many places before the end of each row.
+pub(crate) fn values_before(
+    alloc: Global,
+    rows: &RowSource,
+    after: usize,
+) -> Result<Vec<Value>, OutOfMemory>
+    ensures { IfOk result (λ v. v.items ≡ along.values_before rows.now after) }
+{
+    let mut values = Vec::with_capacity(alloc, rows.len())?;
+    for position in 0..rows.len() {
+        let column = rows.width(position as u64).saturating_sub(after);
+        values.push(rows.value(position as u64, column).copy(alloc)?)?;
     }
     Ok(values)
 }

@@ -2,21 +2,23 @@
 //! picked or selected, or extended by a column, share the tables.
 
 ghost use Rattle.std.specs.Option.{option_copied};
-ghost use Rattle.std.specs.Prelude.{◌≡◌, ℕ, ◌++◌, ◌∷◌, [], IfOk, IfSome, None, length, map, slice_index_or, unwrap_or};
-ghost use Rattle.wd_columns.specs.Along.{rows_along, with_values};
+ghost use Rattle.std.specs.Prelude.{◌≡◌, ℕ, List, ◌++◌, ◌∷◌, [], IfOk, IfSome, IsTrue, None, length, map, slice_index_or, unwrap_or};
+ghost use Rattle.wd_columns.specs.Along.{rows_along, values_before, with_values};
 ghost use Rattle.wd_columns.specs.Joined as joined;
 ghost use Rattle.wd_columns.specs.Moves.{AreWithin};
 ghost use Rattle.wd_columns.specs.Pairs.{AreOf, rows_paired};
-ghost use Rattle.wd_columns.specs.Stored.{Stores, stored_value};
+ghost use Rattle.wd_columns.specs.Stored.{HasValues, Stores, shared_value, stored_value};
 ghost use Rattle.wd_value.specs.Bags as bags;
 ghost use Rattle.wd_value.specs.Rows.{column_of, columns_of, row_at, rows_at};
+ghost use Rattle.wd_value.specs.declared.value.Value.{Value};
 ghost use Rattle.wd_value.specs.declared.value.Value.TheVariants as value;
 
 use crate::columns::Columns;
-use crate::copying::all_positions;
+use crate::copying;
 use crate::origin::{Origin, StoredColumn, appended_behind, origin_at, origins_at, own_origins};
 use crate::pairs::{Pair, left_positions, right_positions};
-use crate::shared::{SharedPositions, SharedTable};
+use crate::shared::{SharedColumn, SharedPositions, SharedTable};
+use crate::source::RowSource;
 use std::alloc::Global;
 use std::marker::Model;
 use wd_value::{OutOfMemory, Value};
@@ -152,6 +154,18 @@ impl JoinedRows {
         stored_in(&self.tables, &self.positions, &self.origins, column)
     }
 
+    /// The column that stands so many places before the end of each row, shared; none where it stands nowhere.
+    pub fn shared_column(&self, after: usize) -> Result<Option<SharedColumn>, OutOfMemory>
+        ensures { IfOk result (λ o. IfSome o (HasValues (length self.now) (values_before self.now after))) }
+    {
+        let column = self.origins.len().saturating_sub(after);
+        shared_in(
+            &self.tables,
+            &self.positions,
+            origin_at(&self.origins, column),
+        )
+    }
+
     /// The rows at these positions, in their order. Each is one of a row.
     pub fn pick(self, alloc: Global, positions: &[u64]) -> Result<JoinedRows, OutOfMemory>
         requires { AreWithin (length self) positions.now }
@@ -195,17 +209,57 @@ impl JoinedRows {
     pub fn with_column(self, values: Vec<Value>) -> Result<JoinedRows, OutOfMemory>
         ensures { IfOk result (λ j. j ≡ with_values self values.items) }
     {
+        let alloc = *values.allocator();
+        let positions = each_position(alloc, &self.positions, self.count)?;
+        let table = one_column(alloc, values)?;
+        self.with_shared(SharedColumn {
+            table,
+            column: 0,
+            positions,
+        })
+    }
+
+    /// Each row with a further value: that which stands so many places before the end of the other row at its position. Where the
+    /// others are as many joined rows, they share that column.
+    pub fn with_column_of(
+        self,
+        alloc: Global,
+        others: &RowSource,
+        after: usize,
+    ) -> Result<JoinedRows, OutOfMemory>
+        ensures { IfOk result (λ j. j ≡ with_values self (values_before others.now after)) }
+    {
+        match others.shared_column(self.count, after)? {
+            Some(shared) => self.with_shared(shared),
+            None => self.with_column(copying::values_before(alloc, others, after)?),
+        }
+    }
+
+    /// Each row with the value that a shared column has for it after its own.
+    fn with_shared(self, shared: SharedColumn) -> Result<JoinedRows, OutOfMemory>
+        ensures { IfOk result (λ j. (values : List Value) → HasValues (length self) values shared → j ≡ with_values self values) }
+    {
+        let SharedColumn {
+            table,
+            column,
+            positions: list,
+        } = shared;
         let JoinedRows {
             tables,
             positions,
             origins,
             count,
         } = self;
-        let alloc = *values.allocator();
-        let table = tables.len();
-        let positions = pushed(positions, first_positions(alloc, count)?)?;
-        let tables = pushed(tables, one_column(alloc, values)?)?;
-        let origins = pushed(origins, Some(Origin { table, column: 0 }))?;
+        let number = tables.len();
+        let tables = pushed(tables, table)?;
+        let positions = pushed(positions, list)?;
+        let origins = pushed(
+            origins,
+            Some(Origin {
+                table: number,
+                column,
+            }),
+        )?;
         Ok(JoinedRows {
             tables,
             positions,
@@ -250,6 +304,31 @@ fn stored_in<'a>(
         column: origin.column,
         positions: list.list(),
     })
+}
+
+/// The column that stands there, shared; none where it stands nowhere.
+fn shared_in(
+    tables: &[SharedTable],
+    positions: &[SharedPositions],
+    origin: Option<Origin>,
+) -> Result<Option<SharedColumn>, OutOfMemory>
+    ensures { IfOk result (λ o. IfSome o (λ s. (p : ℕ) → shared_value s p ≡ joined.value_in tables.now positions.now p origin)) }
+{
+    let Some(Origin { table, column }) = origin else {
+        return Ok(None);
+    };
+    match (tables.get(table), positions.get(table)) {
+        (Some(table), Some(list)) => {
+            let positions = list.share()?;
+            let table = table.share()?;
+            Ok(Some(SharedColumn {
+                table,
+                column,
+                positions,
+            }))
+        }
+        _ => Ok(None),
+    }
 }
 
 /// The position in a table of the joined row at a position.
@@ -303,11 +382,40 @@ fn positions_of_pairs(
     appended(lefts, rights)
 }
 
+/// The first so many positions, in order: those of the last list where it has just these.
+fn each_position(
+    alloc: Global,
+    lists: &[SharedPositions],
+    count: usize,
+) -> Result<SharedPositions, OutOfMemory>
+    ensures { IfOk result (λ p. p ≡ bags.positions count) }
+{
+    match lists.last() {
+        Some(last) if are_first(last.list(), count) => last.share(),
+        _ => first_positions(alloc, count),
+    }
+}
+
+/// Whether these are the first so many positions, in order.
+fn are_first(list: &[u64], count: usize) -> bool
+    ensures { IsTrue result → list.now ≡ bags.positions count }
+{
+    if list.len() != count {
+        return false;
+    }
+    for place in 0..count {
+        if list[place] as usize != place {
+            return false;
+        }
+    }
+    true
+}
+
 /// The first so many positions, in order.
 fn first_positions(alloc: Global, count: usize) -> Result<SharedPositions, OutOfMemory>
     ensures { IfOk result (λ p. p ≡ bags.positions count) }
 {
-    let all = all_positions(alloc, count)?;
+    let all = copying::all_positions(alloc, count)?;
     SharedPositions::new(alloc, all)
 }
 

@@ -1,15 +1,14 @@
 //! Rows of their own, however they are kept.
 
 ghost use Rattle.std.specs.Prelude.{◌≡◌, IfOk, length, map};
-ghost use Rattle.wd_columns.specs.Along.{with_values};
+ghost use Rattle.wd_columns.specs.Along.{values_before, with_values};
 ghost use Rattle.wd_columns.specs.Moves.{AreDifferent, AreWithin};
 ghost use Rattle.wd_columns.specs.Owned.{JoinedOr, rows_owned};
 ghost use Rattle.wd_value.specs.Rows.{columns_of, rows_at, rows_of};
-ghost use Rattle.wd_value.specs.declared.value.Value.TheVariants as value;
 
 use crate::appending::with_values_beside;
 use crate::columns::Columns;
-use crate::copying::listed;
+use crate::copying;
 use crate::joined::JoinedRows;
 use crate::moved::moved_rows;
 use crate::picking::picked_columns;
@@ -31,8 +30,6 @@ enum Owned {
 #[derive(Drop)]
 pub struct OwnRows {
     owned: Owned,
-    /// What is read past the last row or column.
-    null: Value,
 }
 
 impl Model for OwnRows {
@@ -44,11 +41,6 @@ impl Model for OwnRows {
     ghost use Rattle.wd_columns.specs.Owned.{rows_owned};
 
     ghost view = { λ r. rows_owned r.owned };
-
-    ghost use Rattle.std.specs.Prelude.{◌≡◌};
-    ghost use Rattle.wd_value.specs.declared.value.Value.TheVariants as value;
-
-    ghost invariant = { λ r. r.null ≡ value.Null };
 }
 
 impl OwnRows {
@@ -58,7 +50,6 @@ impl OwnRows {
     {
         OwnRows {
             owned: Owned::ByRow(rows),
-            null: Value::Null,
         }
     }
 
@@ -68,7 +59,6 @@ impl OwnRows {
     {
         OwnRows {
             owned: Owned::ByColumn(columns),
-            null: Value::Null,
         }
     }
 
@@ -78,7 +68,6 @@ impl OwnRows {
     {
         OwnRows {
             owned: Owned::ByPosition(rows),
-            null: Value::Null,
         }
     }
 
@@ -89,7 +78,7 @@ impl OwnRows {
     ) -> Result<Result<JoinedRows, OwnRows>, OutOfMemory>
         ensures { IfOk result (λ r. JoinedOr self r) }
     {
-        let OwnRows { owned, .. } = self;
+        let OwnRows { owned } = self;
         match owned {
             Owned::ByRow(rows) => Ok(Err(OwnRows::of_rows(rows))),
             Owned::ByColumn(columns) => {
@@ -105,9 +94,9 @@ impl OwnRows {
         ensures { result ≡ self.now }
     {
         match &self.owned {
-            Owned::ByRow(rows) => RowSource::of_rows(rows, &self.null),
+            Owned::ByRow(rows) => RowSource::of_rows(rows),
             Owned::ByColumn(columns) => RowSource::of_columns(columns),
-            Owned::ByPosition(rows) => RowSource::of_joined(rows, &self.null),
+            Owned::ByPosition(rows) => RowSource::of_joined(rows),
         }
     }
 
@@ -117,7 +106,7 @@ impl OwnRows {
         requires within { AreWithin (length self) positions.now }
         ensures { IfOk result (λ r. r ≡ rows_at self positions.now) }
     {
-        let OwnRows { owned, .. } = self;
+        let OwnRows { owned } = self;
         match owned {
             Owned::ByRow(rows) => {
                 let picked = moved_rows(alloc, rows, positions)?;
@@ -139,7 +128,7 @@ impl OwnRows {
         requires { AreDifferent columns.now }
         ensures { IfOk result (λ r. r ≡ map (columns_of columns.now) self) }
     {
-        let OwnRows { owned, .. } = self;
+        let OwnRows { owned } = self;
         match owned {
             Owned::ByRow(rows) => {
                 let selected = picked_columns(alloc, rows, columns)?;
@@ -160,7 +149,7 @@ impl OwnRows {
     pub fn with_column(self, values: Vec<Value>) -> Result<OwnRows, OutOfMemory>
         ensures { IfOk result (λ r. r ≡ with_values self values.items) }
     {
-        let OwnRows { owned, .. } = self;
+        let OwnRows { owned } = self;
         match owned {
             Owned::ByRow(rows) => {
                 let extended = with_values_beside(rows, values)?;
@@ -177,15 +166,38 @@ impl OwnRows {
         }
     }
 
+    /// Each row with a further value: that which stands so many places before the end of the other row at its position; where there is no
+    /// other row, NULL. Joined rows share the column of as many other joined rows, and else the values are copied.
+    pub fn with_column_of(
+        self,
+        alloc: Global,
+        others: &RowSource,
+        after: usize,
+    ) -> Result<OwnRows, OutOfMemory>
+        ensures { IfOk result (λ r. r ≡ with_values self (values_before others.now after)) }
+    {
+        let OwnRows { owned } = self;
+        match owned {
+            Owned::ByPosition(rows) => {
+                let extended = rows.with_column_of(alloc, others, after)?;
+                Ok(OwnRows::of_joined(extended))
+            }
+            kept => {
+                let values = copying::values_before(alloc, others, after)?;
+                OwnRows { owned: kept }.with_column(values)
+            }
+        }
+    }
+
     /// The list of the rows. Values are moved.
     pub fn into_list(self, alloc: Global) -> Result<Vec<Row>, OutOfMemory>
         ensures { IfOk result (λ v. rows_of v.items ≡ self) }
     {
-        let OwnRows { owned, .. } = self;
+        let OwnRows { owned } = self;
         match owned {
             Owned::ByRow(rows) => Ok(rows),
             Owned::ByColumn(columns) => columns.into_rows(alloc),
-            Owned::ByPosition(rows) => listed(alloc, &rows),
+            Owned::ByPosition(rows) => copying::listed(alloc, &rows),
         }
     }
 }

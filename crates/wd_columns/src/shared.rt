@@ -1,4 +1,4 @@
-//! Tables and lists of positions that several joined rows share.
+//! Tables, lists of positions and columns that several joined rows share.
 
 ghost use Rattle.std.specs.Prelude.{◌≡◌, IfOk};
 
@@ -81,4 +81,12 @@ impl SharedPositions {
     {
         &self.list
     }
+}
+
+/// A column that is shared: a column of a table, and for each joined row the position of its row there.
+#[derive(Drop)]
+pub(crate) struct SharedColumn {
+    pub table: SharedTable,
+    pub column: usize,
+    pub positions: SharedPositions,
 }

@@ -1,9 +1,10 @@
 //! Rows to be read, however they are kept.
 
 ghost use Rattle.std.specs.Option.{option_copied};
-ghost use Rattle.std.specs.Prelude.{◌≡◌, IfSome, length, unwrap_or};
+ghost use Rattle.std.specs.Prelude.{◌≡◌, IfOk, IfSome, length, unwrap_or};
+ghost use Rattle.wd_columns.specs.Along.{values_before};
 ghost use Rattle.wd_columns.specs.Kept.{rows_kept};
-ghost use Rattle.wd_columns.specs.Stored.{Stores};
+ghost use Rattle.wd_columns.specs.Stored.{HasValues, Stores};
 ghost use Rattle.wd_value.specs.Rows as table;
 ghost use Rattle.wd_value.specs.Rows.{column_of, rows_of};
 ghost use Rattle.wd_value.specs.declared.value.Value.TheVariants as value;
@@ -11,8 +12,9 @@ ghost use Rattle.wd_value.specs.declared.value.Value.TheVariants as value;
 use crate::columns::Columns;
 use crate::joined::JoinedRows;
 use crate::origin::StoredColumn;
+use crate::shared::SharedColumn;
 use std::marker::Model;
-use wd_value::{Row, Value};
+use wd_value::{OutOfMemory, Row, Value};
 
 /// How rows are kept.
 #[derive(Drop)]
@@ -27,7 +29,7 @@ enum Kept<'a> {
 pub struct RowSource<'a> {
     kept: Kept<'a>,
     /// What is read past the last row or column.
-    null: &'a Value,
+    null: Value,
 }
 
 impl<'a> Model for RowSource<'a> {
@@ -43,18 +45,17 @@ impl<'a> Model for RowSource<'a> {
     ghost use Rattle.std.specs.Prelude.{◌≡◌};
     ghost use Rattle.wd_value.specs.declared.value.Value.TheVariants as value;
 
-    ghost invariant = { λ s. s.null.now ≡ value.Null };
+    ghost invariant = { λ s. s.null ≡ value.Null };
 }
 
 impl<'a> RowSource<'a> {
-    /// The rows of a list, and `null` past the last row or column.
-    pub fn of_rows(rows: &'a [Row], null: &'a Value) -> RowSource<'a>
-        requires { null.now ≡ value.Null }
+    /// The rows of a list.
+    pub fn of_rows(rows: &'a [Row]) -> RowSource<'a>
         ensures { result ≡ rows_of rows.now }
     {
         RowSource {
             kept: Kept::ByRow(rows),
-            null,
+            null: Value::Null,
         }
     }
 
@@ -64,18 +65,17 @@ impl<'a> RowSource<'a> {
     {
         RowSource {
             kept: Kept::ByColumn(columns),
-            null: columns.null(),
+            null: Value::Null,
         }
     }
 
-    /// Joined rows, and `null` past the last row or column.
-    pub(crate) fn of_joined(rows: &'a JoinedRows, null: &'a Value) -> RowSource<'a>
-        requires { null.now ≡ value.Null }
+    /// Joined rows.
+    pub(crate) fn of_joined(rows: &'a JoinedRows) -> RowSource<'a>
         ensures { result ≡ rows.now }
     {
         RowSource {
             kept: Kept::ByPosition(rows),
-            null,
+            null: Value::Null,
         }
     }
 
@@ -97,7 +97,7 @@ impl<'a> RowSource<'a> {
     pub fn value(&self, position: u64, column: usize) -> &Value
         ensures { result.now ≡ column_of (table.row_at self.now position) column }
     {
-        value_of(&self.kept, position, column).unwrap_or(self.null)
+        value_of(&self.kept, position, column).unwrap_or(&self.null)
     }
 
     /// The joined rows that are read, if they are such.
@@ -117,11 +117,25 @@ impl<'a> RowSource<'a> {
         column_stored(&self.kept, column)
     }
 
+    /// The column that stands so many places before the end of each row, shared, where so many joined rows are read.
+    pub(crate) fn shared_column(
+        &self,
+        count: usize,
+        after: usize,
+    ) -> Result<Option<SharedColumn>, OutOfMemory>
+        ensures { IfOk result (λ o. IfSome o (HasValues count (values_before self.now after))) }
+    {
+        match self.joined() {
+            Some(rows) if rows.len() == count => rows.shared_column(after),
+            _ => Ok(None),
+        }
+    }
+
     /// NULL, as it is read past the last row or column.
     pub fn null(&self) -> &Value
         ensures { result.now ≡ value.Null }
     {
-        self.null
+        &self.null
     }
 }
 

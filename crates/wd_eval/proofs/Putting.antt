@@ -7,7 +7,7 @@ use Rattle.wd_value.specs.Rows.{Row}
 use Rattle.wd_plan.specs.Choices.{AreOrderingsOver}
 use Rattle.wd_plan.specs.Outcomes.{RowsOrFault, class_among, ordering_at}
 use Rattle.wd_plan.specs.Plans.{ClassRule, Step, Limit, LimitRule, WindowRule, step_classes}
-use Rattle.wd_plan.specs.Sorting.{IsOrdering, limit_class}
+use Rattle.wd_plan.specs.Sorting.{limit_class}
 use Rattle.wd_partition.proofs.Grouping.{IsOrdering-from_given}
 use Rattle.wd_eval.specs.Nodes.{cut_over}
 use Rattle.wd_eval.specs.Windows.{AreServed, step_over}

@@ -2,15 +2,15 @@
 use Rattle.std.specs.Prelude.{◌≡◌, ℕ, false, List, Option, None, Result}
 use Rattle.wd_value.specs.Rows.{Instance}
 use Rattle.wd_plan.specs.Choices.{IsValidChoice}
-use Rattle.wd_plan.specs.Outcomes.{RowsOrFault, outcome, outcome_of}
+use Rattle.wd_plan.specs.Outcomes.{RowsOrFault, outcome}
 use Rattle.wd_plan.specs.Plans.{PlanTree}
 use Rattle.wd_nodes.specs.Results.{OkOr}
 use Rattle.wd_eval.specs.Windows.{orderings_of}
 use Rattle.wd_eval.specs.Steps.{has_large_step}
 use Rattle.wd_eval.specs.Judged.{IsOutcome}
-use Rattle.wd_eval.specs.Tied.{IsStableChoice, IsStableRefused, IsTurnedRefused, IsValidTurnedChoice, reverse_at}
+use Rattle.wd_eval.specs.Tied.{IsStableChoice, IsStableRefused, IsTurnedRefused, IsValidTurnedChoice}
 use Rattle.wd_eval.specs.declared.error.EvalError.{EvalError}
-use Rattle.wd_eval.specs.declared.eval.StableOutcome.{StableOutcome}
+use Rattle.wd_eval.specs.declared.eval.TurnedAnswer.{TurnedAnswer}
 use Rattle.wd_eval.specs.declared.turned.Turned.{Turned}
 
 -- the orderings are such a choice, but for one that may take rows that tie in another turn, and this is the outcome under it
@@ -18,19 +18,9 @@ pub record IsUnderTurned (plan : PlanTree) (instance : Instance) (turned : Optio
   pub choice : IsValidTurnedChoice plan instance turned orderings
   pub is : o ≡ outcome plan instance orderings
 
-abbrev pub IsTurnedOutcome : PlanTree → Instance → Option Turned → StableOutcome → Type 0
-IsTurnedOutcome plan instance turned t = IsUnderTurned plan instance turned (orderings_of t.choice.orderings.items) (outcome_of t.outcome)
-
 -- the two, or why there are none
-abbrev pub IsTurnedOutcomeOrRefused : PlanTree → Instance → Option Turned → Result StableOutcome EvalError → Type 0
-IsTurnedOutcomeOrRefused plan instance turned r = OkOr (λ t. IsTurnedOutcome plan instance turned t) (IsTurnedRefused plan instance turned) r
-
--- where that ordering is flipped
-abbrev pub IsStableOutcome : PlanTree → Instance → Option ℕ → StableOutcome → Type 0
-IsStableOutcome plan instance flipped t = IsTurnedOutcome plan instance (reverse_at flipped) t
-
-abbrev pub IsStableOutcomeOrRefused : PlanTree → Instance → Option ℕ → Result StableOutcome EvalError → Type 0
-IsStableOutcomeOrRefused plan instance flipped r = IsTurnedOutcomeOrRefused plan instance (reverse_at flipped) r
+abbrev pub IsTurnedAnswerOrRefused : PlanTree → Instance → Option Turned → Result TurnedAnswer EvalError → Type 0
+IsTurnedAnswerOrRefused plan instance turned r = OkOr (λ t. IsUnderTurned plan instance turned (orderings_of t.choice.orderings.items) t.answer) (IsTurnedRefused plan instance turned) r
 
 -- the outcome under a valid choice that leaves rows that tie as they are, and under which no step is too large
 pub record IsRun (plan : PlanTree) (instance : Instance) (o : RowsOrFault) : Type 0 where

@@ -26,16 +26,6 @@ impl Model for Answer {
 }
 
 impl Answer {
-    /// An outcome.
-    pub fn of_outcome(outcome: Outcome) -> Answer
-        ensures { result ≡ outcome_of outcome }
-    {
-        match outcome {
-            Outcome::Rows(rows) => Answer::of_rows(OwnRows::of_rows(rows)),
-            Outcome::Fault(fault) => Answer { kept: Err(fault) },
-        }
-    }
-
     /// These rows.
     pub fn of_rows(rows: OwnRows) -> Answer
         ensures { result ≡ Ok rows }

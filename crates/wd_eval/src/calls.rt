@@ -1,6 +1,6 @@
 //! A Window's rows with the values of its calls.
 
-ghost use Rattle.std.specs.Prelude.{◌≡◌, IfOk, length};
+ghost use Rattle.std.specs.Prelude.{◌≡◌, IfOk, length, map};
 ghost use Rattle.std.specs.List.{list_any};
 ghost use Rattle.wd_eval.specs.Beside as spec;
 ghost use Rattle.wd_eval.specs.Beside.{IsBeside};
@@ -27,7 +27,8 @@ pub(crate) fn with_calls(
     requires { NameBelow (length indexes.now) (window_of window.now).calls }
     ensures { let w = window_of window.now in IfOk result (λ r. WhereIndexed w rows indexes.now (λ orderings. r ≡ window_outcome w rows orderings)) }
 {
-    match values_beside(alloc, window, &rows.source(), indexes)? {
+    let found = values_beside(alloc, window, &rows.source(), indexes)?;
+    match found {
         Err(fault) => Ok(Err(fault)),
         Ok(columns) => {
             let extended = with_columns(rows, columns)?;
@@ -37,8 +38,8 @@ pub(crate) fn with_calls(
 }
 
 /// Each row with its values in the columns after its own.
-pub(crate) fn with_columns(rows: OwnRows, columns: Vec<CallColumn>) -> Result<OwnRows, OutOfMemory>
-    ensures { IfOk result (λ r. r ≡ spec.with_columns rows columns.items) }
+fn with_columns(rows: OwnRows, columns: Vec<CallColumn>) -> Result<OwnRows, OutOfMemory>
+    ensures { IfOk result (λ r. r ≡ spec.with_columns rows (map spec.values_of columns.items)) }
 {
     let mut extended = rows;
     for column in columns {
@@ -65,7 +66,7 @@ fn values_beside(
 }
 
 /// Whether a column has a sum that is out of range.
-pub(crate) fn is_out_of_range(columns: &[CallColumn]) -> bool
+fn is_out_of_range(columns: &[CallColumn]) -> bool
     ensures { result ≡ list_any (λ column. column.out_of_range) columns.now }
 {
     columns.iter().any(|column| column.out_of_range)

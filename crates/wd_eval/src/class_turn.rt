@@ -1,24 +1,24 @@
 //! A Window where one of its classes takes rows that tie in another turn, from what it gives where none does: only the calls of that
 //! class are computed again.
 
-ghost use Rattle.std.specs.Prelude.{◌<◌, ◌^◌, ℕ, List, IfOk, length, slice_index_or};
-ghost use Rattle.wd_eval.specs.Columns.{AreColumns, IsColumn};
-ghost use Rattle.wd_eval.specs.Turning.{HasValuesBefore, IsTurnedWindow, ShowsCalls, WhereTurned};
+ghost use Rattle.std.specs.Prelude.{◌≡◌, ◌-◌, ◌<◌, ◌^◌, ℕ, List, IfOk, IsTrue, Ok, length, slice_index_or};
+ghost use Rattle.wd_eval.specs.Turning.{IsTurnedWindow, rows_turned};
+ghost use Rattle.wd_plan.specs.Outcomes.{window_outcome};
 ghost use Rattle.wd_plan.specs.Plans.{window_of};
-ghost use Rattle.wd_plan.specs.declared.window.Call.{Call};
+ghost use Rattle.wd_value.specs.Rows as table;
+ghost use Rattle.wd_value.specs.declared.value.Value.TheVariants as value;
 
-use crate::calls::{is_out_of_range, with_columns};
-use crate::class_index::{ClassIndex, SortedClassIndex, sorted_class_index};
+use crate::class_index::{SortedClassIndex, sorted_class_index};
 use crate::column::column_of;
 use std::alloc::Global;
-use wd_calls::CallColumn;
 use wd_columns::{OwnRows, RowSource, copy_all};
 use wd_partition::Turn;
 use wd_plan::Window;
-use wd_value::{Fault, OutOfMemory};
+use wd_value::{Fault, OutOfMemory, Value, same};
 
 /// What a Window gives over its input where the class with this number is sorted with the positions taken in a turn, and the other
-/// classes as they were for `given`, which is what it gave.
+/// classes as they were for `given`, which is what it gave. `None` where it gives the same rows again. Joined rows share the columns of
+/// the other classes' calls.
 pub fn turn_class(
     alloc: Global,
     window: &Window,
@@ -26,73 +26,48 @@ pub fn turn_class(
     given: &RowSource,
     class: usize,
     turn: Turn,
-) -> Result<Result<OwnRows, Fault>, OutOfMemory>
+) -> Result<Result<Option<OwnRows>, Fault>, OutOfMemory>
     requires short { length input.now < 2 ^ 32 }
     requires within { class < length (window_of window.now).classes }
-    ensures { let w = window_of window.now in IfOk result (λ r. (own : List (List ℕ)) → class < length own → ShowsCalls w input.now own given.now → IsTurnedWindow w input.now own class turn r) }
+    ensures { let w = window_of window.now in IfOk result (λ r. (own : List (List ℕ)) → class < length own → Ok given.now ≡ window_outcome w input.now own → IsTurnedWindow w input.now own class turn (rows_turned given.now r)) }
 {
     let sorted = sorted_class_index(alloc, window, class, input, turn)?;
     let SortedClassIndex { class_index, .. } = sorted;
-    let columns = turned_columns(alloc, window, input, given, class, &class_index)?;
-    if is_out_of_range(&columns) {
-        return Ok(Err(Fault::OutOfRange));
-    }
-    let rows = copy_all(alloc, input)?;
-    let extended = with_columns(rows, columns)?;
-    Ok(Ok(extended))
-}
-
-/// The column of each call: of the class with this number under its partitions, and else as it was given.
-fn turned_columns(
-    alloc: Global,
-    window: &Window,
-    input: &RowSource,
-    given: &RowSource,
-    class: usize,
-    class_index: &ClassIndex,
-) -> Result<Vec<CallColumn>, OutOfMemory>
-    ensures { let w = window_of window.now in IfOk result (λ v. WhereTurned w input.now given.now class class_index.now (λ others. AreColumns w input.now others v.items)) }
-{
-    let mut columns = Vec::with_capacity(alloc, window.calls.len())?;
+    let mut is_other = false;
+    let mut rows = copy_all(alloc, input)?;
     for number in 0..window.calls.len() {
-        let column = turned_column(alloc, window, input, given, class, class_index, number)?;
-        columns.push(column)?;
+        let call = &window.calls[number];
+        let after = window.calls.len() - number;
+        if call.class as usize == class {
+            let column = column_of(alloc, call, input, &class_index)?;
+            if column.out_of_range {
+                return Ok(Err(Fault::OutOfRange));
+            }
+            is_other = is_other || !are_before(&column.values, given, after);
+            rows = rows.with_column(column.values)?;
+        } else {
+            rows = rows.with_column_of(alloc, given, after)?;
+        }
     }
-    Ok(columns)
-}
-
-/// The column of the call with this number.
-fn turned_column(
-    alloc: Global,
-    window: &Window,
-    input: &RowSource,
-    given: &RowSource,
-    class: usize,
-    class_index: &ClassIndex,
-    number: usize,
-) -> Result<CallColumn, OutOfMemory>
-    requires { number < length (window_of window.now).calls }
-    ensures { let w = window_of window.now in IfOk result (λ column. WhereTurned w input.now given.now class class_index.now (λ others. (call : Call) → IsColumn w input.now others (slice_index_or w.calls number call) column)) }
-{
-    let call = &window.calls[number];
-    if call.class as usize == class {
-        column_of(alloc, call, input, class_index)
+    if is_other {
+        Ok(Ok(Some(rows)))
     } else {
-        kept_column(alloc, given, window.calls.len() - number)
+        Ok(Ok(None))
     }
 }
 
-/// The column of values that stand so many places before the end of each row.
-fn kept_column(alloc: Global, rows: &RowSource, after: usize) -> Result<CallColumn, OutOfMemory>
-    ensures { IfOk result (HasValuesBefore rows.now after) }
+/// Whether these values stand so many places before the end of each row.
+fn are_before(values: &[Value], rows: &RowSource, after: usize) -> bool
+    ensures { IsTrue result → (p : ℕ) → p < length rows.now → slice_index_or values.now p value.Null ≡ table.column_of (table.row_at rows.now p) (length (table.row_at rows.now p) - after) }
 {
-    let mut values = Vec::with_capacity(alloc, rows.len())?;
-    for position in 0..rows.len() {
-        let column = rows.width(position as u64).saturating_sub(after);
-        values.push(rows.value(position as u64, column).copy(alloc)?)?;
+    if values.len() != rows.len() {
+        return false;
     }
-    Ok(CallColumn {
-        values,
-        out_of_range: false,
-    })
+    for position in 0..values.len() {
+        let column = rows.width(position as u64).saturating_sub(after);
+        if !same(&values[position], rows.value(position as u64, column)) {
+            return false;
+        }
+    }
+    true
 }

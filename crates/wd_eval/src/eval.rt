@@ -3,7 +3,7 @@
 ghost use Rattle.std.specs.Prelude.{◌≡◌, ◌≤◌, true, None, IfErr, IfOk};
 ghost use Rattle.wd_eval.specs.Judged.{IsAllowedOrRefused, IsOutcome, IsOutcomeOrRefused, IsOutcomeWithin, IsOutcomeWithinOrRefused, IsRefused, IsRefusedWithin};
 ghost use Rattle.wd_eval.specs.Windows.{orderings_of};
-ghost use Rattle.wd_eval.specs.Runs.{IsRunOrRefused, IsStableOutcomeOrRefused, IsTurnedOutcomeOrRefused, IsUnderTurned};
+ghost use Rattle.wd_eval.specs.Runs.{IsRunOrRefused, IsTurnedAnswerOrRefused, IsUnderTurned};
 ghost use Rattle.wd_eval.specs.Tied.{IsStableChoiceOrRefused, IsTurnedOrRefused, IsTurnedRefused};
 ghost use Rattle.wd_nodes.specs.Relation.{most_rows, relation_or_fault_of};
 ghost use Rattle.wd_plan.specs.Fits.{fits};
@@ -168,43 +168,29 @@ pub fn first_choice(
     tied_choice(alloc, plan, schema, instance, None)
 }
 
-/// A choice, and the outcome of a plan under it.
+/// A choice, and what a plan gives under it.
 #[derive(Drop)]
-pub struct StableOutcome {
+pub struct TurnedAnswer {
     pub choice: Choice,
-    pub outcome: Outcome,
-}
-
-/// What [`tied_choice`] answers, and the outcome of the plan under it, evaluated once.
-pub fn eval_stable(
-    alloc: Global,
-    plan: &Plan,
-    schema: &Schema,
-    instance: &Instance,
-    flipped: Option<u32>,
-) -> Result<StableOutcome, EvalError>
-    requires { fits (schema_of schema.now) (plan_of plan.now) ≡ true }
-    ensures { IsStableOutcomeOrRefused (plan_of plan.now) (instance_of instance.now.items) flipped result }
-{
-    eval_turned(alloc, plan, schema, instance, reverse_at(flipped))
+    pub answer: Answer,
 }
 
 /// The choice that leaves rows that tie as they are, but for the ordering with the number of
-/// `turned`, and the outcome of the plan under it, evaluated once. That ordering is the stable sort of
+/// `turned`, and what the plan gives under it, evaluated once. That ordering is the stable sort of
 /// the positions taken in its turn; a number past the last turns nothing.
-pub fn eval_turned(
+pub fn answer_turned(
     alloc: Global,
     plan: &Plan,
     schema: &Schema,
     instance: &Instance,
     turned: Option<Turned>,
-) -> Result<StableOutcome, EvalError>
+) -> Result<TurnedAnswer, EvalError>
     requires { fits (schema_of schema.now) (plan_of plan.now) ≡ true }
-    ensures { IsTurnedOutcomeOrRefused (plan_of plan.now) (instance_of instance.now.items) turned result }
+    ensures { IsTurnedAnswerOrRefused (plan_of plan.now) (instance_of instance.now.items) turned result }
 {
     let (choice, given) = walk_turned(alloc, plan, schema, instance, turned)?;
-    let outcome = into_outcome(alloc, &Tables::of_rows(instance), given)?;
-    Ok(StableOutcome { choice, outcome })
+    let answer = answer_of(alloc, &Tables::of_rows(instance), given)?;
+    Ok(TurnedAnswer { choice, answer })
 }
 
 /// The choice that leaves rows that tie as they are, but for one ordering that may take them in another turn, and what the plan's
@@ -241,7 +227,8 @@ pub fn run_plan(
     requires { fits (schema_of schema.now) (plan_of plan.now) ≡ true }
     ensures { IsRunOrRefused outcome_of (plan_of plan.now) (instance_of instance.now.items) result }
 {
-    let StableOutcome { outcome, .. } = eval_stable(alloc, plan, schema, instance, None)?;
+    let TurnedAnswer { answer, .. } = answer_turned(alloc, plan, schema, instance, None)?;
+    let outcome = answer.into_outcome(alloc)?;
     Ok(outcome)
 }
 

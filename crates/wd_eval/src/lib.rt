@@ -26,8 +26,8 @@ pub use answer::Answer;
 pub use class_turn::turn_class;
 pub use error::EvalError;
 pub use eval::{
-    StableOutcome, answer_with, check_choice, eval_stable, eval_turned, eval_with, eval_within,
-    first_choice, run_columns, run_plan, tied_choice,
+    TurnedAnswer, answer_turned, answer_with, check_choice, eval_with, eval_within, first_choice,
+    run_columns, run_plan, tied_choice,
 };
 pub use parts::{stable_rows, turned_step};
 pub use turned::Turned;

@@ -1,8 +1,8 @@
-//! The parts of a JSON value: its members one after another, lists, numbers and texts.
+//! The parts of a JSON value: its members one after another, numbers and texts.
 
 ghost use Rattle.std.specs.Prelude.{◌≡◌, ◌≢◌, ℕ, List, IfOk, IfErr};
-ghost use Rattle.serde_json.specs.Data.{Data, Items, Members, string, array, object, member, no_members};
-ghost use Rattle.serde_json.specs.View.{view, items_view, members_view};
+ghost use Rattle.serde_json.specs.Data.{Data, Members, string, object, member, no_members};
+ghost use Rattle.serde_json.specs.View.{view, members_view};
 ghost use Rattle.wd_json.specs.Json.{number_json};
 
 use crate::misread::Misread;
@@ -46,16 +46,6 @@ pub fn object<'v>(value: &'v Value) -> Result<&'v Map<String, Value>, Misread>
 {
     match value {
         Value::Object(map) => Ok(map),
-        _ => Err(Misread::Shape),
-    }
-}
-
-pub fn list<'v>(value: &'v Value) -> Result<&'v [Value], Misread>
-    ensures ok { IfOk result (λ l. view value.now ≡ array (items_view l.now)) }
-    ensures refused { IfErr result (λ e. (ds : Items) → view value.now ≢ array ds) }
-{
-    match value {
-        Value::Array(list) => Ok(list),
         _ => Err(Misread::Shape),
     }
 }

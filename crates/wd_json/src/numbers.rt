@@ -4,9 +4,7 @@ ghost use Rattle.std.specs.Prelude.{◌≡◌, ℕ, List, IfOk};
 ghost use Rattle.serde_json.specs.View.{view};
 ghost use Rattle.wd_json.specs.Json.{number_json, list_json};
 
-use crate::forms::{FromJson, InJson, list_value, read_list};
-use crate::json::number;
-use crate::misread::Misread;
+use crate::forms::{InJson, list_value};
 use serde_json::Value;
 use std::alloc::Global;
 use wd_value::OutOfMemory;
@@ -23,12 +21,6 @@ impl InJson for u64 {
     }
 }
 
-impl FromJson for u64 {
-    fn from_value(_alloc: Global, value: &Value) -> Result<u64, Misread> {
-        number(value)
-    }
-}
-
 impl InJson for Vec<u64> {
     ghost Said = { List ℕ };
 
@@ -38,12 +30,6 @@ impl InJson for Vec<u64> {
 
     fn to_value(&self, alloc: Global) -> Result<Value, OutOfMemory> {
         list_value(alloc, self)
-    }
-}
-
-impl FromJson for Vec<u64> {
-    fn from_value(alloc: Global, value: &Value) -> Result<Vec<u64>, Misread> {
-        read_list(alloc, value)
     }
 }
 

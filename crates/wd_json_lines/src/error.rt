@@ -9,7 +9,7 @@ use wd_json::Misread;
 use wd_value::OutOfMemory;
 
 /// Why lines are not read.
-#[derive(Clone, Copy, Debug)]
+#[derive(Clone, Copy)]
 pub enum LineError {
     /// A line, counted from 1, is not JSON, or is JSON of another form. It is the first such line.
     Unread { number: u64 },

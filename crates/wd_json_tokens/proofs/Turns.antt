@@ -5,7 +5,6 @@ use Rattle.json.specs.Json as json
 use Rattle.json.specs.Json.{Parse, parse_map, after_end_array, read_key, items_step, members_step, items, members}
 use Rattle.json.proofs.Grammar.{left, left_none, left-parse_map, value_is, value-begin_array, value-begin_object, items_end, items_more, members_end, members_no_key, members_more, skip_value-shorter, read_key-shorter, Takes}
 use Rattle.serde_json.specs.Data.{Num, Data, null, boolean, number, string, array, object, Items, no_items, item, Members, no_members, put}
-use Rattle.serde_json.specs.Find.{as_u64}
 use Rattle.serde_json.specs.Read.{number_of, of_json, of_items, of_members, converted}
 use Rattle.wd_json_tokens.specs.Values.{value_at, items_at, members_at, list_at, object_at}
 
@@ -225,16 +224,6 @@ left_some (Some q) ts e = (q.0, ap (λ x. Some (q.0, x)) (ap (λ o. pick ts o) e
 
 pub left_item : (d : Data) (r : Option (Items × List Token)) → left (parse_map (item d) r) ≡ left r
 left_item d r = left-parse_map (item d) r
-
--- ---- a number by what is said of it
-
-pub number_some : (x : Option Num) (o : Option ℕ) → Some o ≡ option_map as_u64 x → (n : Num) × (x ≡ Some n) × (o ≡ as_u64 n)
-number_some None o e = absurd (cc)
-number_some (Some n) o e = (n, refl, cc)
-
-pub number_none : (x : Option Num) → None ≡ option_map as_u64 x → x ≡ None
-number_none None e = refl
-number_none (Some n) e = absurd (cc)
 
 -- ---- an error that `?` passes on
 

@@ -1,4 +1,5 @@
 pub mod Values
 pub mod Tops
 pub mod Forms
+pub mod Lists
 pub mod Pairs

@@ -1,8 +1,8 @@
 -- What is seen of a JSON value at its top.
 use Rattle.std.specs.Prelude.{◌≡◌, ℕ, ◌-◌, ◌<◌, List, Some}
 use Rattle.json.specs.Token.{Token}
-use Rattle.serde_json.specs.Data.{Num, Data, null, boolean, number, string, array, object, Items, Members}
-use Rattle.serde_json.specs.Find.{as_u64}
+use Rattle.serde_json.specs.Data.{Data, null, boolean, number, string, array, object, Items, Members}
+use Rattle.serde_json.specs.View.{number_view}
 use Rattle.wd_json_tokens.specs.Values.{value_at, list_at, object_at}
 use Rattle.wd_json_tokens.specs.declared.tops.Top.{Top}
 use Rattle.wd_json_tokens.specs.declared.tops.Top.TheVariants as top
@@ -11,7 +11,7 @@ use Rattle.wd_json_tokens.specs.declared.tops.Top.TheVariants as top
 abbrev pub IsTop : Top → Data → Type 0
 IsTop top.Null d = d ≡ null
 IsTop (top.Bool b) d = d ≡ boolean b
-IsTop (top.Number o) d = (n : Num) × (d ≡ number n) × (o ≡ as_u64 n)
+IsTop (top.Number n) d = d ≡ number (number_view n)
 IsTop (top.Text s) d = d ≡ string s.now
 IsTop top.List d = (ds : Items) × (d ≡ array ds)
 IsTop top.Object d = (ms : Members) × (d ≡ object ms)

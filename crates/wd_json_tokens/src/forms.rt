@@ -38,7 +38,7 @@ impl FromTokens for u64 {
 
     fn read(_alloc: Global, reader: &mut Reader<'_>, depth: usize) -> Result<Option<u64>, Unread> {
         match take_top(reader, depth)? {
-            Top::Number(number) => Ok(number),
+            Top::Number(number) => Ok(number.as_u64()),
             _ => Ok(None),
         }
     }
@@ -57,7 +57,7 @@ impl FromTokens for Option<u64> {
         depth: usize,
     ) -> Result<Option<Option<u64>>, Unread> {
         match take_top(reader, depth)? {
-            Top::Number(Some(number)) => Ok(Some(Some(number))),
+            Top::Number(number) => Ok(number.as_u64().map(Some)),
             Top::Null => Ok(Some(None)),
             _ => Ok(None),
         }

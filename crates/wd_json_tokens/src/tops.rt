@@ -7,14 +7,14 @@ ghost use Rattle.wd_json_tokens.specs.Tops.{Begins, Passes};
 use crate::number::number;
 use crate::skip::{skip_items, skip_members};
 use json::{Invalid, Reader, Token};
+use serde_json::Number;
 
 /// A JSON value as it is seen at its top.
 #[derive(Clone, Copy)]
 pub enum Top<'a> {
     Null,
     Bool(bool),
-    /// A number: which one, where it is whole, below 2^64 and written in digits alone.
-    Number(Option<u64>),
+    Number(Number),
     Text(&'a str),
     List,
     Object,

@@ -162,7 +162,8 @@ fn passing_rows(
 ) -> Result<Result<Relation, Fault>, OutOfMemory>
     ensures { IfOk result (λ r. relation_or_fault_of tables.now r ≡ spec.filter_outcome (expression_of condition.now) (stored_rows_of tables.now stored)) }
 {
-    match passing_positions(alloc, condition, &tables.source(&stored))? {
+    let found = passing_positions(alloc, condition, &tables.source(&stored))?;
+    match found {
         Ok(kept) => {
             let passing = pick_rows(alloc, tables, stored, &kept)?;
             Ok(Ok(Relation::Stored(passing)))

@@ -1,22 +1,14 @@
 //! The tables that the Scans of a plan read where they are.
 
-ghost use Rattle.std.specs.Prelude.{◌≡◌, []};
+ghost use Rattle.std.specs.Prelude.{◌≡◌};
 ghost use Rattle.wd_nodes.specs.Relation.{stored_rows_of};
 ghost use Rattle.wd_nodes.specs.Tables.{tables_kept};
 ghost use Rattle.wd_value.specs.Rows.{instance_of, table_at};
-ghost use Rattle.wd_value.specs.declared.value.Value.TheVariants as value;
 
 use crate::stored::StoredRows;
 use std::marker::Model;
 use wd_columns::{Columns, OwnRows, RowSource};
-use wd_value::{Row, Value};
-
-/// What is read past the last row or column.
-#[derive(Clone, Copy)]
-struct PastEnd<'a> {
-    null: &'a Value,
-    ghost is_null: { null.now ≡ value.Null },
-}
+use wd_value::Row;
 
 /// How tables are kept.
 #[derive(Drop)]
@@ -30,8 +22,6 @@ enum KeptTables<'a> {
 #[derive(Drop)]
 pub struct Tables<'a> {
     kept: KeptTables<'a>,
-    /// What is read past the last row or column.
-    null: Value,
 }
 
 impl<'a> Model for Tables<'a> {
@@ -42,11 +32,6 @@ impl<'a> Model for Tables<'a> {
     ghost use Rattle.wd_nodes.specs.Tables.{tables_kept};
 
     ghost view = { λ t. tables_kept t.kept };
-
-    ghost use Rattle.std.specs.Prelude.{◌≡◌};
-    ghost use Rattle.wd_value.specs.declared.value.Value.TheVariants as value;
-
-    ghost invariant = { λ t. t.null ≡ value.Null };
 }
 
 impl<'a> Tables<'a> {
@@ -56,7 +41,6 @@ impl<'a> Tables<'a> {
     {
         Tables {
             kept: KeptTables::ByRow(tables),
-            null: Value::Null,
         }
     }
 
@@ -66,7 +50,6 @@ impl<'a> Tables<'a> {
     {
         Tables {
             kept: KeptTables::ByColumn(tables),
-            null: Value::Null,
         }
     }
 
@@ -76,7 +59,6 @@ impl<'a> Tables<'a> {
     {
         Tables {
             kept: KeptTables::Own(tables),
-            null: Value::Null,
         }
     }
 
@@ -84,68 +66,60 @@ impl<'a> Tables<'a> {
     pub fn table(&self, number: u16) -> RowSource<'_>
         ensures { result ≡ table_at self.now number }
     {
-        let past = PastEnd { null: &self.null };
-        table_in(&self.kept, number as usize, past)
+        table_in(&self.kept, number as usize)
     }
 
     /// Stored rows to be read where they are.
     pub fn source<'b, 't: 'b>(&'t self, stored: &'b StoredRows) -> RowSource<'b>
         ensures { result ≡ stored_rows_of self.now stored.now }
     {
-        let past = PastEnd { null: &self.null };
-        source_in(&self.kept, stored, past)
+        source_in(&self.kept, stored)
     }
 }
 
-fn source_in<'a>(kept: &'a KeptTables, stored: &'a StoredRows, past: PastEnd<'a>) -> RowSource<'a>
+fn source_in<'a>(kept: &'a KeptTables, stored: &'a StoredRows) -> RowSource<'a>
     ensures { result ≡ stored_rows_of (tables_kept kept.now) stored.now }
 {
     match stored {
-        StoredRows::Table(number) => table_in(kept, *number as usize, past),
+        StoredRows::Table(number) => table_in(kept, *number as usize),
         StoredRows::Own(rows) => rows.source(),
     }
 }
 
-fn table_in<'a>(kept: &'a KeptTables, number: usize, past: PastEnd<'a>) -> RowSource<'a>
+fn table_in<'a>(kept: &'a KeptTables, number: usize) -> RowSource<'a>
     ensures { result ≡ table_at (tables_kept kept.now) number }
 {
     match kept {
-        KeptTables::ByRow(tables) => list_in(tables, number, past),
-        KeptTables::ByColumn(tables) => columns_in(tables, number, past),
-        KeptTables::Own(tables) => own_in(tables, number, past),
+        KeptTables::ByRow(tables) => list_in(tables, number),
+        KeptTables::ByColumn(tables) => columns_in(tables, number),
+        KeptTables::Own(tables) => own_in(tables, number),
     }
 }
 
-fn list_in<'a>(tables: &'a [Vec<Row>], number: usize, past: PastEnd<'a>) -> RowSource<'a>
+fn list_in<'a>(tables: &'a [Vec<Row>], number: usize) -> RowSource<'a>
     ensures { result ≡ table_at (instance_of tables.now) number }
 {
     let rows = match tables.get(number) {
         Some(rows) => rows.as_slice(),
         None => &[],
     };
-    RowSource::of_rows(rows, past.null)
+    RowSource::of_rows(rows)
 }
 
-fn columns_in<'a>(tables: &'a [Columns], number: usize, past: PastEnd<'a>) -> RowSource<'a>
+fn columns_in<'a>(tables: &'a [Columns], number: usize) -> RowSource<'a>
     ensures { result ≡ table_at tables.now number }
 {
     match tables.get(number) {
         Some(columns) => RowSource::of_columns(columns),
-        None => no_rows(past),
+        None => RowSource::of_rows(&[]),
     }
 }
 
-fn own_in<'a>(tables: &'a [OwnRows], number: usize, past: PastEnd<'a>) -> RowSource<'a>
+fn own_in<'a>(tables: &'a [OwnRows], number: usize) -> RowSource<'a>
     ensures { result ≡ table_at tables.now number }
 {
     match tables.get(number) {
         Some(rows) => rows.source(),
-        None => no_rows(past),
+        None => RowSource::of_rows(&[]),
     }
-}
-
-fn no_rows(past: PastEnd<'_>) -> RowSource<'_>
-    ensures { result ≡ [] }
-{
-    RowSource::of_rows(&[], past.null)
 }

@@ -106,7 +106,7 @@ fn numbered_rows(
 fn sorted_answer(alloc: Global, answer: Answer) -> Result<Kept, OutOfMemory>
     ensures { IfOk result (λ k. IsKept answer k) }
 {
-    let sorted = SortedOutcome::of_answer(alloc, answer)?;
+    let sorted = SortedOutcome::new(alloc, answer)?;
     Ok(Kept::Sorted(sorted))
 }
 
@@ -114,6 +114,6 @@ fn sorted_answer(alloc: Global, answer: Answer) -> Result<Kept, OutOfMemory>
 fn sorted_agrees(alloc: Global, first: &SortedOutcome, answer: Answer) -> Result<bool, OutOfMemory>
     ensures { IfOk result (λ b. IsTrue b ↔ Agree first.now answer) }
 {
-    let second = SortedOutcome::of_answer(alloc, answer)?;
+    let second = SortedOutcome::new(alloc, answer)?;
     Ok(first.agrees(&second))
 }

@@ -2,13 +2,12 @@
 
 ghost use Rattle.std.specs.Prelude.{◌≡◌, ◌↔◌, IfOk, IsTrue};
 ghost use Rattle.wd_refute.specs.Ready.{IsReady};
-ghost use Rattle.wd_plan.specs.Outcomes.{Agree, outcome_of};
+ghost use Rattle.wd_plan.specs.Outcomes.{Agree};
 
 use crate::rows::{row_order, show_the_same};
 use std::alloc::Global;
 use std::marker::Model;
 use wd_eval::Answer;
-use wd_plan::Outcome;
 use wd_value::OutOfMemory;
 
 /// An outcome prepared for comparison: the positions of its rows are sorted by the rows. Contracts see the outcome.
@@ -31,21 +30,11 @@ impl Model for SortedOutcome {
 }
 
 impl SortedOutcome {
-    /// Prepares an outcome. Takes n log n comparisons of rows.
-    ///
-    /// # Errors
-    /// Where memory runs out; the outcome is then dropped.
-    pub fn new(alloc: Global, outcome: Outcome) -> Result<SortedOutcome, OutOfMemory>
-        ensures { IfOk result (λ s. s ≡ outcome_of outcome) }
-    {
-        SortedOutcome::of_answer(alloc, Answer::of_outcome(outcome))
-    }
-
-    /// Prepares an answer, whose rows stay as they are kept.
+    /// Prepares an answer, whose rows stay as they are kept. Takes n log n comparisons of rows.
     ///
     /// # Errors
     /// Where memory runs out; the answer is then dropped.
-    pub fn of_answer(alloc: Global, answer: Answer) -> Result<SortedOutcome, OutOfMemory>
+    pub fn new(alloc: Global, answer: Answer) -> Result<SortedOutcome, OutOfMemory>
         ensures { IfOk result (λ s. s ≡ answer) }
     {
         let order = order_of(alloc, &answer)?;

@@ -9,7 +9,7 @@ use Rattle.wd_eval.proofs.SomeTied.{has_one_stable_outcome}
 use Rattle.wd_trail.specs.Trails.{Gives, IsTrail, rows_in}
 use Rattle.wd_trail.specs.declared.trail.Trail.{Trail}
 use Rattle.wd_trail.proofs.Trails.{trail_gives}
-use Rattle.wd_seek.specs.Probed.{IsAgreeing, IsFirst}
+use Rattle.wd_seek.specs.Probed.{IsAgreeing, IsFirst, IsStableOutcome}
 use Rattle.wd_seek.proofs.Passing.{agree_self}
 
 module _ (turn : Turn) (plan : PlanTree) (instance : Instance) (o : RowsOrFault) (number : ℕ) where
@@ -28,3 +28,16 @@ module _ (turn : Turn) (plan : PlanTree) (instance : Instance) (o : RowsOrFault)
 
   pub same_agree : (trail : Trail) → IsTrail trail plan instance → IsFirst plan instance o → Gives plan instance (Some (turned_at turn (0 + number))) 0 (rows_in trail) → IsAgreeing turn plan instance o number
   same_agree trail kept first g = rows_agree (rows_in trail) g (subst (λ r. Agree r (Ok (rows_in trail))) (sym (first_is trail kept first)) (agree_self (Ok (rows_in trail))))
+
+-- the rows of a trail's last node are the first outcome
+pub first_gives : (plan : PlanTree) (instance : Instance) (trail : Trail) → IsTrail trail plan instance → IsFirst plan instance (Ok (rows_in trail))
+first_gives plan instance trail kept =
+    let g = trail_gives trail plan instance kept in
+    record { choice = g.choice; tied = record { valid = record { tied = record { number = g.valid.number; tied = g.tied }; valid = g.valid; small = g.small }; is = sym g.is } }
+
+-- it is the outcome under each choice that keeps tied rows in their order
+pub first_under : (plan : PlanTree) (instance : Instance) (o other : RowsOrFault) (choice : List (List ℕ)) → IsFirst plan instance o → IsStableOutcome plan instance None choice other → IsStableOutcome plan instance None choice o
+first_under plan instance o other choice first under = record {
+  valid = under.valid;
+  is = first.tied.is ∙ has_one_stable_outcome plan instance None first.choice choice first.tied.valid.tied under.valid.tied;
+}

@@ -1,5 +1,5 @@
 -- The result of one evaluation, and what the evaluations after the first one show.
-use Rattle.std.specs.Prelude.{◌≡◌, ◌⊎◌, ℕ, ◌+◌, ◌<◌, List, [], ◌∷◌, Option, Some, None}
+use Rattle.std.specs.Prelude.{◌≡◌, ◌⊎◌, ℕ, ◌+◌, ◌<◌, List, [], ◌∷◌, Option, Some, None, IfSome}
 use Rattle.wd_value.specs.Rows.{Instance}
 use Rattle.wd_plan.specs.Outcomes.{Agree, RowsOrFault, outcome}
 use Rattle.wd_plan.specs.Plans.{PlanTree, ordering_count}
@@ -12,6 +12,8 @@ use Rattle.wd_seek.specs.Evaluations.{AllPass, IsTooLargeAt, most_evaluations}
 use Rattle.wd_seek.specs.Search.{FindsNothing, FindsTwo}
 use Rattle.wd_seek.specs.declared.evaluated.Evaluated.{Evaluated}
 use Rattle.wd_seek.specs.declared.probed.Pair.{Pair}
+use Rattle.wd_seek.specs.declared.trailed.First.{First}
+use Rattle.wd_trail.specs.Trails.{IsTrail}
 
 -- the outcome under a choice that keeps tied rows in their order, or turns an ordering
 pub record IsStableOutcome (plan : PlanTree) (instance : Instance) (turned : Option Turned) (choice : List (List ℕ)) (o : RowsOrFault) : Type 0 where
@@ -27,6 +29,11 @@ IsEvaluated plan instance turned (Some e) = IsStableOutcome plan instance turned
 pub record IsFirst (plan : PlanTree) (instance : Instance) (o : RowsOrFault) : Type 0 where
   pub choice : List (List ℕ)
   pub tied : IsStableOutcome plan instance None choice o
+
+-- what is kept of the first evaluation: its outcome, and the rows of the plan's nodes if there
+pub record IsKeptOf (plan : PlanTree) (instance : Instance) (first : First) : Type 0 where
+  pub outcome : IsFirst plan instance first.outcome
+  pub trail : IfSome first.trail (λ t. IsTrail t plan instance)
 
 -- the outcome agrees with this one where the ordering with this number is turned
 pub record IsAgreeing (turn : Turn) (plan : PlanTree) (instance : Instance) (o : RowsOrFault) (number : ℕ) : Type 0 where

@@ -8,7 +8,7 @@ ghost use Rattle.wd_seek.specs.Probed.{IsEvaluated};
 ghost use Rattle.wd_value.specs.Rows.{instance_of};
 
 use std::alloc::Global;
-use wd_eval::{EvalError, StableOutcome, Turned, eval_turned};
+use wd_eval::{EvalError, Turned, TurnedAnswer, answer_turned};
 use wd_plan::{Choice, Plan};
 use wd_refute::SortedOutcome;
 use wd_schema::Schema;
@@ -32,9 +32,9 @@ pub(crate) fn evaluate(
     requires { fits (schema_of schema.now) (plan_of plan.now) ≡ true }
     ensures { IfOk result (IsEvaluated (plan_of plan.now) (instance_of instance.now.items) turned) }
 {
-    match eval_turned(alloc, plan, schema, instance, turned) {
-        Ok(StableOutcome { choice, outcome }) => {
-            let outcome = SortedOutcome::new(alloc, outcome)?;
+    match answer_turned(alloc, plan, schema, instance, turned) {
+        Ok(TurnedAnswer { choice, answer }) => {
+            let outcome = SortedOutcome::new(alloc, answer)?;
             Ok(Some(Evaluated { choice, outcome }))
         }
         Err(EvalError::OutOfMemory) => Err(OutOfMemory),

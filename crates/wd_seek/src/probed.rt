@@ -5,15 +5,14 @@ ghost use Rattle.wd_plan.specs.Fits.{fits};
 ghost use Rattle.wd_plan.specs.Plans.{plan_of};
 ghost use Rattle.wd_schema.specs.Schemas.{schema_of};
 ghost use Rattle.wd_seek.specs.Evaluations.{most_evaluations};
-ghost use Rattle.wd_seek.specs.Probed.{IsFirst, IsOther, IsProbed};
+ghost use Rattle.wd_seek.specs.Probed.{IsKeptOf, IsOther, IsProbed};
 ghost use Rattle.wd_value.specs.Rows.{instance_of};
 
-use crate::evaluated::evaluate;
-use crate::trailed::{agrees_turned, trail_of};
+use crate::evaluated::{Evaluated, evaluate};
+use crate::trailed::{First, agrees_turned, first_of};
 use std::alloc::Global;
 use wd_eval::{Turn, Turned};
 use wd_plan::{Choice, Plan};
-use wd_refute::SortedOutcome;
 use wd_schema::Schema;
 use wd_value::{Instance, OutOfMemory};
 
@@ -46,24 +45,17 @@ pub(crate) fn probe(
     if spent == MOST_EVALUATIONS {
         return Ok((None, spent));
     }
-    let Some(first) = evaluate(alloc, schema, plan, instance, None)? else {
+    let Some(first) = first_of(alloc, schema, plan, instance)? else {
         return Ok((None, spent + 1));
     };
-    let (other, spent) = other_choice(
-        alloc,
-        schema,
-        plan,
-        instance,
-        &first.outcome,
-        turn,
-        spent + 1,
-    )?;
-    match other {
-        Some(second) => {
-            let first = first.choice;
-            Ok((Some(Pair { first, second }), spent))
-        }
-        None => Ok((None, spent)),
+    let (other, made) = other_choice(alloc, schema, plan, instance, &first, turn, spent + 1)?;
+    drop(first);
+    let Some(second) = other else {
+        return Ok((None, made));
+    };
+    match evaluate(alloc, schema, plan, instance, None)? {
+        Some(Evaluated { choice: first, .. }) => Ok((Some(Pair { first, second }), made)),
+        None => Ok((None, spent + 1)),
     }
 }
 
@@ -74,24 +66,23 @@ fn other_choice(
     schema: &Schema,
     plan: &Plan,
     instance: &Instance,
-    first: &SortedOutcome,
+    first: &First,
     turn: Turn,
     spent: u32,
 ) -> Result<(Option<Choice>, u32), OutOfMemory>
     requires fitting { fits (schema_of schema.now) (plan_of plan.now) ≡ true }
-    requires first { IsFirst (plan_of plan.now) (instance_of instance.now.items) first.now }
+    requires first { IsKeptOf (plan_of plan.now) (instance_of instance.now.items) first.now }
     requires few { spent ≤ most_evaluations }
     ensures few { IfOk result (λ r. r.1 ≤ most_evaluations) }
-    ensures other { IfOk result (λ r. IsOther turn (plan_of plan.now) (instance_of instance.now.items) first.now spent r.1 r.0) }
+    ensures other { IfOk result (λ r. IsOther turn (plan_of plan.now) (instance_of instance.now.items) first.now.outcome spent r.1 r.0) }
 {
     let orderings = plan.orderings();
-    let trail = trail_of(alloc, schema, plan, instance);
     for flipped in 0..orderings {
         let made = spent + flipped;
         if made == MOST_EVALUATIONS {
             return Ok((None, made));
         }
-        if agrees_turned(alloc, plan, &trail, first, flipped, turn) {
+        if agrees_turned(alloc, plan, first, flipped, turn) {
             continue;
         }
         let turned = Turned {
@@ -101,7 +92,7 @@ fn other_choice(
         let Some(other) = evaluate(alloc, schema, plan, instance, Some(turned))? else {
             return Ok((None, made + 1));
         };
-        if !first.agrees(&other.outcome) {
+        if !first.outcome.agrees(&other.outcome) {
             return Ok((Some(other.choice), made + 1));
         }
     }

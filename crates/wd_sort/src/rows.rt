@@ -7,14 +7,13 @@ ghost use Rattle.wd_value.specs.Rows.{column_of, row_at, rows_of};
 
 use std::cmp::Ordering;
 use wd_columns::RowSource;
-use wd_value::{Row, SortColumn, Value, compare};
+use wd_value::{Row, SortColumn, compare};
 
 /// The order of the rows at two positions by the columns: the first column on which they differ decides.
 pub fn compare_rows_at(rows: &[Row], columns: &[SortColumn], p: u64, q: u64) -> Ordering
     ensures { result ≡ sorting.compare_rows_at columns.now (rows_of rows.now) p q }
 {
-    let null = Value::Null;
-    compare_source_at(&RowSource::of_rows(rows, &null), columns, p, q)
+    compare_source_at(&RowSource::of_rows(rows), columns, p, q)
 }
 
 /// As `compare_rows_at`, for rows in any form.

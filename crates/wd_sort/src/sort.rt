@@ -7,7 +7,7 @@ use crate::columns::sort_by_columns;
 use crate::rows::{compare_rows_at, compare_source_at};
 use std::alloc::Global;
 use wd_columns::{RowSource, all_positions};
-use wd_value::{OutOfMemory, Row, SortColumn, Value};
+use wd_value::{OutOfMemory, Row, SortColumn};
 
 /// Fewer positions than these are sorted by their rows: finding codes for them would take longer.
 const FEW: usize = 32;
@@ -37,8 +37,7 @@ pub fn sort_positions(
 ) -> Result<Vec<u64>, OutOfMemory>
     ensures { IfOk result (λ v. IsStableSortOf columns.now (rows_of rows.now) positions.now v.items) }
 {
-    let null = Value::Null;
-    sort_positions_in(alloc, &RowSource::of_rows(rows, &null), columns, positions)
+    sort_positions_in(alloc, &RowSource::of_rows(rows), columns, positions)
 }
 
 /// As `sort_positions`, for rows in any form.

@@ -15,8 +15,7 @@ use wd_value::{OutOfMemory, Row, Text, Value};
 pub fn answer_text(alloc: Global, names: &[Text], rows: &[Row]) -> Result<Vec<u8>, OutOfMemory>
     ensures { IfOk result (λ v. v.items ≡ spec.answer_text names.now (rows_of rows.now)) }
 {
-    let null = Value::Null;
-    answer_text_from(alloc, names, &RowSource::of_rows(rows, &null))
+    answer_text_from(alloc, names, &RowSource::of_rows(rows))
 }
 
 /// As `answer_text`, for rows in any form.

@@ -1,6 +1,6 @@
 //! What each node of a plan gives.
 
-ghost use Rattle.std.specs.Prelude.{◌≡◌, true, option_map, IfOk, IfSome};
+ghost use Rattle.std.specs.Prelude.{◌≡◌, true, Some, option_map, IfOk, IfSome};
 ghost use Rattle.wd_plan.specs.Expressions.{expression_of};
 ghost use Rattle.wd_plan.specs.Fits.{fits};
 ghost use Rattle.wd_plan.specs.Plans.{EachNamesClasses, Join, Over, PlanTree, Step, plan_of};
@@ -76,8 +76,12 @@ fn follow_nodes(
             right,
             condition,
         } => {
-            let left = follow_nodes(alloc, left, schema, instance, room)?;
-            let right = follow_nodes(alloc, right, schema, instance, room)?;
+            let Some(left) = follow_nodes(alloc, left, schema, instance, room)? else {
+                return Ok(None);
+            };
+            let Some(right) = follow_nodes(alloc, right, schema, instance, room)? else {
+                return Ok(None);
+            };
             join(alloc, condition, left, right, room)
         }
         Plan::Filter { input, .. }
@@ -86,7 +90,9 @@ fn follow_nodes(
         | Plan::Window { input, .. }
         | Plan::Distinct { input }
         | Plan::Limit { input, .. } => {
-            let below = follow_nodes(alloc, input, schema, instance, room)?;
+            let Some(below) = follow_nodes(alloc, input, schema, instance, room)? else {
+                return Ok(None);
+            };
             step(alloc, plan, below, room)
         }
     }
@@ -110,47 +116,52 @@ fn part(
     }
 }
 
-/// A step over what is below it, where that is kept.
+/// A step over what is below it.
 fn step(
     alloc: Global,
     plan: &Plan,
-    below: Option<Trail>,
+    below: Trail,
     room: &mut u64,
 ) -> Result<Option<Trail>, OutOfMemory>
     requires { EachNamesClasses (plan_of plan.now) }
-    ensures { IfOk result (λ o. IfSome o (λ t. (instance : Instance) (step : Step) (input : PlanTree) → plan_of plan.now ≡ Over step input → IfSome below (λ b. IsTrail b input instance) → IsTrail t (Over step input) instance)) }
+    ensures { IfOk result (λ o. IfSome o (λ t. (instance : Instance) (step : Step) (input : PlanTree) → plan_of plan.now ≡ Over step input → IsTrail below input instance → IsTrail t (Over step input) instance)) }
 {
-    let Some(below) = below else {
+    let found = step_rows(alloc, plan, below.rows(), None)?;
+    let Some(rows) = with_room(found, room) else {
         return Ok(None);
     };
-    match step_rows(alloc, plan, below.rows(), None)? {
-        Some(rows) if has_room(&rows, room) => {
-            Ok(Some(Trail::Step(rows, Box::new(alloc, below)?)))
-        }
-        _ => Ok(None),
-    }
+    let below = Box::new(alloc, below)?;
+    Ok(Some(Trail::Step(rows, below)))
 }
 
-/// A Join of its two sides, where both are kept.
+/// A Join of its two sides.
 fn join(
     alloc: Global,
     condition: &Option<Expr>,
-    left: Option<Trail>,
-    right: Option<Trail>,
+    left: Trail,
+    right: Trail,
     room: &mut u64,
 ) -> Result<Option<Trail>, OutOfMemory>
-    ensures { IfOk result (λ o. IfSome o (λ t. (instance : Instance) (on_left on_right : PlanTree) → IfSome left (λ l. IsTrail l on_left instance) → IfSome right (λ r. IsTrail r on_right instance) → IsTrail t (Join (option_map expression_of condition.now) on_left on_right) instance)) }
+    ensures { IfOk result (λ o. IfSome o (λ t. (instance : Instance) (on_left on_right : PlanTree) → IsTrail left on_left instance → IsTrail right on_right instance → IsTrail t (Join (option_map expression_of condition.now) on_left on_right) instance)) }
 {
-    let (Some(left), Some(right)) = (left, right) else {
+    let second = copy_all(alloc, &right.rows().source())?;
+    let found = join_rows(alloc, condition, left.rows(), second)?;
+    let Some(rows) = with_room(found, room) else {
         return Ok(None);
     };
-    let second = copy_all(alloc, &right.rows().source())?;
-    match join_rows(alloc, condition, left.rows(), second)? {
-        Some(rows) if has_room(&rows, room) => {
-            let (left, right) = (Box::new(alloc, left)?, Box::new(alloc, right)?);
-            Ok(Some(Trail::Join(rows, left, right)))
-        }
-        _ => Ok(None),
+    let (left, right) = (Box::new(alloc, left)?, Box::new(alloc, right)?);
+    Ok(Some(Trail::Join(rows, left, right)))
+}
+
+/// The rows, if there are any and there is room for their values, which is taken away.
+fn with_room(found: Option<OwnRows>, room: &mut u64) -> Option<OwnRows>
+    ensures { IfSome result (λ rows. found ≡ Some rows) }
+{
+    let rows = found?;
+    if has_room(&rows, room) {
+        Some(rows)
+    } else {
+        None
     }
 }
 

@@ -166,12 +166,13 @@ fn window_turned(
     requires { class < length (window_of window.now).classes }
     ensures { let step = tree.Window (window_of window.now) in IfOk result (λ r. IsStepUnder step input.now None (Ok given.now) → IfSome (rows_shown given.now r) (λ rows. IsStepUnder step input.now (Some (turned_at turn class)) (Ok rows))) }
 {
-    let (rows, before) = (input.source(), given.source());
-    if rows.len() as u64 > MOST_ROWS {
+    if input.source().len() as u64 > MOST_ROWS {
         return Ok(Change::Unknown);
     }
-    match turn_class(alloc, window, &rows, &before, class, turn)? {
-        Ok(found) => Ok(compared(Some(found), given)),
+    let turned = turn_class(alloc, window, &input.source(), &given.source(), class, turn)?;
+    match turned {
+        Ok(Some(found)) => Ok(Change::Rows(found)),
+        Ok(None) => Ok(Change::Same),
         Err(_) => Ok(Change::Unknown),
     }
 }

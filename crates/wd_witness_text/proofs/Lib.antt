@@ -5,3 +5,6 @@ pub mod Plain
 pub mod Inverse
 pub mod Causes
 pub mod Entries
+pub mod Found
+pub mod Slots
+pub mod Once

@@ -1,59 +1,26 @@
 -- The members of tables, beside the entries of maps.
-use Rattle.std.proofs.Common.{◌≡◌, ◌≢◌, ℕ, Bool, true, false, cond, Option, Some, None, List, [], ◌∷◌, ◌++◌, map, All, String, Vec, Global, Ordering, Less, Equal, Greater, string_bytes, string_cmp, nat_cmp, refl, ap, ◌∙◌}
+use Rattle.std.proofs.Common.{◌≡◌, ℕ, Bool, true, false, cond, Option, Some, None, List, [], ◌∷◌, ◌++◌, map, String, Vec, Global, Less, Greater, string_bytes, string_cmp, nat_cmp, refl, ap, ◌∙◌}
 use Rattle.std.proofs.lemmas.Cmp.{nat_list_cmp_total}
 use Rattle.std.proofs.lemmas.Map.Text.{is_eq-slice_cmp}
-use Rattle.std.proofs.lemmas.List.Elements.{All-cons, All-head, All-nil, All-tail}
-use Rattle.std.specs.BTreeMap.{insert_entry}
 use Rattle.std.specs.Cmp.Lexicographic.{slice_cmp}
 use Rattle.std.specs.List.{AllByRecursion}
 use Rattle.std.specs.List.Sorted.{IsStrictlySortedBy}
 use Rattle.std.specs.Map.{keys_of, lookup}
-use Rattle.std.specs.Ordering.{is_eq, match_ordering, ordering_reverse}
+use Rattle.std.specs.Ordering.{is_eq, ordering_reverse}
 use Rattle.std.specs.Str.{bytes_eq}
-use Rattle.serde_json.proofs.Views.{Entry as Member}
-use Rattle.serde_json.specs.Data.{Data, Members, member, put, object}
-use Rattle.serde_json.specs.View.{view, members_view}
+use Rattle.serde_json.specs.Data.{Members, member, put}
 use Rattle.wd_schema.specs.Tables.{TableRule, table_of}
 use Rattle.wd_schema.specs.declared.table.Table.{Table}
 use Rattle.wd_value.specs.Rows.{Row, rows_of}
 use Rattle.wd_value.specs.declared.value.Value.{Value}
-use Rattle.wd_witness_text.specs.Json.{rows_json, table_members, tables_json}
-use Rattle.wd_witness_text.specs.Witnesses.{TableRows, Fits64, rows_in, rows_named, table_rows}
+use Rattle.wd_witness_text.specs.Json.{rows_json, table_members}
+use Rattle.wd_witness_text.specs.Witnesses.{TableRows, rows_in, rows_named, table_rows}
 
 abbrev pub Entry : Type 0
 Entry = String Global × Vec (Vec Value Global) Global
 
 abbrev members_of_entries : List Entry → Members
 members_of_entries es = table_members (map table_rows es)
-
-at_ordering : (o : Ordering) (a b c : List Entry) → members_of_entries (match_ordering o a b c) ≡ match_ordering o (members_of_entries a) (members_of_entries b) (members_of_entries c)
-at_ordering Less a b c = refl
-at_ordering Equal a b c = refl
-at_ordering Greater a b c = refl
-
-pub members-insert_entry : (es : List Entry) (k : String Global) (v : Vec (Vec Value Global) Global) → members_of_entries (insert_entry string_cmp es k v) ≡ put (string_bytes k) (rows_json (rows_of v.items)) (members_of_entries es)
-members-insert_entry [] k v = refl
-members-insert_entry (e ∷ es) k v = at_ordering (string_cmp k e.0) _ _ _ ∙ rw (members-insert_entry es k v)
-
--- the rows of each entry have numbers of 64 bits
-abbrev pub AllFit : List Entry → Type 0
-AllFit es = All (λ t. All (All Fits64) t.rows) (map table_rows es)
-
-fit_at_ordering : (o : Ordering) (a b c : List Entry) → AllFit a → AllFit b → AllFit c → AllFit (match_ordering o a b c)
-fit_at_ordering Less a b c f g h = f
-fit_at_ordering Equal a b c f g h = g
-fit_at_ordering Greater a b c f g h = h
-
--- with one more table they still have
-pub fit-insert_entry : (es : List Entry) (k : String Global) (v : Vec (Vec Value Global) Global) → AllFit es → All (All Fits64) (rows_of v.items) → AllFit (insert_entry string_cmp es k v)
-fit-insert_entry [] k v all h = All-cons (λ t. All (All Fits64) t.rows) (table_rows (k, v)) [] h (All-nil (λ t. All (All Fits64) t.rows))
-fit-insert_entry (e ∷ es) k v all h =
-    let head = All-head (λ t. All (All Fits64) t.rows) (table_rows e) (map table_rows es) all in
-    let tail = All-tail (λ t. All (All Fits64) t.rows) (table_rows e) (map table_rows es) all in
-    fit_at_ordering (string_cmp k e.0) _ _ _
-    (All-cons (λ t. All (All Fits64) t.rows) (table_rows (k, v)) (map table_rows (e ∷ es)) h all)
-    (All-cons (λ t. All (All Fits64) t.rows) (table_rows (e.0, v)) (map table_rows es) h tail)
-    (All-cons (λ t. All (All Fits64) t.rows) (table_rows e) (map table_rows (insert_entry string_cmp es k v)) head (fit-insert_entry es k v tail h))
 
 below_middle : (first : Entry) (es : List Entry) (e : Entry) (more : List Entry) → AllByRecursion (λ y. string_cmp first.0 y ≡ Less) (keys_of (es ++ e ∷ more)) → string_cmp first.0 e.0 ≡ Less
 below_middle first [] e more h = h.0
@@ -68,19 +35,6 @@ put_last_table (first ∷ done) e more h =
     let above : slice_cmp nat_cmp (string_bytes e.0) (string_bytes first.0) ≡ Greater =
     nat_list_cmp_total.antisymm (string_bytes e.0) (string_bytes first.0) ∙ ap ordering_reverse (below_middle first done e more h.0) in
     rw above (ap (member (string_bytes first.0) (rows_json (rows_of first.1.items))) (put_last_table done e more h.1))
-
--- at a member that no rows spell, no tables are spelled
-pub are_no_tables : (done : List Member) (e : Member) (more : List Member) → ((rows : List Row) → All (All Fits64) rows → view e.1 ≢ rows_json rows)
-    → (tables : List TableRows) → All (λ t. All (All Fits64) t.rows) tables → members_view (done ++ e ∷ more) ≢ table_members tables
-are_no_tables [] e more other [] all h = cc
-are_no_tables [] e more other (t ∷ tables) all h = other t.rows (All-head (λ t. All (All Fits64) t.rows) t tables all) (let same : view e.1 ≡ rows_json t.rows = cc in same)
-are_no_tables (m ∷ done) e more other [] all h = cc
-are_no_tables (m ∷ done) e more other (t ∷ tables) all h =
-    are_no_tables done e more other tables (All-tail (λ t. All (All Fits64) t.rows) t tables all) (let rest : members_view (done ++ e ∷ more) ≡ table_members tables = cc in rest)
-
-pub is_no_object : (d : Data) (es done : List Member) (e : Member) (more : List Member) → d ≡ object (members_view es) → es ≡ done ++ e ∷ more → ((rows : List Row) → All (All Fits64) rows → view e.1 ≢ rows_json rows)
-    → (tables : List TableRows) → All (λ t. All (All Fits64) t.rows) tables → d ≢ tables_json tables
-is_no_object d es done e more spelled parts other tables all h = are_no_tables done e more other tables all (let rest : members_view (done ++ e ∷ more) ≡ table_members tables = cc in rest)
 
 -- ---- the rows under a name
 

@@ -6,17 +6,7 @@ use std::alloc::{AllocError, Global};
 
 /// Reads the words after the program's own name. Help and version, which have a text too, are returned as the error.
 pub fn read_words<'a>(alloc: Global, words: &'a [&'a str]) -> Result<Asked<'a>, Error> {
-    let mut command = command_line(alloc)?;
-    read_by(alloc, &mut command, words)
-}
-
-/// Reads the words of a command.
-fn read_by<'a>(
-    alloc: Global,
-    command: &mut Command<'a>,
-    words: &'a [&'a str],
-) -> Result<Asked<'a>, Error> {
-    let matches = command.try_get_matches_from_mut(words)?;
+    let matches = command_line(alloc)?.try_get_matches_from(words)?;
     let asked = asked_in(alloc, &matches)?;
     Ok(asked)
 }
@@ -26,21 +16,9 @@ fn asked_in<'a>(alloc: Global, matches: &ArgMatches<'a>) -> Result<Asked<'a>, Al
     if matches.subcommand_matches("schema").is_some() {
         return Ok(Asked::Catalog);
     }
-    if let Some(lock) = matches.subcommand_matches("lock") {
-        return Ok(Asked::Lock(files_in(alloc, lock)?));
-    }
-    if matches.get_flag("show-respelled") {
-        return Ok(Asked::Respelled(files_in(alloc, matches)?));
-    }
-    Ok(Asked::Report(request_in(alloc, matches)?))
-}
-
-/// The schema and the paths among the words.
-fn files_in<'a>(alloc: Global, matches: &ArgMatches<'a>) -> Result<FilesRequest<'a>, AllocError> {
-    Ok(FilesRequest {
-        schema: matches.get_str("schema"),
-        paths: paths_in(alloc, matches)?,
-    })
+    let lock = matches.subcommand_matches("lock");
+    let paths = paths_in(alloc, lock.unwrap_or(matches))?;
+    Ok(asked_of(matches, lock, paths))
 }
 
 /// The paths among the words.
@@ -48,9 +26,32 @@ fn paths_in<'a>(alloc: Global, matches: &ArgMatches<'a>) -> Result<Vec<&'a str>,
     Vec::from_slice(alloc, matches.get_strs("paths").unwrap_or(&[]))
 }
 
-/// The request for a report.
-fn request_in<'a>(alloc: Global, matches: &ArgMatches<'a>) -> Result<Request<'a>, AllocError> {
-    Ok(Request {
+/// What is requested of the paths, by the words of the program or of the command `lock`.
+fn asked_of<'a>(
+    matches: &ArgMatches<'a>,
+    lock: Option<&ArgMatches<'a>>,
+    paths: Vec<&'a str>,
+) -> Asked<'a> {
+    if let Some(lock) = lock {
+        return Asked::Lock(files_of(lock, paths));
+    }
+    if matches.get_flag("show-respelled") {
+        return Asked::Respelled(files_of(matches, paths));
+    }
+    Asked::Report(report_of(matches, paths))
+}
+
+/// The paths, and the schema among the words.
+fn files_of<'a>(matches: &ArgMatches<'a>, paths: Vec<&'a str>) -> FilesRequest<'a> {
+    FilesRequest {
+        schema: matches.get_str("schema"),
+        paths,
+    }
+}
+
+/// The request for a report on the paths.
+fn report_of<'a>(matches: &ArgMatches<'a>, paths: Vec<&'a str>) -> Request<'a> {
+    Request {
         schema: matches.get_str("schema"),
         format: Format::named(matches.get_str("format")),
         is_fix: matches.get_flag("fix"),
@@ -59,8 +60,8 @@ fn request_in<'a>(alloc: Global, matches: &ArgMatches<'a>) -> Result<Request<'a>
         baseline: matches.get_str("baseline"),
         writes_baseline: matches.get_flag("baseline-write"),
         colour: Colour::named(matches.get_str("color")),
-        paths: paths_in(alloc, matches)?,
-    })
+        paths,
+    }
 }
 
 // The text below the words in the program's help.
@@ -83,25 +84,99 @@ Exit status:
   0  each lock is written
   3  a path, a schema or a word of the command line is wrong, or a file can't be written";
 
-// The words of the formats.
-const FORMATS: [&str; 3] = ["text", "json", "github"];
+// A word of the command line.
+struct Word<'a> {
+    name: &'a str,
+    form: Form<'a>,
+    help: &'a str,
+}
 
-// The words of the colours.
-const COLOURS: [&str; 3] = ["auto", "always", "never"];
+// What follows a word.
+enum Form<'a> {
+    /// Nothing: the word stands or not.
+    Flag,
+    /// A value, called so in the help.
+    Value(&'a str),
+    /// A value, called so in the help, which is one of these.
+    OneOf(&'a str, &'a [&'a str]),
+    /// The word is called so in the help, and stands for one or more of the values that are given without a name.
+    Values(&'a str),
+}
+
+// The word that names a schema.
+const SCHEMA: Word<'static> = Word {
+    name: "schema",
+    form: Form::Value("FILE"),
+    help: "A file of CREATE TABLE statements, as pg_dump -s writes them too, for all queries",
+};
+
+// The paths of queries and of folders.
+const PATHS: Word<'static> = Word {
+    name: "paths",
+    form: Form::Values("PATH"),
+    help: "A file of queries, or a folder whose files *.sql are judged; - is standard input",
+};
+
+// The words of a lock.
+const WORDS_OF_LOCK: [Word<'static>; 2] = [SCHEMA, PATHS];
+
+// The words of a report.
+const WORDS_OF_REPORT: [Word<'static>; 10] = [
+    Word {
+        name: "fix",
+        form: Form::Flag,
+        help: "Writes the sort keys into the files; with the path -, prints what standard input becomes",
+    },
+    Word {
+        name: "allow-unknown",
+        form: Form::Flag,
+        help: "Queries that may tie pass: the status is 0 where no other is open",
+    },
+    Word {
+        name: "baseline-write",
+        form: Form::Flag,
+        help: "Writes the baseline: all that is found now is known",
+    },
+    Word {
+        name: "show-respelled",
+        form: Form::Flag,
+        help: "Prints, in place of a report, each schema's tables as queries are judged over them",
+    },
+    SCHEMA,
+    Word {
+        name: "format",
+        form: Form::OneOf("FORMAT", &["text", "json", "github"]),
+        help: "text, for a person; json, an object a line; github, annotations of a workflow",
+    },
+    Word {
+        name: "html",
+        form: Form::Value("FILE"),
+        help: "Writes a page of HTML that shows all queries, with what is found of each",
+    },
+    Word {
+        name: "baseline",
+        form: Form::Value("FILE"),
+        help: "A file of findings that are known: only others count",
+    },
+    Word {
+        name: "color",
+        form: Form::OneOf("WHEN", &["auto", "always", "never"]),
+        help: "Colours in text: auto, where a terminal shows it; always; never",
+    },
+    PATHS,
+];
 
 // The command line.
 fn command_line<'a>(alloc: Global) -> Result<Command<'a>, AllocError> {
-    let words = Vec::from_array(alloc, words_of_report(alloc))?;
-    program(alloc)?.args(words)
+    let words = arguments(alloc, &WORDS_OF_REPORT)?;
+    let program = described_program(alloc).args(words)?.bin_name("wdreport")?;
+    with_commands(alloc, program)
 }
 
-// The program, with its commands.
-fn program<'a>(alloc: Global) -> Result<Command<'a>, AllocError> {
-    let lock = lock_command(alloc)?;
-    let commands = Vec::from_array(alloc, [schema_command(alloc), lock])?;
-    described_program(alloc)
-        .bin_name("wdreport")?
-        .subcommands(commands)
+// The program with its commands.
+fn with_commands<'a>(alloc: Global, program: Command<'a>) -> Result<Command<'a>, AllocError> {
+    let program = program.subcommand(schema_command(alloc))?;
+    program.subcommand(lock_command(alloc)?)
 }
 
 // The program by itself.
@@ -126,7 +201,7 @@ fn schema_command<'a>(alloc: Global) -> Command<'a> {
 
 // The command that writes locks.
 fn lock_command<'a>(alloc: Global) -> Result<Command<'a>, AllocError> {
-    let words = Vec::from_array(alloc, [schema_word(alloc), paths_words(alloc)])?;
+    let words = arguments(alloc, &WORDS_OF_LOCK)?;
     Command::new(alloc, "lock")
         .about(
             "Writes the certificates of queries beside them, so that a later run tells which of them no longer hold",
@@ -135,83 +210,22 @@ fn lock_command<'a>(alloc: Global) -> Result<Command<'a>, AllocError> {
         .args(words)
 }
 
-// The words of a report.
-fn words_of_report<'a>(alloc: Global) -> [Arg<'a>; 10] {
-    [
-        flag(
-            alloc,
-            "fix",
-            "Writes the sort keys into the files; with the path -, prints what standard input becomes",
-        ),
-        flag(
-            alloc,
-            "allow-unknown",
-            "Queries that may tie pass: the status is 0 where no other is open",
-        ),
-        flag(
-            alloc,
-            "baseline-write",
-            "Writes the baseline: all that is found now is known",
-        ),
-        flag(
-            alloc,
-            "show-respelled",
-            "Prints, in place of a report, each schema's tables as queries are judged over them",
-        ),
-        schema_word(alloc),
-        format_word(alloc),
-        page_word(alloc),
-        baseline_word(alloc),
-        colour_word(alloc),
-        paths_words(alloc),
-    ]
+// The words as the command line has them.
+fn arguments<'a>(alloc: Global, words: &[Word<'a>]) -> Result<Vec<Arg<'a>>, AllocError> {
+    let mut arguments = Vec::with_capacity(alloc, words.len())?;
+    for word in words {
+        arguments.push(argument(alloc, word))?;
+    }
+    Ok(arguments)
 }
 
-// A word that stands or not.
-fn flag<'a>(alloc: Global, name: &'a str, help: &'a str) -> Arg<'a> {
-    Arg::new(alloc, name)
-        .long(name)
-        .action(ArgAction::SetTrue)
-        .help(help)
-}
-
-// A word that another follows.
-fn option<'a>(alloc: Global, name: &'a str, value: &'a str, help: &'a str) -> Arg<'a> {
-    Arg::new(alloc, name)
-        .long(name)
-        .value_name(value)
-        .help(help)
-}
-
-fn schema_word<'a>(alloc: Global) -> Arg<'a> {
-    let help = "A file of CREATE TABLE statements, as pg_dump -s writes them too, for all queries";
-    option(alloc, "schema", "FILE", help)
-}
-
-fn format_word<'a>(alloc: Global) -> Arg<'a> {
-    let help = "text, for a person; json, an object a line; github, annotations of a workflow";
-    option(alloc, "format", "FORMAT", help).value_parser(FORMATS.as_slice())
-}
-
-fn page_word<'a>(alloc: Global) -> Arg<'a> {
-    let help = "Writes a page of HTML that shows all queries, with what is found of each";
-    option(alloc, "html", "FILE", help)
-}
-
-fn baseline_word<'a>(alloc: Global) -> Arg<'a> {
-    let help = "A file of findings that are known: only others count";
-    option(alloc, "baseline", "FILE", help)
-}
-
-fn colour_word<'a>(alloc: Global) -> Arg<'a> {
-    let help = "Colours in text: auto, where a terminal shows it; always; never";
-    option(alloc, "color", "WHEN", help).value_parser(COLOURS.as_slice())
-}
-
-fn paths_words<'a>(alloc: Global) -> Arg<'a> {
-    Arg::new(alloc, "paths")
-        .num_args(1..)
-        .required(true)
-        .value_name("PATH")
-        .help("A file of queries, or a folder whose files *.sql are judged; - is standard input")
+// A word as the command line has it.
+fn argument<'a>(alloc: Global, word: &Word<'a>) -> Arg<'a> {
+    let named = Arg::new(alloc, word.name).help(word.help);
+    match word.form {
+        Form::Flag => named.long(word.name).action(ArgAction::SetTrue),
+        Form::Value(value) => named.long(word.name).value_name(value),
+        Form::OneOf(value, names) => named.long(word.name).value_name(value).value_parser(names),
+        Form::Values(value) => named.value_name(value).num_args(1..).required(true),
+    }
 }

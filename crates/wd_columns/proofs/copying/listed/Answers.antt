@@ -1,6 +1,6 @@
-use Rattle.std.proofs.Common.{◌≡◌, ◌∙◌, IfOk, ap, subst}
+use Rattle.std.proofs.Common.{◌∙◌, ap}
 use Rattle.wd_value.specs.Bags.{positions}
-use Rattle.wd_value.specs.Rows.{rows_at, rows_of}
+use Rattle.wd_value.specs.Rows.{rows_at}
 use Rattle.wd_columns.proofs.Copied.{all_rows}
 use Rattle.wd_columns.proofs.copying.listed.Goals as goal
 
@@ -8,4 +8,4 @@ pub returns : goal.returns
 returns c =
     let rows = c.args.rows.now in
     let all = c.deref.ensures.value ∙ c.in_ok-all.ensures ∙ ap positions c.len.ensures in
-    subst (λ there. IfOk c.copied_rows.result (λ v. rows_of v.items ≡ there)) ((λ i. rows_at (c.of_joined.ensures i) (all i)) ∙ all_rows rows) c.copied_rows.ensures
+    c.in_ok-list.ensures ∙ (λ i. rows_at (c.of_joined.ensures i) (all i)) ∙ all_rows rows

@@ -11,7 +11,7 @@ returns-in-Err c = λ orderings listed. (
     let rows = c.args.rows in
     let source : c.source.result ≡ rows = c.source.ensures in
     let there = subst (λ rs. AreIndexed w rs orderings c.args.indexes.now) (sym source) listed in
-    let found = c.in_ok-fault.ensures orderings there in
+    let found = c.in_ok-found.ensures orderings there in
     let beside : IsBeside w c.source.result orderings (Err c.in-Err.fault) = subst (IsBeside w c.source.result orderings) c.in-Err.is found in
     beside ∙ ap (λ rs. window_outcome w rs orderings) source)
 
@@ -21,7 +21,7 @@ returns-in_ok-extended-in-Ok c = λ orderings listed. (
     let rows = c.args.rows in
     let source : c.source.result ≡ rows = c.source.ensures in
     let there = subst (λ rs. AreIndexed w rs orderings c.args.indexes.now) (sym source) listed in
-    let found = c.in_ok-fault.ensures orderings there in
+    let found = c.in_ok-found.ensures orderings there in
     let beside : IsBeside w c.source.result orderings (Ok c.in-Ok.columns) = subst (IsBeside w c.source.result orderings) c.in-Ok.is found in
     let own : IsBeside w rows orderings (Ok c.in-Ok.columns) = subst (λ rs. IsBeside w rs orderings (Ok c.in-Ok.columns)) source beside in
     ap Ok c.in_ok-extended-in-Ok.ensures ∙ own)

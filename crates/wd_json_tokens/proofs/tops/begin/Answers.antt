@@ -1,12 +1,12 @@
-use Rattle.std.proofs.Common.{◌≡◌, [], ◌∷◌, Some, None, option_map, refl, ap, ap₂, ◌∙◌, arith}
+use Rattle.std.proofs.Common.{◌≡◌, [], ◌∷◌, Some, None, option_map, refl, sym, ap, ap₂, ◌∙◌, arith}
 use Rattle.json.specs.Token as token
 use Rattle.json.specs.Json.{value}
 use Rattle.json.proofs.Grammar.{value_is}
 use Rattle.json.specs.Reads.{token_of}
-use Rattle.serde_json.specs.Find.{as_u64}
-use Rattle.serde_json.specs.Read.{number_of, of_json, converted}
+use Rattle.serde_json.specs.Read.{of_json, converted}
+use Rattle.serde_json.specs.View.{number_view}
 use Rattle.wd_json_tokens.specs.Values.{value_at}
-use Rattle.wd_json_tokens.proofs.Turns.{at_end, at_null, at_boolean, at_string, at_number, at_no_number, at_list, at_object, too_deep, number_some, number_none, OnErr-of}
+use Rattle.wd_json_tokens.proofs.Turns.{at_end, at_null, at_boolean, at_string, at_number, at_no_number, at_list, at_object, too_deep, OnErr-of}
 use Rattle.wd_json_tokens.proofs.tops.begin.Goals as goal
 
 pub returns-in_err-token-clause-refused : goal.returns-in_err-token-clause-refused
@@ -48,16 +48,15 @@ pub returns-in_err-ok_or-in-Number-clause-refused : goal.returns-in_err-ok_or-in
 returns-in_err-ok_or-in-Number-clause-refused c =
     let first : c.args.reader.now ≡ token_of c.in_ok-token.token ∷ c.next.new.self = grind arith in
     let is : c.args.reader.now ≡ token.number c.in-Number.text.now ∷ c.next.new.self = grind (arith, first) in
-    let nothing : None ≡ option_map as_u64 (number_of c.in-Number.text.now) = grind arith in
-    OnErr-of _ _ (ap (value_at c.args.depth) is ∙ at_no_number c.args.depth _ _ (number_none _ nothing))
+    let nothing : c.number.result ≡ None = grind arith in
+    OnErr-of _ _ (ap (value_at c.args.depth) is ∙ at_no_number c.args.depth _ _ (sym c.number.ensures ∙ ap (option_map number_view) nothing))
 
 pub returns-in_ok-ok_or-in-Number-clause-ok : goal.returns-in_ok-ok_or-in-Number-clause-ok
 returns-in_ok-ok_or-in-Number-clause-ok c =
     let first : c.args.reader.now ≡ token_of c.in_ok-token.token ∷ c.next.new.self = grind arith in
     let is : c.args.reader.now ≡ token.number c.in-Number.text.now ∷ c.next.new.self = grind (arith, first) in
-    let some : Some c.in_ok-ok_or-in-Number.field-0 ≡ option_map as_u64 (number_of c.in-Number.text.now) = grind arith in
-    let n = number_some _ _ some in
-    (_, ap (value_at c.args.depth) is ∙ at_number c.args.depth _ n.0 _ n.1, (n.0, refl, n.2))
+    let some : c.number.result ≡ Some c.in_ok-ok_or-in-Number.field-0 = grind arith in
+    (_, ap (value_at c.args.depth) is ∙ at_number c.args.depth _ _ _ (sym c.number.ensures ∙ ap (option_map number_view) some), refl)
 
 pub returns-else-depth-gt0-clause-refused : goal.returns-else-depth-gt0-clause-refused
 returns-else-depth-gt0-clause-refused c =

@@ -1,4 +1,4 @@
-use Rattle.std.proofs.Common.{◌+◌, ◌≤◌, Some, arith, subst, inl, inr}
+use Rattle.std.proofs.Common.{◌+◌, Some, arith, subst, inl, inr}
 use Rattle.wd_plan.specs.Plans.{ordering_count, plan_of}
 use Rattle.wd_plan.proofs.Ranges.{names_classes}
 use Rattle.wd_schema.specs.Schemas.{schema_of}
@@ -11,8 +11,7 @@ use Rattle.wd_seek.proofs.probed.other_choice.Goals as goal
 pub loop-flipped-init : goal.loop-flipped-init
 loop-flipped-init c = (
   omega (arith, c.requires.few),
-  first_passes c.args.turn (plan_of c.args.plan.now) (instance_of c.args.instance.now.items) c.args.first.now c.requires.first,
-  c.trail_of-trail.ensures,
+  first_passes c.args.turn (plan_of c.args.plan.now) (instance_of c.args.instance.now.items) c.args.first.now.outcome c.requires.first.outcome,
 )
 
 pub returns-in_default-clause-other : goal.returns-in_default-clause-other
@@ -36,6 +35,5 @@ loop-flipped-preserved-then-agrees_turned c =
     let other = c.if-made-eq-MOST_EVALUATIONS.false in (
       omega arith,
       all_pass_more c.args.turn plan instance (k + 1) c.loop-flipped.invariant.1
-          (agreeing_passes c.args.turn plan instance c.args.first.now k c.requires.first (c.agrees_turned.ensures c.if-agrees_turned.true instance c.loop-flipped.invariant.2 c.requires.first)),
-      c.loop-flipped.invariant.2,
+          (agreeing_passes c.args.turn plan instance c.args.first.now.outcome k c.requires.first.outcome (c.agrees_turned.ensures c.if-agrees_turned.true instance c.requires.first)),
     )

@@ -14,8 +14,8 @@ returns-then-are_in_order c =
     let here : AreInOrder columns rows = search rules in
     subst (IsSortOf columns rows) (sym all) (in_order columns rows here)
 
-pub returns-in_ok-order : goal.returns-in_ok-order
-returns-in_ok-order c =
+pub returns : goal.returns
+returns c =
     let rows = c.args.rows.now in
     let columns = c.args.columns.now in
     let order = c.in_ok-order.order.items in

@@ -1,7 +1,7 @@
-use Rattle.std.proofs.Common.{◌≡◌, ◌∙◌, [], ◌∷◌, ap, length, map, refl, sym, subst}
+use Rattle.std.proofs.Common.{◌∙◌, [], ◌∷◌, ap, length, map, sym, subst}
 use Rattle.wd_value.specs.Bags.{positions}
 use Rattle.wd_columns.specs.Joined.{AreOfTables, rows_joined}
-use Rattle.wd_columns.proofs.Joining.{list_items, of_table, own, own_within}
+use Rattle.wd_columns.proofs.Joining.{of_table, own, own_within}
 use Rattle.wd_columns.proofs.joined.JoinedRows.of_columns.Goals as goal
 
 pub returns : goal.returns

@@ -1,8 +1,0 @@
-use Rattle.std.proofs.Common.{◌≡◌, ℕ, ◌-◌, ◌<◌, length, get_or}
-use Rattle.wd_value.specs.declared.value.Value.TheVariants.{Null}
-use Rattle.wd_value.specs.Rows.{column_of, row_at}
-use Rattle.wd_eval.proofs.class_turn.kept_column.Given as goal
-
-abbrev pub invariant-loop-position : goal.invariant-loop-position
-invariant-loop-position l = (length l.values.items ≡ l.position)
-    × ((p : ℕ) → p < l.position → get_or l.values.items p Null ≡ column_of (row_at l.rows p) (length (row_at l.rows p) - l.after))
