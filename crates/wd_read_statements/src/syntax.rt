@@ -3,7 +3,7 @@
 use wd_read_cursor::Name;
 
 /// What follows UNIQUE.
-#[derive(Clone, Copy, PartialEq, Eq)]
+#[derive(Clone, Copy)]
 pub enum Nulls {
     /// Nothing, so that NULLs are distinct.
     Unsaid,
@@ -14,14 +14,14 @@ pub enum Nulls {
 }
 
 /// The words that declare a key.
-#[derive(Clone, Copy, PartialEq, Eq)]
+#[derive(Clone, Copy)]
 pub enum KeyWords {
     Primary,
     Unique(Nulls),
 }
 
 /// A rule for a column.
-#[derive(Clone, Copy, PartialEq, Eq)]
+#[derive(Clone, Copy)]
 pub enum Rule {
     NotNull,
     Null,
