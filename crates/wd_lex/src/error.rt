@@ -8,7 +8,7 @@ use std::alloc::{AllocError, AllocFailed};
 use thiserror::Error;
 
 /// A text's refusal. A place is the byte of the text at which the refused piece begins.
-#[derive(Clone, Copy, Debug, PartialEq, Eq, Error)]
+#[derive(Clone, Copy, Debug, Error)]
 pub enum LexError {
     /// 101: a character outside the alphabet.
     #[error("character outside the alphabet at byte {place}")]
