@@ -17,7 +17,7 @@ use wd_lex::Terminal;
 const MOST_BYTES: usize = 65536;
 
 /// Why declarations have no text.
-#[derive(Clone, Copy, Debug, PartialEq, Eq)]
+#[derive(Clone, Copy)]
 pub enum TextError {
     /// The text would be longer than 65,536 bytes.
     TooLong,
