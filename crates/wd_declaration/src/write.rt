@@ -2,6 +2,7 @@
 
 ghost use Rattle.std.specs.Prelude.{◌≡◌, ◌∷◌, ◌++◌, OnOk, map, if◌then◌else◌};
 ghost use Rattle.std.specs.String.{string_bytes};
+ghost use Rattle.wd_lex.specs.declared.token.Terminal.TheVariants as m;
 ghost use Rattle.wd_lex.specs.declared.token.TokenKind.{TokenKind};
 ghost use Rattle.wd_read_cursor.specs.Tokens.{Kinds, ◌▸◌};
 ghost use Rattle.wd_read_statements.specs.Grammar.{listed, spell_nulls, spell_rules, spell_words};
@@ -74,6 +75,15 @@ pub fn write_list<W: Written>(
     Ok(())
 }
 
+/// Prints a list in brackets, with commas between its elements.
+fn write_bracketed<W: Written>(text: &mut String, items: &[W]) -> Result<(), AllocError>
+    ensures { OnOk result ((rest : Kinds) → string_bytes text.new ++ printed rest ≡ string_bytes text.old ++ printed (m.LeftBracket ▸ listed m.Comma W.spell (map W.tree items.now) (m.RightBracket ▸ rest))) }
+{
+    write_terminal(text, Terminal::LeftBracket)?;
+    write_list(text, items, Terminal::Comma)?;
+    write_terminal(text, Terminal::RightBracket)
+}
+
 impl Written for Identifier {
     ghost use Rattle.wd_read_cursor.specs.declared.name.Name.{Name as NameTree};
     ghost use Rattle.wd_read_statements.specs.Grammar.{spell_name};
@@ -110,9 +120,10 @@ fn write_rules(text: &mut String, not_null: bool) -> Result<(), AllocError>
 {
     if not_null {
         write_terminal(text, Terminal::Not)?;
-        write_terminal(text, Terminal::Null)?;
+        write_terminal(text, Terminal::Null)
+    } else {
+        Ok(())
     }
-    Ok(())
 }
 
 impl Written for DeclaredColumn {
@@ -129,8 +140,7 @@ impl Written for DeclaredColumn {
     fn write(&self, text: &mut String) -> Result<(), AllocError> {
         self.name.write(text)?;
         write_word(text, type_word(self.kind))?;
-        write_rules(text, self.not_null)?;
-        Ok(())
+        write_rules(text, self.not_null)
     }
 }
 
@@ -141,13 +151,11 @@ fn write_words(text: &mut String, words: KeyWords) -> Result<(), AllocError>
     match words {
         KeyWords::Primary => {
             write_terminal(text, Terminal::Primary)?;
-            write_word(text, "key")?;
-            Ok(())
+            write_word(text, "key")
         }
         KeyWords::Unique(nulls) => {
             write_terminal(text, Terminal::Unique)?;
-            write_nulls(text, nulls)?;
-            Ok(())
+            write_nulls(text, nulls)
         }
     }
 }
@@ -160,14 +168,12 @@ fn write_nulls(text: &mut String, nulls: Nulls) -> Result<(), AllocError>
         Nulls::Unsaid => Ok(()),
         Nulls::Distinct => {
             write_word(text, "nulls")?;
-            write_terminal(text, Terminal::Distinct)?;
-            Ok(())
+            write_terminal(text, Terminal::Distinct)
         }
         Nulls::NotDistinct => {
             write_word(text, "nulls")?;
             write_terminal(text, Terminal::Not)?;
-            write_terminal(text, Terminal::Distinct)?;
-            Ok(())
+            write_terminal(text, Terminal::Distinct)
         }
     }
 }
@@ -185,10 +191,7 @@ impl Written for DeclaredKey {
 
     fn write(&self, text: &mut String) -> Result<(), AllocError> {
         write_words(text, self.words)?;
-        write_terminal(text, Terminal::LeftBracket)?;
-        write_list(text, &self.columns, Terminal::Comma)?;
-        write_terminal(text, Terminal::RightBracket)?;
-        Ok(())
+        write_bracketed(text, &self.columns)
     }
 }
 
@@ -226,9 +229,6 @@ impl Written for Declaration {
         write_terminal(text, Terminal::Create)?;
         write_terminal(text, Terminal::Table)?;
         self.name.write(text)?;
-        write_terminal(text, Terminal::LeftBracket)?;
-        write_list(text, &self.elements, Terminal::Comma)?;
-        write_terminal(text, Terminal::RightBracket)?;
-        Ok(())
+        write_bracketed(text, &self.elements)
     }
 }

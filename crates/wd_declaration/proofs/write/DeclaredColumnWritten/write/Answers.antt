@@ -1,4 +1,5 @@
 use Rattle.std.proofs.Common.{◌∙◌, ◌∷◌, ◌++◌, ap, string_bytes}
+use Rattle.std.proofs.lemmas.Result.{on_ok_weaker}
 use Rattle.wd_lex.specs.declared.token.TokenKind.TheVariants as k
 use Rattle.wd_read_cursor.specs.Tokens.{Kinds}
 use Rattle.wd_read_statements.specs.Grammar.{spell_rules}
@@ -7,8 +8,8 @@ use Rattle.wd_declaration.specs.Spelled.{rules_of, type_word}
 use Rattle.wd_declaration.proofs.write.DeclaredColumnWritten.write.Goals as goal
 
 pub returns : goal.returns
-returns c = λ rest.
+returns c = on_ok_weaker c.write_rules.result (λ last rest.
     let column = c.args.self.now in
     let after : Kinds = spell_rules (rules_of column.not_null) rest in
-    c.in_ok-write_rules.ensures rest ∙ c.in_ok-write_word.ensures after ∙ ap (λ word. string_bytes c.write.new.text ++ printed (k.Word word ∷ after)) c.type_word.ensures
-    ∙ c.in_ok-write.ensures (k.Word (type_word column.kind) ∷ after)
+    last rest ∙ c.in_ok-write_word.ensures after ∙ ap (λ word. string_bytes c.write.new.text ++ printed (k.Word word ∷ after)) c.type_word.ensures
+    ∙ c.in_ok-write.ensures (k.Word (type_word column.kind) ∷ after)) c.write_rules.ensures
