@@ -127,8 +127,7 @@ impl Reader for Names {
     ghost item = { λ names. name_at };
 
     fn read<'t>(&self, alloc: Global, tokens: &'t [Token]) -> Result<(Name, &'t [Token]), Refusal> {
-        let (name, rest) = name_at(alloc, tokens)?;
-        Ok((name, rest))
+        name_at(alloc, tokens)
     }
 }
 
