@@ -33,8 +33,7 @@ fn read_kept(alloc: Global, is_kept: bool, tokens: &[Token]) -> Result<(Item, &[
 fn read_set(alloc: Global, tokens: &[Token]) -> Result<(Item, &[Token]), Refusal>
     ensures { Gives (λ x. (item_said x.0, kinds_of x.1.now)) result (set_at (kinds_of tokens.now)) }
 {
-    let (item, rest) = read_kept(alloc, !begins_unsaid(tokens), tokens)?;
-    Ok((item, rest))
+    read_kept(alloc, !begins_unsaid(tokens), tokens)
 }
 
 /// `[IF NOT EXISTS]`
@@ -66,8 +65,7 @@ fn read_added(alloc: Global, tokens: &[Token]) -> Result<(Item, &[Token]), Refus
     ensures { Gives (λ x. (item_said x.0, kinds_of x.1.now)) result (added_at (kinds_of tokens.now)) }
 {
     let (_, rest) = past_not_exists(past_column(tokens))?;
-    let (item, rest) = read_item(alloc, rest)?;
-    Ok((item, rest))
+    read_item(alloc, rest)
 }
 
 /// A change of a column, after ALTER.
@@ -77,18 +75,11 @@ fn read_altered(alloc: Global, tokens: &[Token]) -> Result<(Item, &[Token]), Ref
 {
     let (_, rest) = read_identifier(alloc, past_column(tokens))?;
     if let Some(rest) = eat_text(rest, "set") {
-        let (item, rest) = read_set(alloc, rest)?;
-        return Ok((item, rest));
+        return read_set(alloc, rest);
     }
     match eat_text(rest, "drop") {
-        Some(rest) => {
-            let (item, rest) = read_kept(alloc, begins_dropped(rest), rest)?;
-            Ok((item, rest))
-        }
-        None => {
-            let (item, rest) = read_kept(alloc, begins_column_change(rest), rest)?;
-            Ok((item, rest))
-        }
+        Some(rest) => read_kept(alloc, begins_dropped(rest), rest),
+        None => read_kept(alloc, begins_column_change(rest), rest),
     }
 }
 
@@ -110,22 +101,14 @@ impl Reader for Changes {
     #[tactic(auto, unfolding(crate::specs::Reading::change_at, crate::specs::Reading::kept_change))]
     fn read<'t>(&self, alloc: Global, tokens: &'t [Token]) -> Result<(Item, &'t [Token]), Refusal> {
         if let Some(rest) = eat_text(tokens, "add") {
-            let (item, rest) = read_added(alloc, rest)?;
-            return Ok((item, rest));
+            return read_added(alloc, rest);
         }
         if let Some(rest) = eat_text(tokens, "alter") {
-            let (item, rest) = read_altered(alloc, rest)?;
-            return Ok((item, rest));
+            return read_altered(alloc, rest);
         }
         match eat_text(tokens, "set") {
-            Some(rest) => {
-                let (item, rest) = read_set(alloc, rest)?;
-                Ok((item, rest))
-            }
-            None => {
-                let (item, rest) = read_kept(alloc, begins_change(tokens), tokens)?;
-                Ok((item, rest))
-            }
+            Some(rest) => read_set(alloc, rest),
+            None => read_kept(alloc, begins_change(tokens), tokens),
         }
     }
 }

@@ -27,10 +27,7 @@ pub fn read_qualified(alloc: Global, tokens: &[Token]) -> Result<(Identifier, &[
     };
     let (second, rest) = read_identifier(alloc, after)?;
     match eat(rest, Terminal::Dot) {
-        Some(after) => {
-            let (last, rest) = read_identifier(alloc, after)?;
-            Ok((last, rest))
-        }
+        Some(after) => read_identifier(alloc, after),
         None => Ok((second, rest)),
     }
 }
@@ -64,10 +61,7 @@ fn read_modifier(tokens: &[Token]) -> Result<(Modifier, &[Token]), Refusal>
     };
     match eat(inside, Terminal::RightBracket) {
         Some(rest) => Ok((Modifier::Array, rest)),
-        None => {
-            let (modifier, rest) = read_numbers(inside)?;
-            Ok((modifier, rest))
-        }
+        None => read_numbers(inside),
     }
 }
 

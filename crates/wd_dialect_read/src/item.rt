@@ -75,8 +75,7 @@ impl Reader for Names {
         alloc: Global,
         tokens: &'t [Token],
     ) -> Result<(Identifier, &'t [Token]), Refusal> {
-        let (name, rest) = read_identifier(alloc, tokens)?;
-        Ok((name, rest))
+        read_identifier(alloc, tokens)
     }
 }
 
@@ -174,12 +173,10 @@ pub fn read_item(alloc: Global, tokens: &[Token]) -> Result<(Item, &[Token]), Re
 {
     if let Some(rest) = eat(tokens, Terminal::Constraint) {
         let (_, rest) = read_identifier(alloc, rest)?;
-        let (rule, rest) = read_rule(alloc, rest)?;
-        return Ok((rule, rest));
+        return read_rule(alloc, rest);
     }
     if begins_key(tokens) || note_at(tokens).is_some() {
-        let (rule, rest) = read_rule(alloc, tokens)?;
-        return Ok((rule, rest));
+        return read_rule(alloc, tokens);
     }
     let (column, rest) = read_column(alloc, tokens)?;
     Ok((Item::Column(column), rest))
@@ -201,8 +198,7 @@ impl Reader for Items {
     ghost item = { λ items. item_at };
 
     fn read<'t>(&self, alloc: Global, tokens: &'t [Token]) -> Result<(Item, &'t [Token]), Refusal> {
-        let (item, rest) = read_item(alloc, tokens)?;
-        Ok((item, rest))
+        read_item(alloc, tokens)
     }
 }
 

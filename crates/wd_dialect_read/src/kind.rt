@@ -4,7 +4,7 @@ ghost use Rattle.std.specs.Prelude.{◌≡◌, map};
 ghost use Rattle.wd_dialect_read.specs.Tokens.{kind_in, kind_named, with_modifier};
 
 /// What the values of a column are.
-#[derive(Clone, Copy, PartialEq, Eq)]
+#[derive(Clone, Copy)]
 pub enum ColumnKind {
     /// Whole numbers of 16 bits.
     Small,
@@ -71,7 +71,7 @@ const KINDS: [(&[u8], ColumnKind); 37] = [
 ];
 
 /// What is in brackets after the name of a type.
-#[derive(Clone, Copy, PartialEq, Eq)]
+#[derive(Clone, Copy)]
 pub enum Modifier {
     Nothing,
     One(u64),

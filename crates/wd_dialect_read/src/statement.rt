@@ -101,14 +101,10 @@ fn read_create(alloc: Global, tokens: &[Token]) -> Result<(Statement, &[Token]),
 {
     let rest = past_table_words(past_replace(tokens)?);
     match eat(rest, Terminal::Table) {
-        Some(rest) => {
-            let (statement, rest) = read_table(alloc, rest)?;
-            Ok((statement, rest))
-        }
+        Some(rest) => read_table(alloc, rest),
         None => {
             let rest = past_unique(rest);
-            let (statement, rest) = read_kept(begins_created(rest), rest)?;
-            Ok((statement, rest))
+            read_kept(begins_created(rest), rest)
         }
     }
 }
@@ -164,14 +160,8 @@ fn read_alter(alloc: Global, tokens: &[Token]) -> Result<(Statement, &[Token]), 
     ensures { Gives (λ x. (statement_said x.0, kinds_of x.1.now)) result (alter_at (kinds_of tokens.now)) }
 {
     match eat(tokens, Terminal::Table) {
-        Some(rest) => {
-            let (statement, rest) = read_changed(alloc, rest)?;
-            Ok((statement, rest))
-        }
-        None => {
-            let (statement, rest) = read_kept(begins_altered(tokens), tokens)?;
-            Ok((statement, rest))
-        }
+        Some(rest) => read_changed(alloc, rest),
+        None => read_kept(begins_altered(tokens), tokens),
     }
 }
 
@@ -183,8 +173,7 @@ fn read_other(tokens: &[Token]) -> Result<(Statement, &[Token]), Refusal>
     if eat(tokens, Terminal::Select).is_some() || eat(tokens, Terminal::Semicolon).is_some() {
         return Ok(pass(tokens));
     }
-    let (statement, rest) = read_kept(begins_statement(tokens), tokens)?;
-    Ok((statement, rest))
+    read_kept(begins_statement(tokens), tokens)
 }
 
 /// A statement, and the tokens after its semicolon.
@@ -193,15 +182,12 @@ fn read_statement(alloc: Global, tokens: &[Token]) -> Result<(Statement, &[Token
     ensures { Gives (λ x. (statement_said x.0, kinds_of x.1.now)) result (statement_at (kinds_of tokens.now)) }
 {
     if let Some(rest) = eat(tokens, Terminal::Create) {
-        let (statement, rest) = read_create(alloc, rest)?;
-        return Ok((statement, rest));
+        return read_create(alloc, rest);
     }
     if let Some(rest) = eat_text(tokens, "alter") {
-        let (statement, rest) = read_alter(alloc, rest)?;
-        return Ok((statement, rest));
+        return read_alter(alloc, rest);
     }
-    let (statement, rest) = read_other(tokens)?;
-    Ok((statement, rest))
+    read_other(tokens)
 }
 
 /// The statements of a schema. The refusal names the token at which they can't be read.

@@ -151,6 +151,5 @@ pub fn read_tail(alloc: Global, tokens: &[Token]) -> Result<(Vec<Mark>, &[Token]
     if !begins_tail(tokens) {
         return Err(unexpected_token(tokens));
     }
-    let (marks, rest) = read_marks(alloc, tokens)?;
-    Ok((marks, rest))
+    read_marks(alloc, tokens)
 }
