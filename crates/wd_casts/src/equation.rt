@@ -15,7 +15,7 @@ use wd_value::Text;
 const DAY: u64 = 86_400_000_000;
 
 /// The form in which the cast of an operand is written.
-#[derive(Clone, Copy, PartialEq, Eq)]
+#[derive(Clone, Copy)]
 pub enum Form {
     /// The operand itself.
     Same,
