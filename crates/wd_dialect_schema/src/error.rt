@@ -7,7 +7,7 @@ use std::alloc::{AllocError, AllocFailed};
 use wd_lex::LexError;
 
 /// Why a text of PostgreSQL is not read as a schema.
-#[derive(Clone, Copy, Debug)]
+#[derive(Clone, Copy)]
 pub enum DialectError {
     /// The masked text has no tokens.
     Tokens(LexError),
