@@ -8,7 +8,7 @@ use wd_resolve_call::KnownWindow;
 use wd_resolve_operand::Cause;
 
 /// The place of an expression in a query.
-#[derive(Clone, Copy, PartialEq, Eq, Debug)]
+#[derive(Clone, Copy)]
 pub enum Place {
     SelectList,
     On,
