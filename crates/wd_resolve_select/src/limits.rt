@@ -9,7 +9,7 @@ use wd_resolve_operand::{Cause, ResolveError, number};
 use wd_syntax::{Count, Limits, Offset};
 
 /// How many rows are left out, how many are then returned at most, and whether with ties.
-#[derive(Clone, Copy, PartialEq, Eq, Debug)]
+#[derive(Clone, Copy)]
 pub struct RowLimit {
     pub offset: u64,
     pub count: Option<u64>,
