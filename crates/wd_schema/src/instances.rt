@@ -16,7 +16,7 @@ use crate::table::{Column, Key, Table};
 use wd_value::{ColumnType, Instance, Row, Value, same};
 
 /// The instance does not meet the schema.
-#[derive(Clone, Copy, PartialEq, Eq)]
+#[derive(Clone, Copy)]
 pub struct Violation;
 
 /// Whether an instance meets a schema: it has a list of rows for each table, in order of declaration, and no further list. Each row has a
