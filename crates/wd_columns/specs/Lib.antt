@@ -1,9 +1,3 @@
-pub mod Along
-pub mod Moves
 pub mod Kept
 pub mod Owned
-pub mod Room
-pub mod Joined
-pub mod Pairs
 pub mod Pairing
-pub mod Stored

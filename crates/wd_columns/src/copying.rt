@@ -1,15 +1,14 @@
 //! Copies of rows.
 
 ghost use Rattle.std.specs.Prelude.{◌≡◌, ◌++◌, All, IfOk, IfSome, OnOk, length, map, true};
-ghost use Rattle.wd_columns.specs.Along as along;
-ghost use Rattle.wd_value.specs.Bags as bags;
+ghost use Rattle.wd_column_store.specs.Along as along;
 ghost use Rattle.wd_value.specs.Rows.{column_of, row_at, rows_at, rows_of};
 
-use crate::columns::Columns;
-use crate::joined::JoinedRows;
 use crate::own::OwnRows;
 use crate::source::RowSource;
 use std::alloc::Global;
+use wd_column_store::{Columns, all_positions};
+use wd_joined::JoinedRows;
 use wd_value::{OutOfMemory, Row, Value};
 
 /// Copies of the rows at these positions, in their order: kept column by column where they have as many values, and else row by row.
@@ -62,18 +61,6 @@ pub(crate) fn listed(alloc: Global, rows: &JoinedRows) -> Result<Vec<Row>, OutOf
     let all = all_positions(alloc, rows.len())?;
     let list = copied_rows(alloc, &RowSource::of_joined(rows), &all)?;
     Ok(list)
-}
-
-/// The first so many positions, in order.
-#[tactic(auto, using(crate::proofs::Positions::positions_push))]
-pub fn all_positions(alloc: Global, count: usize) -> Result<Vec<u64>, OutOfMemory>
-    ensures { IfOk result (λ v. v.items ≡ bags.positions count) }
-{
-    let mut all = Vec::with_capacity(alloc, count)?;
-    for position in 0..count {
-        all.push(position as u64)?;
-    }
-    Ok(all)
 }
 
 /// Whether each row at these positions has this number of values.

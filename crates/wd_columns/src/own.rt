@@ -1,21 +1,21 @@
 //! Rows of their own, however they are kept.
 
 ghost use Rattle.std.specs.Prelude.{◌≡◌, IfOk, length, map};
-ghost use Rattle.wd_columns.specs.Along.{values_before, with_values};
-ghost use Rattle.wd_columns.specs.Moves.{AreDifferent, AreWithin};
+ghost use Rattle.wd_column_store.specs.Along.{values_before, with_values};
+ghost use Rattle.wd_column_store.specs.Moves.{AreDifferent, AreWithin};
 ghost use Rattle.wd_columns.specs.Owned.{JoinedOr, rows_owned};
 ghost use Rattle.wd_value.specs.Rows.{columns_of, rows_at, rows_of};
 
-use crate::appending::with_values_beside;
-use crate::columns::Columns;
 use crate::copying;
-use crate::joined::JoinedRows;
-use crate::moved::moved_rows;
-use crate::picking::picked_columns;
 use crate::source::RowSource;
 use std::alloc::Global;
 use std::marker::Model;
+use wd_column_store::{Columns, moved_rows, picked_columns, with_values_beside};
+use wd_joined::JoinedRows;
 use wd_value::{OutOfMemory, Row, Value};
+
+/// Of how many joined rows one at most is picked where the picked ones are copied.
+const ROWS_FOR_EACH_COPY: usize = 64;
 
 /// How rows are kept.
 #[derive(Drop)]
@@ -26,7 +26,7 @@ enum Owned {
 }
 
 /// Rows of their own, which are kept row by row, column by column or by their positions in tables of their own. Contracts see the list
-/// of them. What is picked, selected or extended is kept as it was.
+/// of them. What is picked, selected or extended is kept as it was, but for few rows picked of many joined ones, which are copied.
 #[derive(Drop)]
 pub struct OwnRows {
     owned: Owned,
@@ -116,10 +116,7 @@ impl OwnRows {
                 let picked = columns.pick(alloc, positions)?;
                 Ok(OwnRows::of_columns(picked))
             }
-            Owned::ByPosition(rows) => {
-                let picked = rows.pick(alloc, positions)?;
-                Ok(OwnRows::of_joined(picked))
-            }
+            Owned::ByPosition(rows) => picked_of_joined(alloc, rows, positions),
         }
     }
 
@@ -179,7 +176,7 @@ impl OwnRows {
         let OwnRows { owned } = self;
         match owned {
             Owned::ByPosition(rows) => {
-                let extended = rows.with_column_of(alloc, others, after)?;
+                let extended = joined_with_column_of(alloc, rows, others, after)?;
                 Ok(OwnRows::of_joined(extended))
             }
             kept => {
@@ -199,5 +196,38 @@ impl OwnRows {
             Owned::ByColumn(columns) => columns.into_rows(alloc),
             Owned::ByPosition(rows) => copying::listed(alloc, &rows),
         }
+    }
+}
+
+/// Joined rows at these positions, in their order. Few of many are copied, so that their tables need not stay. Each is one of a row.
+fn picked_of_joined(
+    alloc: Global,
+    rows: JoinedRows,
+    positions: &[u64],
+) -> Result<OwnRows, OutOfMemory>
+    requires { AreWithin (length rows) positions.now }
+    ensures { IfOk result (λ r. r ≡ rows_at rows positions.now) }
+{
+    if positions.len() <= rows.len() / ROWS_FOR_EACH_COPY {
+        copying::copy_rows(alloc, &RowSource::of_joined(&rows), positions)
+    } else {
+        let picked = rows.pick(alloc, positions)?;
+        Ok(OwnRows::of_joined(picked))
+    }
+}
+
+/// Each joined row with a further value: that which stands so many places before the end of the other row at its position. Where the
+/// others are as many joined rows, these rows share that column.
+fn joined_with_column_of(
+    alloc: Global,
+    rows: JoinedRows,
+    others: &RowSource,
+    after: usize,
+) -> Result<JoinedRows, OutOfMemory>
+    ensures { IfOk result (λ j. j ≡ with_values rows (values_before others.now after)) }
+{
+    match others.shared_column(rows.len(), after)? {
+        Some(shared) => rows.with_shared(shared),
+        None => rows.with_column(copying::values_before(alloc, others, after)?),
     }
 }

@@ -2,12 +2,11 @@
 
 ghost use Rattle.std.specs.Prelude.{IfOk, length};
 ghost use Rattle.wd_columns.specs.Pairing.{IsPairing};
-ghost use Rattle.wd_columns.specs.Pairs.{AreOf};
+ghost use Rattle.wd_joined.specs.Pairs.{AreOf};
 
-use crate::joined::JoinedRows;
 use crate::own::OwnRows;
-use crate::pairs::{Pair, are_of};
 use std::alloc::Global;
+use wd_joined::{JoinedRows, Pair, are_of};
 use wd_value::OutOfMemory;
 
 /// The rows of pairs, or both sides as they were.

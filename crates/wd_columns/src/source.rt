@@ -2,18 +2,16 @@
 
 ghost use Rattle.std.specs.Option.{option_copied};
 ghost use Rattle.std.specs.Prelude.{◌≡◌, IfOk, IfSome, length, unwrap_or};
-ghost use Rattle.wd_columns.specs.Along.{values_before};
+ghost use Rattle.wd_column_store.specs.Along.{values_before};
 ghost use Rattle.wd_columns.specs.Kept.{rows_kept};
-ghost use Rattle.wd_columns.specs.Stored.{HasValues, Stores};
+ghost use Rattle.wd_joined.specs.Stored.{HasValues, Stores};
 ghost use Rattle.wd_value.specs.Rows as table;
 ghost use Rattle.wd_value.specs.Rows.{column_of, rows_of};
 ghost use Rattle.wd_value.specs.declared.value.Value.TheVariants as value;
 
-use crate::columns::Columns;
-use crate::joined::JoinedRows;
-use crate::origin::StoredColumn;
-use crate::shared::SharedColumn;
 use std::marker::Model;
+use wd_column_store::Columns;
+use wd_joined::{JoinedRows, SharedColumn, StoredColumn};
 use wd_value::{OutOfMemory, Row, Value};
 
 /// How rows are kept.

@@ -8,7 +8,7 @@ use Rattle.wd_value.specs.declared.value.Value.TheVariants.{Null}
 use Rattle.wd_value.specs.declared.value.Fault.{Fault}
 use Rattle.wd_value.specs.Bags.{positions}
 use Rattle.wd_value.specs.Rows.{Row, column_of, row_at}
-use Rattle.wd_columns.specs.Along.{values_before, with_values}
+use Rattle.wd_column_store.specs.Along.{values_before, with_values}
 use Rattle.wd_plan.specs.declared.window.Call.{Call}
 use Rattle.wd_plan.specs.Calls.{value_at}
 use Rattle.wd_plan.specs.Faults.{all_ok, and_then}

@@ -5,7 +5,7 @@ use Rattle.wd_value.specs.Bags.{EachOnce}
 use Rattle.wd_plan.specs.Partitions.{place_in}
 use Rattle.wd_partition.proofs.Marks.{below_once, own_place}
 use Rattle.wd_steps.specs.Cuts.{IsSliceOf}
-use Rattle.wd_columns.specs.Moves.{AreDifferent, AreWithin}
+use Rattle.wd_column_store.specs.Moves.{AreDifferent, AreWithin}
 
 -- in a list that has each position once, also in a part of it
 pub different : (n : ℕ) (ordering part : List ℕ) → EachOnce n ordering → IsSliceOf ordering part → AreDifferent part

@@ -6,7 +6,7 @@ use Rattle.wd_value.specs.declared.value.Value.{Value}
 use Rattle.wd_value.specs.declared.value.Fault.{Fault}
 use Rattle.wd_value.specs.Bags.{positions}
 use Rattle.wd_value.specs.Rows.{Row, row_at}
-use Rattle.wd_columns.specs.Along.{row_along}
+use Rattle.wd_column_store.specs.Along.{row_along}
 use Rattle.wd_plan.specs.Faults.{and_then}
 use Rattle.wd_plan.specs.Outcomes.{window_outcome}
 use Rattle.wd_plan.specs.Plans.{WindowRule}

@@ -7,9 +7,9 @@ use Rattle.std.specs.Prelude.{OnOk}
 use Rattle.wd_value.specs.declared.value.OutOfMemory.{OutOfMemory}
 use Rattle.wd_value.specs.declared.value.Fault.{Fault}
 use Rattle.wd_value.specs.Rows.{Row, rows_of}
-use Rattle.wd_columns.specs.Along.{rows_along, with_row}
-use Rattle.wd_columns.proofs.Pushes.{long as with_row_long}
-use Rattle.wd_columns.proofs.RowsAlong.{count as rows_count, longer, more}
+use Rattle.wd_column_store.specs.Along.{rows_along, with_row}
+use Rattle.wd_column_store.proofs.Pushes.{long as with_row_long}
+use Rattle.wd_column_store.proofs.RowsAlong.{count as rows_count, longer, more}
 use Rattle.wd_join.specs.Joins.{has_more_rows}
 use Rattle.wd_plan.specs.Faults.{all_ok, unless, values_among}
 use Rattle.wd_steps.specs.Faults.{with_fault}

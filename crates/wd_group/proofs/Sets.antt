@@ -13,8 +13,8 @@ use Rattle.wd_value.specs.Bags.{positions}
 use Rattle.wd_value.specs.Rows.{Row, column_of, columns_of, row_at, rows_at, same_row}
 use Rattle.wd_value.specs.Values.{same}
 use Rattle.wd_value.proofs.SameLaws.{same_row-Decides}
-use Rattle.wd_columns.proofs.Copied.{all_rows}
-use Rattle.wd_columns.proofs.Positions.{positions_push}
+use Rattle.wd_column_store.proofs.Copied.{all_rows}
+use Rattle.wd_column_store.proofs.Positions.{positions_push}
 use Rattle.wd_plan.specs.Faults.{and_then, least_fault, unless, values_among}
 use Rattle.wd_plan.specs.Outcomes.{distinct, group_row, group_value, rows_of_group, set_rows, shown}
 use Rattle.wd_plan.specs.Partitions.{members, partition_of}

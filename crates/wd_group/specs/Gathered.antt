@@ -2,7 +2,7 @@
 use Rattle.std.specs.Prelude.{◌≡◌, ℕ, ◌+◌, ◌++◌, IfOk, List, Result, length, take}
 use Rattle.wd_value.specs.declared.value.Fault.{Fault}
 use Rattle.wd_value.specs.Rows.{Row, rows_of}
-use Rattle.wd_columns.specs.Along.{AreLong, rows_along}
+use Rattle.wd_column_store.specs.Along.{AreLong, rows_along}
 use Rattle.wd_plan.specs.Faults.{least_fault, values_among}
 use Rattle.wd_group.specs.declared.gathered.Gathered.{Gathered}
 

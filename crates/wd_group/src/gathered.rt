@@ -1,7 +1,7 @@
 //! Rows gathered one after another, as far as they are needed, and the least fault among them. The rows' values go into columns.
 
 ghost use Rattle.std.specs.Prelude.{◌≡◌, ℕ, ◌+◌, ◌∷◌, [], Err, IfOk, List, OnOk, Result, false, true};
-ghost use Rattle.wd_columns.specs.Along.{with_row};
+ghost use Rattle.wd_column_store.specs.Along.{with_row};
 ghost use Rattle.wd_group.specs.Gathered.{AreAdded, AreFirst, HasWidth};
 ghost use Rattle.wd_join.specs.Joins.{has_more_rows};
 ghost use Rattle.wd_join.specs.declared.error.StepError.TheVariants as error;

@@ -18,7 +18,7 @@ use Rattle.wd_plan.specs.declared.expression.ComparisonOp.TheVariants as op
 use Rattle.wd_plan.specs.Expressions.{comparison, is_null, is_true}
 use Rattle.wd_sort.specs.Sorting.{compare_rows_at}
 use Rattle.wd_join.specs.declared.matching.JoinColumns.{JoinColumns}
-use Rattle.wd_columns.proofs.Copied.{all_rows}
+use Rattle.wd_column_store.proofs.Copied.{all_rows}
 use Rattle.wd_steps.specs.Repeats.{compare_rows}
 use Rattle.wd_join.specs.Matching.{AreBefore, IsEnd, IsSortedBy, IsAgreeingRange, agree, ascending, compare_in, compare_sides, is_before, lacks_key, left_keys, right_keys}
 use Rattle.wd_join.proofs.Deciding.{eq_turned}

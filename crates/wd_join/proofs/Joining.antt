@@ -18,7 +18,7 @@ use Rattle.wd_scalar.proofs.Faultless.{never_faults}
 use Rattle.wd_steps.specs.Faults.{with_result}
 use Rattle.wd_join.specs.declared.error.StepError.{StepError}
 use Rattle.wd_join.specs.declared.error.StepError.TheVariants.{TooManyRows}
-use Rattle.wd_columns.specs.declared.pairs.Pair.{Pair}
+use Rattle.wd_joined.specs.declared.pairs.Pair.{Pair}
 use Rattle.wd_join.specs.Joins.{AreKept, has_more_rows, pairs_or_fault_of, result_of, with_next, within}
 use Rattle.std.proofs.lemmas.Bool.{cases_lt, le-leb, lt-leb, lt-ltb, ltb-false, ltb-true}
 use Rattle.wd_steps.proofs.Results.{least_fault-push}

@@ -13,10 +13,10 @@ use Rattle.wd_plan.specs.Expressions.{Expression, And, and_result, is_true, valu
 use Rattle.wd_plan.specs.Faults.{and_then, has_fault, least_fault, unless}
 use Rattle.wd_plan.specs.Outcomes.{filter_outcome, pairs, passes}
 use Rattle.wd_join.specs.declared.matching.JoinColumns.{JoinColumns}
-use Rattle.wd_columns.specs.declared.pairs.Pair.{Pair}
+use Rattle.wd_joined.specs.declared.pairs.Pair.{Pair}
 use Rattle.wd_join.specs.declared.walk.RowRange.{RowRange}
 use Rattle.wd_join.specs.Matching.{AreAgreeingRanges, Equates, agree, equal, matching}
-use Rattle.wd_columns.specs.Pairs.{row_paired, rows_paired}
+use Rattle.wd_joined.specs.Pairs.{row_paired, rows_paired}
 use Rattle.wd_join.specs.Paired.{AreExact, HasExact, IsExact, with_each}
 use Rattle.wd_join.proofs.Agreeing.{any_append, matching_done, value_has}
 use Rattle.wd_join.proofs.Joining.{pairs_with}

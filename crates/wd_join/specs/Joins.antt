@@ -9,8 +9,8 @@ use Rattle.wd_plan.specs.Faults.{least_fault}
 use Rattle.wd_plan.specs.Outcomes.{RowsOrFault, filter_outcome, pairs, passes}
 use Rattle.wd_join.specs.declared.error.StepError.{StepError}
 use Rattle.wd_join.specs.declared.error.StepError.TheVariants.{TooManyRows}
-use Rattle.wd_columns.specs.declared.pairs.Pair.{Pair}
-use Rattle.wd_columns.specs.Pairs.{rows_paired}
+use Rattle.wd_joined.specs.declared.pairs.Pair.{Pair}
+use Rattle.wd_joined.specs.Pairs.{rows_paired}
 
 -- whether an outcome has more rows than this; a fault has no rows
 abbrev pub has_more_rows : ℕ → RowsOrFault → Bool

@@ -5,7 +5,7 @@ use Rattle.wd_value.specs.Rows.{Row, row_at}
 use Rattle.wd_plan.specs.declared.expression.ComparisonOp.TheVariants.{Equal}
 use Rattle.wd_plan.specs.Expressions.{Expression, Column, Compare, And, is_true, value_of}
 use Rattle.wd_join.specs.declared.matching.JoinColumns.{JoinColumns}
-use Rattle.wd_columns.specs.declared.pairs.Pair.{Pair}
+use Rattle.wd_joined.specs.declared.pairs.Pair.{Pair}
 use Rattle.wd_join.specs.Matching.{agree}
 
 -- a left position with each of some right ones

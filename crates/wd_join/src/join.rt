@@ -9,7 +9,7 @@ ghost use Rattle.wd_steps.specs.Faults.{with_result};
 ghost use Rattle.wd_join.specs.Joins as joins;
 ghost use Rattle.wd_join.specs.Joins.{AreKept, has_more_rows, pairs_or_fault_of};
 ghost use Rattle.wd_join.specs.Matching.{AreSkippable};
-ghost use Rattle.wd_columns.specs.Pairs.{row_paired, rows_paired};
+ghost use Rattle.wd_joined.specs.Pairs.{row_paired, rows_paired};
 ghost use Rattle.wd_join.specs.declared.error.StepError.TheVariants as error;
 ghost use Rattle.wd_value.specs.Rows.{Row};
 

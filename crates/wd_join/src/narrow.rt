@@ -4,7 +4,7 @@ ghost use Rattle.std.specs.Prelude.{IfOk};
 ghost use Rattle.wd_plan.specs.Expressions.{expression_of};
 ghost use Rattle.wd_plan.specs.Outcomes.{pairs};
 ghost use Rattle.wd_join.specs.Joins.{AreEnough};
-ghost use Rattle.wd_columns.specs.Pairs.{rows_paired};
+ghost use Rattle.wd_joined.specs.Pairs.{rows_paired};
 
 use crate::matching::matching_columns;
 use crate::paired::{agreeing_pairs, all_pairs};

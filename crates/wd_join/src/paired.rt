@@ -6,7 +6,7 @@ ghost use Rattle.wd_plan.specs.Outcomes as spec;
 ghost use Rattle.wd_plan.specs.Outcomes.{join_outcome};
 ghost use Rattle.wd_join.specs.Joins.{has_more_rows};
 ghost use Rattle.wd_join.specs.Matching.{matching};
-ghost use Rattle.wd_columns.specs.Pairs.{row_paired, rows_paired};
+ghost use Rattle.wd_joined.specs.Pairs.{row_paired, rows_paired};
 ghost use Rattle.wd_join.specs.Paired.{IsOfEqualities, with_each};
 ghost use Rattle.wd_join.specs.declared.error.StepError.TheVariants as error;
 ghost use Rattle.wd_value.specs.Rows.{column_of, columns_of, rows_of};

@@ -2,7 +2,7 @@
 use Rattle.std.proofs.Common.{◌≡◌, ◌∙◌, ℕ, true, false, true≢false, List, [], ◌∷◌, map, get_or, Ok, refl, sym, ap, subst}
 use Rattle.std.specs.Prelude.{IfNone, Option, Some, None}
 use Rattle.std.specs.List.{list_all}
-use Rattle.wd_columns.specs.Moves.{AreDifferent}
+use Rattle.wd_column_store.specs.Moves.{AreDifferent}
 use Rattle.wd_value.specs.Rows.{Row, column_of, columns_of}
 use Rattle.wd_plan.specs.Expressions.{Expression, Column, value_of}
 use Rattle.wd_plan.specs.Faults.{all_ok}

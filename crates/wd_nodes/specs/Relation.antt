@@ -10,7 +10,7 @@ use Rattle.wd_plan.specs.Plans.{GroupRule}
 use Rattle.wd_join.specs.declared.error.StepError.{StepError}
 use Rattle.wd_join.specs.declared.error.StepError.TheVariants.{TooManyRows, OutOfMemory}
 use Rattle.wd_join.specs.Joins.{has_more_rows}
-use Rattle.wd_columns.specs.Pairs.{rows_paired}
+use Rattle.wd_joined.specs.Pairs.{rows_paired}
 use Rattle.wd_nodes.specs.Results.{OkOr}
 use Rattle.wd_nodes.specs.declared.relation.Relation.{Relation}
 use Rattle.wd_nodes.specs.declared.relation.Relation.TheVariants.{Stored, Pairs', Joined}

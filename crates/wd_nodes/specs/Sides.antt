@@ -1,8 +1,8 @@
 -- What becomes of both sides of pairs.
 use Rattle.std.specs.Prelude.{◌≡◌, List, Result, Ok, Err}
 use Rattle.wd_value.specs.Rows.{Instance, Row}
-use Rattle.wd_columns.specs.declared.pairs.Pair.{Pair}
-use Rattle.wd_columns.specs.Pairs.{rows_paired}
+use Rattle.wd_joined.specs.declared.pairs.Pair.{Pair}
+use Rattle.wd_joined.specs.Pairs.{rows_paired}
 use Rattle.wd_nodes.specs.declared.sides.Sides.{Sides}
 use Rattle.wd_nodes.specs.declared.sides.Sides.TheVariants.{Joined, Apart}
 use Rattle.wd_nodes.specs.declared.stored.StoredRows.{StoredRows}

@@ -2,7 +2,7 @@
 //! that are small beside the pairs, the pairs' rows are their positions and no value is copied.
 
 ghost use Rattle.std.specs.Prelude.{◌≡◌, IfOk, IfSome};
-ghost use Rattle.wd_columns.specs.Pairs.{rows_paired};
+ghost use Rattle.wd_joined.specs.Pairs.{rows_paired};
 ghost use Rattle.wd_nodes.specs.Relation.{stored_rows_of};
 ghost use Rattle.wd_nodes.specs.Sides.{AreSides, OwnOr};
 ghost use Rattle.wd_nodes.specs.declared.stored.StoredRows.TheVariants as spec;

@@ -1,13 +1,13 @@
 //! Each step of a plan over the rows below it, but for a Window and a Limit.
 
 ghost use Rattle.std.specs.Prelude.{◌≡◌, ◌↔◌, ◌<◌, ◌^◌, ℕ, List, true, false, get_or, length, IfNone, IfOk, IfSome, IsTrue, map, nat_lt, None, Ok, option_map, Some};
-ghost use Rattle.wd_columns.specs.Moves.{AreDifferent};
+ghost use Rattle.wd_column_store.specs.Moves.{AreDifferent};
 ghost use Rattle.wd_nodes.specs.Held.{read_at};
 ghost use Rattle.wd_nodes.specs.Relation.{IsSmallOrLarge, joined_of, relation_of, relation_or_fault_of, stored_rows_of};
 ghost use Rattle.wd_plan.specs.Expressions.{Column, expression_of};
 ghost use Rattle.wd_plan.specs.Outcomes as spec;
 ghost use Rattle.wd_plan.specs.Plans.{HaveMasks, grouping_of};
-ghost use Rattle.wd_columns.specs.Pairs.{rows_paired};
+ghost use Rattle.wd_joined.specs.Pairs.{rows_paired};
 ghost use Rattle.wd_value.specs.Rows.{Instance};
 
 use crate::relation::{Relation, from_columns, from_pairs, has_more, narrow, store};

@@ -1,7 +1,7 @@
 //! Rows that a step reads where they are.
 
 ghost use Rattle.std.specs.Prelude.{◌≡◌, IfOk, length};
-ghost use Rattle.wd_columns.specs.Moves.{AreDifferent, AreWithin};
+ghost use Rattle.wd_column_store.specs.Moves.{AreDifferent, AreWithin};
 ghost use Rattle.wd_nodes.specs.Relation.{stored_rows_of};
 ghost use Rattle.wd_value.specs.Rows.{rows_at};
 

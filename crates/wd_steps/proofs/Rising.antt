@@ -3,7 +3,7 @@ use Rattle.std.proofs.Common.{◌≡◌, ℕ, ◌+◌, ◌<◌, ◌≤◌, List,
 use Rattle.std.proofs.lemmas.Bool.{cases_lt}
 use Rattle.std.proofs.lemmas.List.{get_or_append_left, get_or_push, length_push}
 use Rattle.std.proofs.lemmas.List.Elements.{All-push}
-use Rattle.wd_columns.specs.Moves.{AreDifferent, AreWithin}
+use Rattle.wd_column_store.specs.Moves.{AreDifferent, AreWithin}
 
 -- they rise, and stand before the next row
 pub record AreRisingTo (kept : List ℕ) (i : ℕ) : Type 0 where

@@ -6,8 +6,8 @@ use Rattle.wd_value.specs.declared.value.Value.TheVariants.{Null}
 use Rattle.wd_value.specs.declared.value.Fault.{Fault}
 use Rattle.wd_value.specs.declared.value.Fault.TheVariants.{DivisionByZero, OutOfRange}
 use Rattle.wd_value.specs.Rows.{Row}
-use Rattle.wd_columns.specs.Along.{rows_along}
-use Rattle.wd_columns.proofs.Copied.{values_along}
+use Rattle.wd_column_store.specs.Along.{rows_along}
+use Rattle.wd_column_store.proofs.Copied.{values_along}
 use Rattle.wd_plan.specs.Expressions.{Expression, value_of}
 use Rattle.wd_plan.specs.Faults.{all_ok, has_fault, least_fault, unless, values_among}
 use Rattle.wd_plan.specs.Outcomes.{map_outcome}

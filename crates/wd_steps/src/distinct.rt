@@ -8,7 +8,7 @@ ghost use Rattle.wd_plan.specs.Outcomes.{distinct};
 ghost use Rattle.wd_steps.specs.Repeats as spec;
 ghost use Rattle.wd_steps.specs.Repeats.{AreMarked, AreRepeats, IsRowSort};
 ghost use Rattle.wd_value.specs.Order as order;
-ghost use Rattle.wd_columns.specs.Moves.{AreDifferent, AreWithin};
+ghost use Rattle.wd_column_store.specs.Moves.{AreDifferent, AreWithin};
 ghost use Rattle.wd_value.specs.Rows.{column_of, row_at, rows_at};
 
 use std::alloc::Global;

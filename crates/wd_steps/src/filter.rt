@@ -1,7 +1,7 @@
 //! The rows for which a condition is true.
 
 ghost use Rattle.std.specs.Prelude.{◌≡◌, IfOk, List, length};
-ghost use Rattle.wd_columns.specs.Moves.{AreDifferent, AreWithin};
+ghost use Rattle.wd_column_store.specs.Moves.{AreDifferent, AreWithin};
 ghost use Rattle.wd_plan.specs.Expressions.{expression_of};
 ghost use Rattle.wd_plan.specs.Outcomes as spec;
 ghost use Rattle.wd_plan.specs.Faults.{unless};

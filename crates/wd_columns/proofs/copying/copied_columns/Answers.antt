@@ -2,10 +2,10 @@ use Rattle.std.proofs.Common.{◌≡◌, ◌∙◌, [], ◌∷◌, ◌++◌, ap,
 use Rattle.std.proofs.lemmas.List.{length-map, map_push}
 use Rattle.wd_value.specs.Bags.{positions}
 use Rattle.wd_value.specs.Rows.{row_at, rows_at, rows_of}
-use Rattle.wd_columns.specs.Along.{rows_along}
-use Rattle.wd_columns.proofs.Copied.{column_in, even_along}
-use Rattle.wd_columns.proofs.Places.{items}
-use Rattle.wd_columns.proofs.Positions.{positions_push}
+use Rattle.wd_column_store.specs.Along.{rows_along}
+use Rattle.wd_column_store.proofs.Copied.{column_in, even_along}
+use Rattle.wd_column_store.proofs.Places.{items}
+use Rattle.wd_column_store.proofs.Positions.{positions_push}
 use Rattle.wd_columns.proofs.copying.copied_columns.Goals as goal
 
 pub loop-column-preserved : goal.loop-column-preserved

@@ -1,7 +1,7 @@
 use Rattle.std.proofs.Common.{◌≡◌, map}
 use Rattle.wd_value.specs.Bags.{positions}
 use Rattle.wd_value.specs.Rows.{rows_at, rows_of}
-use Rattle.wd_columns.proofs.Copied.{column_in}
+use Rattle.wd_column_store.proofs.Copied.{column_in}
 use Rattle.wd_columns.proofs.copying.copied_columns.Given as goal
 
 abbrev pub invariant-loop-column : goal.invariant-loop-column

@@ -1,7 +1,7 @@
 use Rattle.std.proofs.Common.{◌≡◌, ◌∙◌, IfOk, ap, subst}
 use Rattle.wd_value.specs.Bags.{positions}
 use Rattle.wd_value.specs.Rows.{rows_at}
-use Rattle.wd_columns.proofs.Copied.{all_rows}
+use Rattle.wd_column_store.proofs.Copied.{all_rows}
 use Rattle.wd_columns.proofs.copying.copy_all.Goals as goal
 
 pub returns-in_ok-all-in-None : goal.returns-in_ok-all-in-None

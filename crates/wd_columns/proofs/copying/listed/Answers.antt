@@ -1,7 +1,7 @@
 use Rattle.std.proofs.Common.{◌∙◌, ap}
 use Rattle.wd_value.specs.Bags.{positions}
 use Rattle.wd_value.specs.Rows.{rows_at}
-use Rattle.wd_columns.proofs.Copied.{all_rows}
+use Rattle.wd_column_store.proofs.Copied.{all_rows}
 use Rattle.wd_columns.proofs.copying.listed.Goals as goal
 
 pub returns : goal.returns

@@ -1,6 +1,6 @@
 use Rattle.std.proofs.Common.{◌∙◌, ap, map, sym}
 use Rattle.std.proofs.lemmas.List.{map_push}
-use Rattle.wd_columns.specs.Along.{with_values}
+use Rattle.wd_column_store.specs.Along.{with_values}
 use Rattle.wd_eval.specs.Beside.{values_of, with_columns}
 use Rattle.wd_eval.proofs.Beside.{beside_more, beside_none}
 use Rattle.wd_eval.proofs.calls.with_columns.Goals as goal

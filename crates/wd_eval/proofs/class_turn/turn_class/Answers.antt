@@ -4,7 +4,7 @@ use Rattle.std.proofs.lemmas.List.{get_or-map, get_or_default}
 use Rattle.wd_value.specs.declared.value.Value.TheVariants.{Null}
 use Rattle.wd_value.specs.declared.value.Fault.TheVariants.{OutOfRange}
 use Rattle.wd_value.specs.Rows.{Row, column_of, row_at}
-use Rattle.wd_columns.specs.Along.{values_before, with_values}
+use Rattle.wd_column_store.specs.Along.{values_before, with_values}
 use Rattle.wd_plan.specs.declared.window.Call.{Call}
 use Rattle.wd_plan.specs.Outcomes.{call_at}
 use Rattle.wd_plan.specs.Plans.{window_of}

@@ -1,6 +1,6 @@
 use Rattle.std.proofs.Common.{◌≡◌, ◌∙◌, ◌≤◌, ◌<◌, Ok, ap, arith, length}
 use Rattle.std.proofs.lemmas.Bool.{le-ltb}
-use Rattle.wd_columns.proofs.RowsAlong.{count as rows_count}
+use Rattle.wd_column_store.proofs.RowsAlong.{count as rows_count}
 use Rattle.wd_value.specs.Rows.{rows_of}
 use Rattle.wd_group.proofs.First.{AreFirst-all, AreFirst-more}
 use Rattle.wd_group.proofs.gathered.rows_within.Goals as goal

@@ -3,7 +3,7 @@ use Rattle.std.specs.Prelude.{IfErr}
 use Rattle.wd_plan.specs.Expressions.{expression_of}
 use Rattle.wd_plan.specs.Outcomes.{filter_outcome, pairs}
 use Rattle.wd_join.specs.Joins.{has_more_rows}
-use Rattle.wd_columns.specs.Pairs.{rows_paired}
+use Rattle.wd_joined.specs.Pairs.{rows_paired}
 use Rattle.wd_join.proofs.Joining.{kept_within}
 use Rattle.wd_join.proofs.join.join_pairs.Goals as goal
 

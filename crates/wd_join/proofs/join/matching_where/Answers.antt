@@ -5,10 +5,10 @@ use Rattle.wd_plan.specs.Expressions.{expression_of, value_of}
 use Rattle.wd_plan.specs.Outcomes.{passes}
 use Rattle.wd_scalar.specs.Arithmetic.{has_arithmetic}
 use Rattle.wd_steps.specs.Faults.{with_result}
-use Rattle.wd_columns.specs.declared.pairs.Pair.{Pair}
+use Rattle.wd_joined.specs.declared.pairs.Pair.{Pair}
 use Rattle.wd_join.specs.Joins.{AreKept, with_next}
 use Rattle.wd_join.specs.Matching.{AreAgreeing, matching}
-use Rattle.wd_columns.specs.Pairs.{row_paired, rows_paired}
+use Rattle.wd_joined.specs.Pairs.{row_paired, rows_paired}
 use Rattle.wd_join.proofs.Agreeing.{AreKept-pairs, AreSkippable-take, matching_done, matching_next}
 use Rattle.wd_join.proofs.Joining.{AreKept-enough, AreKept-more, map-with_next}
 use Rattle.wd_join.proofs.join.matching_where.Goals as goal

@@ -3,7 +3,7 @@ use Rattle.wd_value.specs.Rows.{row_at, rows_at}
 use Rattle.wd_plan.specs.Expressions.{expression_of}
 use Rattle.wd_join.specs.Joins.{AreKept}
 use Rattle.wd_join.specs.Matching.{matching}
-use Rattle.wd_columns.specs.Pairs.{rows_paired}
+use Rattle.wd_joined.specs.Pairs.{rows_paired}
 use Rattle.wd_join.proofs.Joining.{pairs_with}
 use Rattle.wd_join.proofs.join.matching_where.Given as goal
 

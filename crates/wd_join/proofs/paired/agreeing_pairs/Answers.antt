@@ -1,7 +1,7 @@
 use Rattle.std.proofs.Common.{◌≡◌, ◌∙◌, ◌+◌, ◌-◌, ◌<◌, ◌++◌, ap, drop, get_or, length, take, rules, arith}
 use Rattle.std.proofs.lemmas.List.{length-append}
 use Rattle.wd_join.specs.Matching.{AreAgreeing}
-use Rattle.wd_columns.specs.Pairs.{rows_paired}
+use Rattle.wd_joined.specs.Pairs.{rows_paired}
 use Rattle.wd_join.specs.Paired.{with_each}
 use Rattle.wd_join.proofs.Pairing.{length-with_each, paired_more, paired_past}
 use Rattle.wd_join.proofs.paired.agreeing_pairs.Goals as goal

@@ -1,6 +1,6 @@
 use Rattle.std.proofs.Common.{◌≡◌, ◌≤◌, length, take}
 use Rattle.wd_join.specs.Matching.{matching}
-use Rattle.wd_columns.specs.Pairs.{rows_paired}
+use Rattle.wd_joined.specs.Pairs.{rows_paired}
 use Rattle.wd_join.proofs.paired.agreeing_pairs.Given as goal
 
 abbrev pub invariant-loop-i : goal.invariant-loop-i

@@ -2,8 +2,8 @@ use Rattle.std.proofs.Common.{◌∙◌, ◌++◌, [], ◌∷◌, ◌<◌, ◌�
 use Rattle.std.proofs.lemmas.List.{map_push}
 use Rattle.wd_value.specs.Rows.{row_at}
 use Rattle.wd_plan.specs.Outcomes.{pairs}
-use Rattle.wd_columns.specs.declared.pairs.Pair.{Pair}
-use Rattle.wd_columns.specs.Pairs.{row_paired, rows_paired}
+use Rattle.wd_joined.specs.declared.pairs.Pair.{Pair}
+use Rattle.wd_joined.specs.Pairs.{row_paired, rows_paired}
 use Rattle.wd_join.proofs.Joining.{pairs_more, pairs_next}
 use Rattle.wd_join.proofs.paired.all_pairs.Goals as goal
 

@@ -1,7 +1,7 @@
 use Rattle.std.proofs.Common.{◌≡◌, ◌++◌, take}
 use Rattle.wd_value.specs.Rows.{row_at}
 use Rattle.wd_plan.specs.Outcomes.{pairs}
-use Rattle.wd_columns.specs.Pairs.{rows_paired}
+use Rattle.wd_joined.specs.Pairs.{rows_paired}
 use Rattle.wd_join.proofs.Joining.{pairs_with}
 use Rattle.wd_join.proofs.paired.all_pairs.Given as goal
 

@@ -2,7 +2,7 @@ use Rattle.std.proofs.Common.{◌≡◌, ◌+◌, All, length, rules, arith}
 use Rattle.std.proofs.lemmas.List.{length-append}
 use Rattle.std.proofs.lemmas.List.Elements.{All-map, All-weaker}
 use Rattle.wd_value.specs.Rows.{row_at}
-use Rattle.wd_columns.specs.Pairs.{row_paired}
+use Rattle.wd_joined.specs.Pairs.{row_paired}
 use Rattle.wd_join.proofs.paired.have_widths.Goals as goal
 
 pub returns : goal.returns

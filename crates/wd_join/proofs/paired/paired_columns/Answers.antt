@@ -1,8 +1,8 @@
 use Rattle.std.proofs.Common.{◌∙◌, ◌≤◌, ap, length, map, arith}
 use Rattle.std.proofs.lemmas.List.{length-map, take_all}
-use Rattle.wd_columns.specs.Along.{rows_along}
-use Rattle.wd_columns.proofs.Copied.{column_in, columns_along}
-use Rattle.wd_columns.specs.Pairs.{row_paired, rows_paired}
+use Rattle.wd_column_store.specs.Along.{rows_along}
+use Rattle.wd_column_store.proofs.Copied.{column_in, columns_along}
+use Rattle.wd_joined.specs.Pairs.{row_paired, rows_paired}
 use Rattle.wd_join.proofs.paired.paired_columns.Goals as goal
 
 pub returns : goal.returns

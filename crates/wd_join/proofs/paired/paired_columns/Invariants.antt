@@ -1,7 +1,7 @@
 use Rattle.std.proofs.Common.{◌≡◌, map, take}
 use Rattle.wd_value.specs.Rows.{rows_of}
-use Rattle.wd_columns.specs.Pairs.{rows_paired}
-use Rattle.wd_columns.proofs.Copied.{column_in}
+use Rattle.wd_joined.specs.Pairs.{rows_paired}
+use Rattle.wd_column_store.proofs.Copied.{column_in}
 use Rattle.wd_join.proofs.paired.paired_columns.Given as goal
 
 abbrev pub invariant-loop-column : goal.invariant-loop-column

@@ -1,7 +1,7 @@
 use Rattle.std.proofs.Common.{◌∙◌, ap, map}
 use Rattle.wd_value.specs.Rows.{columns_of}
-use Rattle.wd_columns.proofs.Copied.{even}
-use Rattle.wd_columns.specs.Pairs.{rows_paired}
+use Rattle.wd_column_store.proofs.Copied.{even}
+use Rattle.wd_joined.specs.Pairs.{rows_paired}
 use Rattle.wd_join.proofs.paired.paired_rows.Goals as goal
 
 pub returns-in_ok-columns-in-Some : goal.returns-in_ok-columns-in-Some

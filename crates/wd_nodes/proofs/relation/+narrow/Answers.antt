@@ -4,7 +4,7 @@ use Rattle.wd_value.specs.Rows.{Row}
 use Rattle.wd_plan.specs.Expressions.{expression_of}
 use Rattle.wd_plan.specs.Outcomes.{pairs}
 use Rattle.wd_join.specs.Joins.{AreEnough}
-use Rattle.wd_columns.specs.Pairs.{rows_paired}
+use Rattle.wd_joined.specs.Pairs.{rows_paired}
 use Rattle.wd_nodes.specs.Relation.{relation_of, stored_rows_of}
 use Rattle.wd_nodes.proofs.Enough.{AreEnough-pairs}
 use Rattle.wd_nodes.proofs.relation.+narrow.Goals as goal

@@ -2,7 +2,7 @@ use Rattle.std.proofs.Common.{◌≡◌, ◌∙◌, Ok, map, sym, ap}
 use Rattle.wd_value.specs.Rows.{columns_of}
 use Rattle.wd_plan.specs.Expressions.{Column, expression_of}
 use Rattle.wd_plan.specs.Outcomes.{map_outcome}
-use Rattle.wd_columns.specs.Pairs.{rows_paired}
+use Rattle.wd_joined.specs.Pairs.{rows_paired}
 use Rattle.wd_nodes.proofs.Selected.{columns_outcome}
 use Rattle.wd_nodes.proofs.step.map_apart.Goals as goal
 

@@ -2,7 +2,7 @@ use Rattle.std.proofs.Common.{◌∙◌, ◌∷◌, ◌++◌, [], ap, map, sym}
 use Rattle.std.proofs.lemmas.List.{map_push}
 use Rattle.wd_value.specs.Bags.{positions}
 use Rattle.wd_value.specs.Keys.{ascending}
-use Rattle.wd_columns.proofs.Positions.{positions_push}
+use Rattle.wd_column_store.proofs.Positions.{positions_push}
 use Rattle.wd_steps.proofs.distinct.ascending_columns.Goals as goal
 
 pub loop-column-preserved : goal.loop-column-preserved

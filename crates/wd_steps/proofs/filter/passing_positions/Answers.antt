@@ -1,6 +1,6 @@
 use Rattle.std.proofs.Common.{◌≡◌, ◌<◌, ◌≤◌, length, arith, rules, ap, ◌∙◌, subst, sym}
 use Rattle.std.proofs.lemmas.Result.{IfOk-weaker}
-use Rattle.wd_columns.specs.Moves.{AreDifferent, AreWithin}
+use Rattle.wd_column_store.specs.Moves.{AreDifferent, AreWithin}
 use Rattle.wd_value.specs.Rows.{row_at}
 use Rattle.wd_plan.specs.Expressions.{expression_of, value_of}
 use Rattle.wd_plan.specs.Outcomes.{passes}

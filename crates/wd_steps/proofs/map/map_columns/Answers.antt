@@ -2,7 +2,7 @@ use Rattle.std.proofs.Common.{◌≡◌, ◌∙◌, ℕ, ◌<◌, ◌≤◌, Lis
 use Rattle.std.proofs.lemmas.List.{map_push, take_all}
 use Rattle.wd_value.specs.Rows.{Row, rows_of}
 use Rattle.wd_value.specs.declared.value.Fault.{Fault}
-use Rattle.wd_columns.specs.Along.{rows_along}
+use Rattle.wd_column_store.specs.Along.{rows_along}
 use Rattle.wd_plan.specs.declared.expression.Expr.{Expr}
 use Rattle.wd_plan.specs.Expressions.{Expression, expression_of, value_of}
 use Rattle.wd_plan.specs.Faults.{all_ok, unless}

@@ -2,9 +2,9 @@ use Rattle.std.proofs.Common.{◌≡◌, ◌∙◌, ◌+◌, [], ◌∷◌, ◌+
 use Rattle.std.proofs.lemmas.Result.{err_from_is_err_and}
 use Rattle.wd_schema.specs.Tables.{table_of}
 use Rattle.wd_value.specs.Rows.{rows_of}
-use Rattle.wd_columns.specs.Along.{rows_along}
-use Rattle.wd_columns.proofs.Pushes.{long as long_row}
-use Rattle.wd_columns.proofs.RowsAlong.{longer, more}
+use Rattle.wd_column_store.specs.Along.{rows_along}
+use Rattle.wd_column_store.proofs.Pushes.{long as long_row}
+use Rattle.wd_column_store.proofs.RowsAlong.{longer, more}
 use Rattle.wd_tables.specs.Data.{most_records}
 use Rattle.wd_tables.proofs.LoadFacts.{first_accepted, fits_all, holds_all, holds_more, read_refused, row_wide, too_many}
 use Rattle.wd_tables.proofs.data.read_data.Goals as goal

@@ -1,6 +1,6 @@
 use Rattle.std.proofs.Common.{◌≡◌, ◌+◌, ℕ, List, [], length}
 use Rattle.wd_value.specs.Rows.{rows_of}
-use Rattle.wd_columns.specs.Along.{AreLong, rows_along}
+use Rattle.wd_column_store.specs.Along.{AreLong, rows_along}
 use Rattle.wd_tables.specs.Reading.{HasPlaces, HasRead, HoldsFirst}
 use Rattle.wd_tables.proofs.data.read_data.Given as goal
 

@@ -1,6 +1,0 @@
-use Rattle.std.proofs.Common.{◌≡◌, take}
-use Rattle.wd_columns.specs.Joined.{positions_at}
-use Rattle.wd_columns.proofs.joined.positions_at.Given as goal
-
-abbrev pub invariant-loop-place : goal.invariant-loop-place
-invariant-loop-place l = l.picked.items ≡ positions_at (take l.place-index l.places) l.list

@@ -1,0 +1,5 @@
+use Rattle.std.proofs.Common.{◌≡◌, map, take}
+use Rattle.wd_joined.proofs.pairs.right_positions.Given as goal
+
+abbrev pub invariant-loop-pair : goal.invariant-loop-pair
+invariant-loop-pair l = l.positions.items ≡ map (λ pair. pair.right) (take l.pair-index l.pairs)
