@@ -5,6 +5,6 @@
 #![tactic(auto)]
 
 mod copied;
-mod lighter;
+mod plan;
 
-pub use lighter::lighter;
+pub use plan::lighter;

@@ -18,7 +18,7 @@ AreSameOn read rows others = map (mask read) rows ≡ map (mask read) others
 abbrev pub AreAlikeOn : Read → RowsOrFault → RowsOrFault → Type 0
 AreAlikeOn read a b = over (map (mask read)) a ≡ over (map (mask read)) b
 
-same_rows : (read : Read) (rows others : List Row) → AreAlikeOn read (Ok rows) (Ok others) → AreSameOn read rows others
+pub same_rows : (read : Read) (rows others : List Row) → AreAlikeOn read (Ok rows) (Ok others) → AreSameOn read rows others
 same_rows read rows others e = cc
 
 -- a step over outcomes that are alike, of which this is known

@@ -34,7 +34,7 @@ use Rattle.wd_simpler.specs.Simpler.{Read, after, and_also, condition_reads, eve
 use Rattle.wd_simpler.specs.Numbers.{numbers_of}
 
 -- the orderings stay
-count_stays : (tables : List TableRule) (plan : PlanTree) (read : Read) → ordering_count (narrowed tables plan read) ≡ ordering_count plan
+pub count_stays : (tables : List TableRule) (plan : PlanTree) (read : Read) → ordering_count (narrowed tables plan read) ≡ ordering_count plan
 count_stays tables (Scan table columns) read = refl
 count_stays tables (Join condition left right) read =
     let more = and_also read (condition_reads condition) in
@@ -43,10 +43,10 @@ count_stays tables (Over (Window w) input) read = λ i. count_stays tables input
 count_stays tables (Over step input) read = ap (λ n. n + length (step_classes step)) (count_stays tables input _)
 
 -- a plan and another one under a choice
-record Narrows (plan other : PlanTree) (read : Read) (instance : Instance) (choice : List (List ℕ)) : Type 0 where
-  lawful : AreLawful plan instance choice → AreLawful other instance choice
-  back : AreLawful other instance choice → AreLawful plan instance choice
-  alike : AreLawful plan instance choice → AreAlikeOn read (outcome plan instance choice) (outcome other instance choice)
+pub record Narrows (plan other : PlanTree) (read : Read) (instance : Instance) (choice : List (List ℕ)) : Type 0 where
+  pub lawful : AreLawful plan instance choice → AreLawful other instance choice
+  pub back : AreLawful other instance choice → AreLawful plan instance choice
+  pub alike : AreLawful plan instance choice → AreAlikeOn read (outcome plan instance choice) (outcome other instance choice)
 
 -- a fact of the rows, and that there are none where that is known
 both_known : (P : List Row → Type 0) (none : Bool) (r : RowsOrFault) → AtRows r P (Unit {0}) → (none ≡ true → HasNone r) → AtRows r (λ rows. P rows × (none ≡ true → AreNone rows)) (Unit {0})
@@ -54,7 +54,7 @@ both_known P none (Ok rows) p h = (p, h)
 both_known P none (Err fault) p h = tt
 
 -- what is so of the rows, by a fact of them
-at_known : (G P P' : List Row → Type 0) (Q : Type 0) → ((rows : List Row) → G rows → P rows → P' rows) → (r : RowsOrFault) → AtRows r G (Unit {0}) → AtRows r P Q → AtRows r P' Q
+pub at_known : (G P P' : List Row → Type 0) (Q : Type 0) → ((rows : List Row) → G rows → P rows → P' rows) → (r : RowsOrFault) → AtRows r G (Unit {0}) → AtRows r P Q → AtRows r P' Q
 at_known G P P' Q h (Ok rows) g p = h rows g p
 at_known G P P' Q h (Err fault) g p = p
 
@@ -103,7 +103,7 @@ module _ (tables : List TableRule) (instance : Instance) (meets : Meets tables i
   over_step : (input other : PlanTree) (more : Read) (choice : List (List ℕ)) (below : Narrows input other more instance choice) (read : Read) (f g : List Row → RowsOrFault) → ((rows others : List Row) → AreSameOn more rows others → AreAlikeOn read (f rows) (g others)) → AreLawful input instance choice → AreAlikeOn read (and_then (outcome input instance choice) f) (and_then (outcome other instance choice) g)
   over_step input other more choice below read f g h lawful = step_alike (λ rows. Unit {0}) more read f g (λ rows others q e. h rows others e) (outcome input instance choice) (outcome other instance choice) (always (outcome input instance choice)) (below.alike lawful)
 
-  narrows : (plan : PlanTree) (read : Read) (choice : List (List ℕ)) → fits tables plan ≡ true → Narrows plan (narrowed tables plan read) read instance choice
+  pub narrows : (plan : PlanTree) (read : Read) (choice : List (List ℕ)) → fits tables plan ≡ true → Narrows plan (narrowed tables plan read) read instance choice
   narrows (Scan table columns) read choice fit = record { lawful = λ a. a; back = λ a. a; alike = λ a. refl }
   narrows (Join condition left right) read choice fit =
       let fit_sides = and_parts (fits tables left) (fits tables right) (and_parts _ _ fit).0 in

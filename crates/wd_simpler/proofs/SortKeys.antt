@@ -267,6 +267,16 @@ module _ (input : PlanTree) (rows : List Row) (gives : AllByRecursion (GivesBack
   pub ordering_unkeyed : (partition : List ℕ) (keys : List SortColumn) (ordering : List ℕ) → IsOrdering (record { partition = partition; order = keyed input keys }) rows ordering → IsOrdering (record { partition = partition; order = keys }) rows ordering
   ordering_unkeyed partition keys ordering = ordering_from (GivesBack input) keys (added_keys input keys) (given_keys input keys) partition rows ordering gives
 
+  -- rows at any two places compare alike with the keys' columns and without them
+  pub compare_keyed : (before keys : List SortColumn) (p q : ℕ) → compare_keys (before ++ keyed input keys) (row_at rows p) (row_at rows q) ≡ compare_keys (before ++ keys) (row_at rows p) (row_at rows q)
+  compare_keyed before keys p q =
+      let a = row_at rows p in
+      let b = row_at rows q in
+      let given = λ (n : ℕ). at_any_place (GivesBack input) rows n [] gives (empty_gives input) in
+      compare_append before (keyed input keys) a b
+      ∙ ap (ordering_then (compare_keys before a b)) (compare_more (GivesBack input) keys (added_keys input keys) (given_keys input keys) a b (given p) (given q))
+      ∙ sym (compare_append before keys a b)
+
   value_keyed : (class : ClassRule) (frame : Frame) → goes_by_distance frame ≡ false → (function : Function) (ordering : List ℕ) (r : ℕ) → value_at (keyed_class input class) frame function rows ordering r ≡ value_at class frame function rows ordering r
   value_keyed class frame steady function ordering r = value_more (GivesBack input) class.order (added_keys input class.order) (given_keys input class.order) class.partition (empty_gives input) frame steady function rows ordering gives r
 
@@ -310,6 +320,14 @@ class_keyed : (input : PlanTree) (classes : List ClassRule) (n : ℕ) → slice_
 class_keyed input [] n = refl
 class_keyed input (class ∷ classes) zero = refl
 class_keyed input (class ∷ classes) (suc n) = class_keyed input classes n
+
+-- what is so of a class with the keys' columns, and then of the class without them, is so of that of a Window
+pub at_keyed : (P : ClassRule → Type 0) (input : PlanTree) (w : WindowRule) (n : ℕ) → (P (keyed_class input (class_at w n)) → P (class_at w n)) → P (class_at (keyed_window input w) n) → P (class_at w n)
+at_keyed P input w n h = by (goes w)
+  where
+    by : (b : Bool) → P (class_at (keyed_if b input w) n) → P (class_at w n)
+    by true p = p
+    by false p = h (subst P (class_keyed input w.classes n) p)
 
 all_steady : (calls : List Call) → list_any (λ (call : Call). goes_by_distance call.frame) calls ≡ false → AllByRecursion (λ (call : Call). goes_by_distance call.frame ≡ false) calls
 all_steady [] h = tt
