@@ -1,17 +1,16 @@
 -- A plan beside the simpler one: over both the same choices are sorted, and their steps have as many rows.
-use Rattle.std.proofs.Common.{◌≡◌, ℕ, zero, suc, ◌+◌, ◌<◌, ◌≤◌, Bool, true, ◌||◌, List, [], ◌∷◌, flat_map, length, take, drop, refl, sym, ◌∙◌, ap, subst, arith, length-drop, length-take, Option, Ok, Err}
+use Rattle.std.proofs.Common.{◌≡◌, ℕ, zero, suc, ◌+◌, ◌<◌, ◌≤◌, true, ◌||◌, List, [], ◌∷◌, flat_map, length, take, drop, refl, sym, ◌∙◌, ap, subst, arith, length-drop, length-take, Option}
 use Rattle.std.specs.List.{AllByRecursion}
 use Rattle.std.proofs.lemmas.Bool.{and_parts}
 use Rattle.std.proofs.lemmas.List.{get_or-drop, get_or-take}
-use Rattle.wd_value.specs.declared.order.SortColumn.{SortColumn}
 use Rattle.wd_value.specs.Keys.{key_columns}
-use Rattle.wd_value.specs.Rows.{Instance, Row}
+use Rattle.wd_value.specs.Rows.{Instance}
 use Rattle.wd_schema.specs.Meets.{Meets}
 use Rattle.wd_schema.specs.Tables.{TableRule}
 use Rattle.wd_plan.specs.Choices.{AreLawful}
 use Rattle.wd_plan.specs.Fits.{fits, width}
-use Rattle.wd_plan.specs.Outcomes.{RowsOrFault, class_among, class_at, ordering_at, outcome}
-use Rattle.wd_plan.specs.Plans.{ClassRule, WindowRule, LimitRule, Step, PlanTree, Scan, Join, Over, Filter, Map, Group, Window, Distinct, Limit, has, limit_class, ordering_count, own_orderings, step_classes}
+use Rattle.wd_plan.specs.Outcomes.{class_among, class_at, ordering_at, outcome}
+use Rattle.wd_plan.specs.Plans.{ClassRule, Step, PlanTree, Scan, Join, Over, Filter, Map, Group, Window, Distinct, Limit, has, limit_class, ordering_count, own_orderings, step_classes}
 use Rattle.wd_partition.specs.declared.turn.Turn.{Turn}
 use Rattle.wd_eval.specs.Steps.{has_large_step}
 use Rattle.wd_eval.specs.Tied.{AreTied, IsSortedOrdering, IsSortedOver, turn_of}
