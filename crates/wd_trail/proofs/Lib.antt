@@ -1,4 +1,5 @@
 pub mod Giving
 pub mod Trails
 pub mod Windows
+pub mod ByPeers
 pub mod Told

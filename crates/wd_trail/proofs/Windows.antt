@@ -9,27 +9,34 @@ use Rattle.wd_join.specs.Joins.{has_more_rows}
 use Rattle.wd_nodes.specs.Relation.{most_rows}
 use Rattle.wd_partition.specs.declared.turn.Turn.{Turn}
 use Rattle.wd_partition.specs.declared.turn.Turn.TheVariants.{AsGiven}
-use Rattle.wd_eval.specs.Tied.{IsSortedOver, turn_of, turned_at}
+use Rattle.wd_eval.specs.Tied.{IsSortedOrdering, IsSortedOver, turn_of, turned_at}
 use Rattle.wd_eval.specs.Ties.{AreSortedOver}
-use Rattle.wd_eval.specs.Turning.{IsStepUnder, IsTurnedWindow, rows_turned}
+use Rattle.wd_eval.specs.Turning.{AreSameButFor, IsStepUnder, IsTurnedWindow, rows_turned}
 use Rattle.wd_eval.proofs.Putting.{lawful_all}
 use Rattle.wd_eval.proofs.Sizes.{fewer_step}
 use Rattle.wd_trail.proofs.Giving.{as_given}
 
 -- ---- one class of it turned
 
+-- all orderings are sorted where that of this class is sorted in its turn, and the other classes have the same as before
+pub sorted_others : (w : WindowRule) (rows : List Row) (class : ℕ) (turn : Turn) (own others : List (List ℕ)) → AreSortedOver w.classes (Ok rows) None 0 (length w.classes) own → AreSameButFor class own others → IsSortedOrdering (class_at w class) turn rows (ordering_at others class)
+    → AreSortedOver w.classes (Ok rows) (Some (turned_at turn class)) 0 (length w.classes) others
+sorted_others w rows class turn own others all same this =
+    let turned = turned_at turn class in
+    let IsOwn = λ (k : ℕ) (u : Turn) (ordering : List ℕ). IsSortedOver (class_at w k) u (Ok rows) ordering in
+    let each : (k : ℕ) → k < length w.classes → IsOwn k (turn_of (Some turned) k) (ordering_at others k) = λ k h. elim (cases_eq k class) [
+      | inl e ↦ (
+          let here : turn_of (Some turned) k ≡ turn = ap (λ b. cond b turn AsGiven) (eq-eqb class k (sym e)) in
+          subst (λ u. IsOwn k u (ordering_at others k)) (sym here) (subst (λ c. IsOwn c turn (ordering_at others c)) (sym e) this))
+      | inr other ↦ subst (λ u. IsOwn k u (ordering_at others k)) (sym (as_given turned k (λ e. other (sym e)))) (subst (IsOwn k AsGiven) (sym (same.same k other)) (all.each k h))
+    ] in
+    record { long = same.long ∙ all.long; each = λ k h. subst (λ m. IsOwn k (turn_of (Some turned) m) (ordering_at others k)) (sym (zero-add k)) (each k h) }
+
 pub window_step : (w : WindowRule) (rows : List Row) (class : ℕ) (turn : Turn) (given found : RowsOrFault) → nat_lt most_rows (length rows) ≡ false → (s : IsStepUnder (Window w) rows None given) → IsTurnedWindow w rows s.own class turn found
     → IsStepUnder (Window w) rows (Some (turned_at turn class)) found
 window_step w rows class turn given found small s t =
     let turned = turned_at turn class in
-    let IsOwn = λ (k : ℕ) (u : Turn) (ordering : List ℕ). IsSortedOver (class_at w k) u (Ok rows) ordering in
-    let each : (k : ℕ) → k < length w.classes → IsOwn k (turn_of (Some turned) k) (ordering_at t.others k) = λ k h. elim (cases_eq k class) [
-      | inl e ↦ (
-          let here : turn_of (Some turned) k ≡ turn = ap (λ b. cond b turn AsGiven) (eq-eqb class k (sym e)) in
-          subst (λ u. IsOwn k u (ordering_at t.others k)) (sym here) (subst (λ c. IsOwn c turn (ordering_at t.others c)) (sym e) t.sorted))
-      | inr other ↦ subst (λ u. IsOwn k u (ordering_at t.others k)) (sym (as_given turned k (λ e. other (sym e)))) (subst (IsOwn k AsGiven) (sym (t.same.same k other)) (s.sorted.each k h))
-    ] in
-    let sorted : AreSortedOver w.classes (Ok rows) (Some turned) 0 (length w.classes) t.others = record { long = t.same.long ∙ s.sorted.long; each = λ k h. subst (λ m. IsOwn k (turn_of (Some turned) m) (ordering_at t.others k)) (sym (zero-add k)) (each k h) } in
+    let sorted = sorted_others w rows class turn s.own t.others s.sorted t.same t.sorted in
     record {
       own = t.others;
       sorted = sorted;

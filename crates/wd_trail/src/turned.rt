@@ -1,11 +1,12 @@
 //! One ordering turned: what a plan gives then, from what its nodes gave.
 
-ghost use Rattle.std.specs.Prelude.{◌≡◌, ◌+◌, ◌-◌, ◌^◌, ◌<◌, ℕ, List, None, Ok, Some, option_map, length, IfOk, IfSome};
+ghost use Rattle.std.specs.Prelude.{◌≡◌, ◌+◌, ◌-◌, ◌^◌, ◌<◌, ℕ, true, List, None, Ok, Some, option_map, length, All, IfOk, IfSome, IsTrue};
 ghost use Rattle.wd_eval.specs.Tied.{turned_at};
 ghost use Rattle.wd_eval.specs.Turning.{IsStepUnder};
 ghost use Rattle.wd_plan.specs.Expressions.{expression_of};
 ghost use Rattle.wd_plan.specs.Plans.{EachNamesClasses, Over, PlanTree, Step, plan_of, window_of};
 ghost use Rattle.wd_plan.specs.Plans as tree;
+ghost use Rattle.wd_plan.specs.Settled.{is_by_peers};
 ghost use Rattle.wd_trail.specs.Trails.{Gives, IsJoinOver, IsToldOver, IsTrail, rows_in, rows_shown};
 ghost use Rattle.wd_value.specs.Rows.{Instance, Row};
 
@@ -169,12 +170,25 @@ fn window_turned(
     if input.source().len() as u64 > MOST_ROWS {
         return Ok(Change::Unknown);
     }
+    if goes_by_peers(window, class) {
+        return Ok(Change::Same);
+    }
     let turned = turn_class(alloc, window, &input.source(), &given.source(), class, turn)?;
     match turned {
         Ok(Some(found)) => Ok(Change::Rows(found)),
         Ok(None) => Ok(Change::Same),
         Err(_) => Ok(Change::Unknown),
     }
+}
+
+/// Whether no call of the class with this number goes by the order of rows that tie.
+fn goes_by_peers(window: &Window, class: usize) -> bool
+    ensures { IsTrue result → All (λ call. call.class ≡ class → is_by_peers call.frame call.function ≡ true) (window_of window.now).calls }
+{
+    window
+        .calls
+        .iter()
+        .all(|call| call.class as usize != class || call.is_by_peers())
 }
 
 /// What a Join gives over a change of its left side, where it gave these rows.
