@@ -1,6 +1,7 @@
 pub mod Passing
 pub mod Agreeing
 pub mod Probing
+pub mod Lighter
 pub mod Searching
 pub mod Names
 pub mod Building

@@ -4,7 +4,8 @@
 //! `search` goes through the candidates for each reason of an analysis; `passed` leaves out those that were tried for an earlier one,
 //! and `tried` those that do not meet the schema. `probed` evaluates a candidate under one choice after another until two outcomes
 //! differ, by `evaluated`, and `witness` makes the witness of them. `trailed` keeps what each node gave in the first evaluation, so that
-//! most of the others need not be made. The number of evaluations is bounded, those among them.
+//! most of the others need not be made. The number of evaluations is bounded, those among them. `seek` evaluates the candidates over a
+//! lighter plan (wd_lighter), which shows of them what the plan itself does.
 #![tactic(auto)]
 
 mod evaluated;

@@ -1,11 +1,11 @@
 //! The candidates that were tried for an earlier reason. Those of two reasons for which one and the same columns tie are the same.
 
-ghost use Rattle.std.specs.Prelude.{◌≡◌, ◌≤◌, List, true, filter, map, IfOk, IfSome, IsTrue, OnOk};
+ghost use Rattle.std.specs.Prelude.{◌≡◌, ◌≤◌, List, filter, map, IfOk, IfSome, IsTrue, OnOk};
 ghost use Rattle.wd_candidates.specs.Candidates.{candidate as candidate_of, shapes as all_shapes};
 ghost use Rattle.wd_candidates.specs.Outlines.{AreTied, IsOutline};
 ghost use Rattle.wd_candidates.specs.Tied.{NodeColumns};
+ghost use Rattle.wd_lighter.specs.Lighter.{IsLighter};
 ghost use Rattle.wd_partition.specs.declared.turn.Turn.TheVariants.{Reversed};
-ghost use Rattle.wd_plan.specs.Fits.{fits};
 ghost use Rattle.wd_plan.specs.Plans.{PlanTree, plan_of};
 ghost use Rattle.wd_schema.specs.Schemas.{schema_of};
 ghost use Rattle.wd_schema.specs.Tables.{TableRule};
@@ -38,12 +38,13 @@ pub(crate) fn try_tied(
     alloc: Global,
     schema: &Schema,
     plan: &Plan,
+    searched: &Plan,
     outline: &Outline,
     tied: TiedColumns,
     spent: u32,
     passed: &mut Vec<Passed>,
 ) -> Result<(Option<Witness>, u32), OutOfMemory>
-    requires fitting { fits (schema_of schema.now) (plan_of plan.now) ≡ true }
+    requires lighter { IsLighter (schema_of schema.now) (plan_of plan.now) (plan_of searched.now) }
     requires outline { IsOutline (schema_of schema.now) (plan_of plan.now) outline.now }
     requires few { spent ≤ most_evaluations }
     requires passed { ArePassed (schema_of schema.now) (plan_of plan.now) passed.old.items }
@@ -53,7 +54,7 @@ pub(crate) fn try_tied(
 {
     match end_after(passed, &tied, spent) {
         Some(end) => Ok((None, end)),
-        None => try_anew(alloc, schema, plan, outline, tied, spent, passed),
+        None => try_anew(alloc, schema, plan, searched, outline, tied, spent, passed),
     }
 }
 
@@ -62,12 +63,13 @@ fn try_anew(
     alloc: Global,
     schema: &Schema,
     plan: &Plan,
+    searched: &Plan,
     outline: &Outline,
     tied: TiedColumns,
     spent: u32,
     passed: &mut Vec<Passed>,
 ) -> Result<(Option<Witness>, u32), OutOfMemory>
-    requires fitting { fits (schema_of schema.now) (plan_of plan.now) ≡ true }
+    requires lighter { IsLighter (schema_of schema.now) (plan_of plan.now) (plan_of searched.now) }
     requires outline { IsOutline (schema_of schema.now) (plan_of plan.now) outline.now }
     requires few { spent ≤ most_evaluations }
     requires passed { ArePassed (schema_of schema.now) (plan_of plan.now) passed.old.items }
@@ -75,7 +77,7 @@ fn try_anew(
     ensures sought { IfOk result (λ r. (o : NodeColumns) → AreTied (schema_of schema.now) o tied → IsSought Reversed (schema_of schema.now) (plan_of plan.now) (filter (is_meeting (schema_of schema.now)) (map (candidate_of (schema_of schema.now) (plan_of plan.now) o) all_shapes)) spent r.0 r.1) }
     ensures passed { OnOk result (ArePassed (schema_of schema.now) (plan_of plan.now) passed.new.items) }
 {
-    let (found, made) = try_shapes(alloc, schema, plan, outline, &tied, spent)?;
+    let (found, made) = try_shapes(alloc, schema, plan, searched, outline, &tied, spent)?;
     match found {
         Some(witness) => Ok((Some(witness), made)),
         None => {

@@ -1,8 +1,10 @@
 //! The evaluations of one instance.
 
 ghost use Rattle.std.specs.Prelude.{◌≡◌, ◌≤◌, true, IfOk};
+ghost use Rattle.wd_lighter.specs.Lighter.{IsLighter};
 ghost use Rattle.wd_plan.specs.Fits.{fits};
 ghost use Rattle.wd_plan.specs.Plans.{plan_of};
+ghost use Rattle.wd_schema.specs.Meets.{Meets};
 ghost use Rattle.wd_schema.specs.Schemas.{schema_of};
 ghost use Rattle.wd_seek.specs.Evaluations.{most_evaluations};
 ghost use Rattle.wd_seek.specs.Probed.{IsKeptOf, IsOther, IsProbed};
@@ -57,6 +59,25 @@ pub(crate) fn probe(
         Some(Evaluated { choice: first, .. }) => Ok((Some(Pair { first, second }), made)),
         None => Ok((None, spent + 1)),
     }
+}
+
+/// What the evaluations of a plan over an instance of the schema show, by those of the lighter plan.
+pub(crate) fn probe_lighter(
+    alloc: Global,
+    schema: &Schema,
+    plan: &Plan,
+    searched: &Plan,
+    instance: &Instance,
+    turn: Turn,
+    spent: u32,
+) -> Result<(Option<Pair>, u32), OutOfMemory>
+    requires lighter { IsLighter (schema_of schema.now) (plan_of plan.now) (plan_of searched.now) }
+    requires meets { Meets (schema_of schema.now) (instance_of instance.now.items) }
+    requires few { spent ≤ most_evaluations }
+    ensures few { IfOk result (λ r. r.1 ≤ most_evaluations) }
+    ensures tried { IfOk result (λ r. IsProbed turn (plan_of plan.now) (instance_of instance.now.items) spent r.1 r.0) }
+{
+    probe(alloc, schema, searched, instance, turn, spent)
 }
 
 /// Turns one ordering after another until the outcome does not agree with the first; the result is the choice under which it does not,

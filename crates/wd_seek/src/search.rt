@@ -3,6 +3,7 @@
 ghost use Rattle.std.specs.Prelude.{◌≡◌, ◌≤◌, true, filter, IfNone, IfOk, IfSome, OnOk};
 ghost use Rattle.wd_candidates.specs.Candidates.{candidates};
 ghost use Rattle.wd_candidates.specs.Outlines.{IsOutline};
+ghost use Rattle.wd_lighter.specs.Lighter.{IsLighter};
 ghost use Rattle.wd_plan.specs.Fits.{fits};
 ghost use Rattle.wd_partition.specs.declared.turn.Turn.TheVariants.{Reversed};
 ghost use Rattle.wd_plan.specs.Plans.{plan_of};
@@ -19,6 +20,7 @@ use crate::probed::MOST_EVALUATIONS;
 use std::alloc::Global;
 use wd_analyse::{Analysis, Reason};
 use wd_candidates::{Outline, outline_of, tied_columns};
+use wd_lighter::lighter;
 use wd_plan::Plan;
 use wd_schema::Schema;
 use wd_value::OutOfMemory;
@@ -47,7 +49,8 @@ pub fn seek(
         Analysis::Certified(_) => Ok((None, 0)),
         Analysis::Open(reasons, _) => {
             let outline = outline_of(alloc, schema, plan)?;
-            try_reasons(alloc, schema, plan, &outline, reasons)
+            let searched = lighter(alloc, schema, plan)?;
+            try_reasons(alloc, schema, plan, &searched, &outline, reasons)
         }
     }
 }
@@ -57,10 +60,12 @@ fn try_reasons(
     alloc: Global,
     schema: &Schema,
     plan: &Plan,
+    searched: &Plan,
     outline: &Outline,
     reasons: &[Reason],
 ) -> Result<(Option<Witness>, u32), OutOfMemory>
     requires fitting { fits (schema_of schema.now) (plan_of plan.now) ≡ true }
+    requires lighter { IsLighter (schema_of schema.now) (plan_of plan.now) (plan_of searched.now) }
     requires outline { IsOutline (schema_of schema.now) (plan_of plan.now) outline.now }
     ensures few { IfOk result (λ r. r.1 ≤ most_evaluations) }
     ensures sought { IfOk result (λ r. IsSought Reversed (schema_of schema.now) (plan_of plan.now) (to_try (schema_of schema.now) (plan_of plan.now) reasons.now) 0 r.0 r.1) }
@@ -68,7 +73,16 @@ fn try_reasons(
     let mut spent = 0;
     let mut passed = Vec::new(alloc);
     for reason in reasons {
-        let (found, made) = try_reason(alloc, schema, plan, outline, *reason, spent, &mut passed)?;
+        let (found, made) = try_reason(
+            alloc,
+            schema,
+            plan,
+            searched,
+            outline,
+            *reason,
+            spent,
+            &mut passed,
+        )?;
         if let Some(witness) = found {
             return Ok((Some(witness), made));
         }
@@ -82,12 +96,14 @@ fn try_reason(
     alloc: Global,
     schema: &Schema,
     plan: &Plan,
+    searched: &Plan,
     outline: &Outline,
     reason: Reason,
     spent: u32,
     passed: &mut Vec<Passed>,
 ) -> Result<(Option<Witness>, u32), OutOfMemory>
     requires fitting { fits (schema_of schema.now) (plan_of plan.now) ≡ true }
+    requires lighter { IsLighter (schema_of schema.now) (plan_of plan.now) (plan_of searched.now) }
     requires outline { IsOutline (schema_of schema.now) (plan_of plan.now) outline.now }
     requires few { spent ≤ most_evaluations }
     requires passed { ArePassed (schema_of schema.now) (plan_of plan.now) passed.old.items }
@@ -100,6 +116,6 @@ fn try_reason(
     }
     match tied_columns(alloc, schema, plan, reason.node, reason.call)? {
         None => Ok((None, spent)),
-        Some(tied) => try_tied(alloc, schema, plan, outline, tied, spent, passed),
+        Some(tied) => try_tied(alloc, schema, plan, searched, outline, tied, spent, passed),
     }
 }

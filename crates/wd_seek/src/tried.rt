@@ -4,6 +4,7 @@ ghost use Rattle.std.specs.Prelude.{◌≡◌, ◌≤◌, [], ◌∷◌, map, fi
 ghost use Rattle.wd_candidates.specs.Candidates.{candidate as candidate_of, shapes as all_shapes};
 ghost use Rattle.wd_candidates.specs.Outlines.{AreTied, IsOutline};
 ghost use Rattle.wd_candidates.specs.Tied.{NodeColumns};
+ghost use Rattle.wd_lighter.specs.Lighter.{IsLighter};
 ghost use Rattle.wd_plan.specs.Fits.{fits};
 ghost use Rattle.wd_partition.specs.declared.turn.Turn.TheVariants.{Reversed};
 ghost use Rattle.wd_plan.specs.Plans.{plan_of};
@@ -15,7 +16,7 @@ ghost use Rattle.wd_seek.specs.Tried.{IsTried};
 ghost use Rattle.wd_seek.specs.Witnesses.{HasFewRows};
 ghost use Rattle.wd_value.specs.Rows.{instance_of};
 
-use crate::probed::{MOST_EVALUATIONS, probe};
+use crate::probed::{MOST_EVALUATIONS, probe_lighter};
 use crate::witness::{names_differ, witness_over};
 use std::alloc::Global;
 use wd_candidates::{Outline, Shape, TiedColumns, candidate, shapes};
@@ -30,11 +31,12 @@ pub(crate) fn try_shapes(
     alloc: Global,
     schema: &Schema,
     plan: &Plan,
+    searched: &Plan,
     outline: &Outline,
     tied: &TiedColumns,
     spent: u32,
 ) -> Result<(Option<Witness>, u32), OutOfMemory>
-    requires fitting { fits (schema_of schema.now) (plan_of plan.now) ≡ true }
+    requires lighter { IsLighter (schema_of schema.now) (plan_of plan.now) (plan_of searched.now) }
     requires outline { IsOutline (schema_of schema.now) (plan_of plan.now) outline.now }
     requires few { spent ≤ most_evaluations }
     ensures few { IfOk result (λ r. r.1 ≤ most_evaluations) }
@@ -42,7 +44,7 @@ pub(crate) fn try_shapes(
 {
     let mut total = spent;
     for shape in &shapes() {
-        let (found, made) = try_shape(alloc, schema, plan, outline, tied, *shape, total)?;
+        let (found, made) = try_shape(alloc, schema, plan, searched, outline, tied, *shape, total)?;
         if let Some(witness) = found {
             return Ok((Some(witness), made));
         }
@@ -56,12 +58,13 @@ fn try_shape(
     alloc: Global,
     schema: &Schema,
     plan: &Plan,
+    searched: &Plan,
     outline: &Outline,
     tied: &TiedColumns,
     shape: Shape,
     spent: u32,
 ) -> Result<(Option<Witness>, u32), OutOfMemory>
-    requires fitting { fits (schema_of schema.now) (plan_of plan.now) ≡ true }
+    requires lighter { IsLighter (schema_of schema.now) (plan_of plan.now) (plan_of searched.now) }
     requires outline { IsOutline (schema_of schema.now) (plan_of plan.now) outline.now }
     requires small { shape.rows ≤ 64 }
     requires few { spent ≤ most_evaluations }
@@ -72,10 +75,11 @@ fn try_shape(
         return Ok((None, spent));
     }
     let instance = candidate(alloc, schema, outline, tied, shape)?;
-    try_candidate(
+    try_lighter(
         alloc,
         schema,
         plan,
+        searched,
         outline,
         instance,
         Turn::Reversed,
@@ -101,8 +105,30 @@ pub fn try_candidate(
     ensures few { IfOk result (λ r. r.1 ≤ most_evaluations) }
     ensures sought { IfOk result (λ r. HasFewRows (schema_of schema.now) (plan_of plan.now) (instance_of instance.items) → IsSought turn (schema_of schema.now) (plan_of plan.now) (filter (is_meeting (schema_of schema.now)) (instance_of instance.items ∷ [])) spent r.0 r.1) }
 {
+    try_lighter(alloc, schema, plan, plan, outline, instance, turn, spent)
+}
+
+/// Tries an instance as `try_candidate` does, and evaluates it over the lighter plan.
+fn try_lighter(
+    alloc: Global,
+    schema: &Schema,
+    plan: &Plan,
+    searched: &Plan,
+    outline: &Outline,
+    instance: Instance,
+    turn: Turn,
+    spent: u32,
+) -> Result<(Option<Witness>, u32), OutOfMemory>
+    requires lighter { IsLighter (schema_of schema.now) (plan_of plan.now) (plan_of searched.now) }
+    requires outline { IsOutline (schema_of schema.now) (plan_of plan.now) outline.now }
+    requires few { spent ≤ most_evaluations }
+    ensures few { IfOk result (λ r. r.1 ≤ most_evaluations) }
+    ensures sought { IfOk result (λ r. HasFewRows (schema_of schema.now) (plan_of plan.now) (instance_of instance.items) → IsSought turn (schema_of schema.now) (plan_of plan.now) (filter (is_meeting (schema_of schema.now)) (instance_of instance.items ∷ [])) spent r.0 r.1) }
+{
     match meets(schema, &instance) {
-        Ok(()) => try_instance(alloc, schema, plan, outline, instance, turn, spent),
+        Ok(()) => try_instance(
+            alloc, schema, plan, searched, outline, instance, turn, spent,
+        ),
         Err(_) => Ok((None, spent)),
     }
 }
@@ -112,19 +138,20 @@ fn try_instance(
     alloc: Global,
     schema: &Schema,
     plan: &Plan,
+    searched: &Plan,
     outline: &Outline,
     instance: Instance,
     turn: Turn,
     spent: u32,
 ) -> Result<(Option<Witness>, u32), OutOfMemory>
-    requires fitting { fits (schema_of schema.now) (plan_of plan.now) ≡ true }
+    requires lighter { IsLighter (schema_of schema.now) (plan_of plan.now) (plan_of searched.now) }
     requires meets { Meets (schema_of schema.now) (instance_of instance.items) }
     requires few { spent ≤ most_evaluations }
     ensures few { IfOk result (λ r. r.1 ≤ most_evaluations) }
     ensures tried { IfOk result (λ r. IsTried turn (schema_of schema.now) (plan_of plan.now) outline.now (instance_of instance.items) spent r.0 r.1) }
 {
     names_differ(schema);
-    let (pair, spent) = probe(alloc, schema, plan, &instance, turn, spent)?;
+    let (pair, spent) = probe_lighter(alloc, schema, plan, searched, &instance, turn, spent)?;
     match pair {
         None => Ok((None, spent)),
         Some(pair) => {

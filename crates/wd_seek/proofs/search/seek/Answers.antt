@@ -15,8 +15,8 @@ returns-in-Certified-clause-sought c =
     let plan = plan_of c.args.plan.now in
     subst (λ a. FindsNothing Reversed plan (to_try tables plan (reasons_of a)) 0 0) (sym c.in-Certified.is) (nothing_to_try Reversed plan 0)
 
-pub returns-in_ok-outline-in-Open-clause-exhaustive : goal.returns-in_ok-outline-in-Open-clause-exhaustive
-returns-in_ok-outline-in-Open-clause-exhaustive c =
+pub returns-in_ok-searched-in-Open-clause-exhaustive : goal.returns-in_ok-searched-in-Open-clause-exhaustive
+returns-in_ok-searched-in-Open-clause-exhaustive c =
     let tables = schema_of c.args.schema.now in
     let plan = plan_of c.args.plan.now in
     let all = to_try tables plan (reasons_of c.args.analysis.now) in

@@ -15,9 +15,9 @@ pub returns-clause-sought : goal.returns-clause-sought
 returns-clause-sought c =
     let tables = schema_of c.args.schema.now in
     let plan = plan_of c.args.plan.now in
-    IfOk-weaker c.try_candidate.result _ _ (λ r h. λ o tied.
+    IfOk-weaker c.try_lighter.result _ _ (λ r h. λ o tied.
     let is = c.in_ok-instance.ensures plan o c.requires.outline tied in
-    subst (λ i. HasFewRows tables plan i → IsSought Reversed tables plan (filter (is_meeting tables) (i ∷ [])) c.args.spent r.0 r.1) is h (few_rows tables plan o c.args.shape c.requires.small)) c.try_candidate.ensures.sought
+    subst (λ i. HasFewRows tables plan i → IsSought Reversed tables plan (filter (is_meeting tables) (i ∷ [])) c.args.spent r.0 r.1) is h (few_rows tables plan o c.args.shape c.requires.small)) c.try_lighter.ensures.sought
 
 pub returns-then-spent-eq-MOST_EVALUATIONS-clause-sought : goal.returns-then-spent-eq-MOST_EVALUATIONS-clause-sought
 returns-then-spent-eq-MOST_EVALUATIONS-clause-sought c = λ o tied.
