@@ -1,28 +1,18 @@
 -- What the evaluations over a lighter plan show, those over the plan show too.
-use Rattle.std.proofs.Common.{◌≡◌, ℕ, ◌+◌, ◌<◌, All, List, [], ◌∷◌, ◌++◌, Option, Some, None, true, refl, sym, ◌∙◌, ap, subst, inl, inr}
+use Rattle.std.proofs.Common.{◌≡◌, ℕ, ◌+◌, ◌<◌, All, List, [], ◌∷◌, ◌++◌, Option, Some, None, sym, ◌∙◌, ap, subst, inl, inr}
 use Rattle.std.proofs.lemmas.List.Elements.{All-cons, All-head, All-nil, All-tail}
 use Rattle.wd_value.specs.Rows.{Instance}
-use Rattle.wd_schema.specs.Tables.{TableRule}
-use Rattle.wd_plan.specs.Fits.{fits}
 use Rattle.wd_plan.specs.Outcomes.{Agree, outcome}
 use Rattle.wd_plan.specs.Plans.{PlanTree, ordering_count}
 use Rattle.wd_eval.specs.Tied.{IsValidTurnedChoice, turned_at}
 use Rattle.wd_eval.specs.Windows.{orderings_of}
 use Rattle.wd_eval.specs.declared.turned.Turned.{Turned}
 use Rattle.wd_partition.specs.declared.turn.Turn.{Turn}
-use Rattle.wd_lighter.specs.Lighter.{AreSearchedAlike, IsLighter}
+use Rattle.wd_lighter.specs.Lighter.{AreSearchedAlike}
 use Rattle.wd_seek.specs.Evaluations.{AllPass, IsTooLargeAt, Passes, ShowNothing, ShowsNothing, ShowsTwo, evaluations, flip_of}
 use Rattle.wd_seek.specs.Search.{Begun, FindsNothing, FindsTwo}
 use Rattle.wd_seek.specs.Probed.{IsProbed}
 use Rattle.wd_seek.specs.declared.probed.Pair.{Pair}
-
--- a plan is as light as itself
-pub plan_itself : (tables : List TableRule) (plan : PlanTree) → fits tables plan ≡ true → IsLighter tables plan plan
-plan_itself tables plan fit = record {
-  fitting = fit;
-  orderings = refl;
-  alike = λ instance meets. record { valid = λ turned choice valid. valid; same = λ turned choice valid. refl; large = λ turned large. large };
-}
 
 -- ---- outcomes that agree
 
