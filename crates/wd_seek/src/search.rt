@@ -17,6 +17,7 @@ ghost use Rattle.wd_witness_text.specs.Witnesses.{witness_of};
 
 use crate::passed::{Passed, try_tied};
 use crate::probed::MOST_EVALUATIONS;
+use crate::trailed::FEWEST_ORDERINGS;
 use std::alloc::Global;
 use wd_analyse::{Analysis, Reason};
 use wd_candidates::{Outline, outline_of, tied_columns};
@@ -49,9 +50,30 @@ pub fn seek(
         Analysis::Certified(_) => Ok((None, 0)),
         Analysis::Open(reasons, _) => {
             let outline = outline_of(alloc, schema, plan)?;
-            let searched = lighter(alloc, schema, plan)?;
-            try_reasons(alloc, schema, plan, &searched, &outline, reasons)
+            try_lighter_plan(alloc, schema, plan, &outline, reasons)
         }
+    }
+}
+
+/// Tries the candidates for each reason, over the lighter plan where what each node gives is kept. A plan with fewer orderings is
+/// evaluated anew each time, and its own calls may cost less than those that stand for what nothing reads.
+fn try_lighter_plan(
+    alloc: Global,
+    schema: &Schema,
+    plan: &Plan,
+    outline: &Outline,
+    reasons: &[Reason],
+) -> Result<(Option<Witness>, u32), OutOfMemory>
+    requires fitting { fits (schema_of schema.now) (plan_of plan.now) ≡ true }
+    requires outline { IsOutline (schema_of schema.now) (plan_of plan.now) outline.now }
+    ensures few { IfOk result (λ r. r.1 ≤ most_evaluations) }
+    ensures sought { IfOk result (λ r. IsSought Reversed (schema_of schema.now) (plan_of plan.now) (to_try (schema_of schema.now) (plan_of plan.now) reasons.now) 0 r.0 r.1) }
+{
+    if plan.orderings() < FEWEST_ORDERINGS {
+        try_reasons(alloc, schema, plan, plan, outline, reasons)
+    } else {
+        let searched = lighter(alloc, schema, plan)?;
+        try_reasons(alloc, schema, plan, &searched, outline, reasons)
     }
 }
 

@@ -22,7 +22,7 @@ use wd_trail::{Change, Trail, follow};
 use wd_value::{Instance, OutOfMemory};
 
 /// The fewest orderings for which it pays to keep what each node gives.
-const FEWEST_ORDERINGS: u32 = 4;
+pub(crate) const FEWEST_ORDERINGS: u32 = 4;
 
 /// The most values that are kept of one instance, 16 bytes each.
 const MOST_KEPT_VALUES: u64 = 1 << 25;
