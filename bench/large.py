@@ -20,10 +20,16 @@ import time
 
 import verify
 
-SCHEMA = b"CREATE TABLE t (id BIGINT, name TEXT);\n"
+SCHEMA = b"CREATE TABLE t (id BIGINT PRIMARY KEY, name TEXT);\n"
 QUERY = b"SELECT id, ROW_NUMBER() OVER () AS n FROM t\n"
 ENTRY = b'{"nodes":[{"calls":[],"keep":[],"limit":null,"traces":['
 ENTRY_END = b']}],"version":1}'
+# What stands above the first entry in a certificate of the query, so that the whole entry is judged.
+EMPTY = b',{"calls":[],"keep":[],"limit":null,"traces":[]}'
+WINDOW = b',{"calls":[{"rule":"unique","trace":0}],"keep":[],"limit":null,"traces":[{"from":[],"uses":[]}]}'
+ABOVE = EMPTY + WINDOW + EMPTY + b'],"version":1}'
+FACTS = b'{"nodes":[{"calls":[],"keep":['
+FACTS_END = b'],"limit":null,"traces":[{"from":[0],"uses":[]}]}' + ABOVE
 
 
 # A text is a front, a part that fills it, and an end. It is written a block at a time: the memory of this script would count as
@@ -41,6 +47,9 @@ CERTIFICATES = {
     "a list of objects": (b'[{"":0}', b',{"":0}', b"]"),
     "a trace of zeros": (ENTRY + b'{"from":[0', b",0", b'],"uses":[]}' + ENTRY_END),
     "traces": (ENTRY + b'{"from":[],"uses":[]}', b',{"from":[],"uses":[]}', ENTRY_END),
+    "traces of one": (ENTRY + b'{"from":[0],"uses":[0]}', b',{"from":[0],"uses":[0]}', b"]}" + ABOVE),
+    "a kept fact of zeros": (FACTS + b'{"to":[0', b",0", b'],"trace":0}' + FACTS_END),
+    "kept facts of one": (FACTS + b'{"to":[0],"trace":0}', b',{"to":[0],"trace":0}', FACTS_END),
 }
 WITNESSES = {
     "an ordering of zeros": (b'{"first":[[0', b",0", b']],"second":[],"tables":{}}'),

@@ -79,16 +79,10 @@ pub fn is_picked(kind: &TokenKind) -> bool
     ensures { result ≡ spec.is_picked kind.now }
 {
     match kind {
-        TokenKind::Word(name) => {
-            let name = name.as_str();
-            name == "lag"
-                || name == "lead"
-                || name == "first_value"
-                || name == "last_value"
-                || name == "nth_value"
-                || name == "min"
-                || name == "max"
-        }
+        TokenKind::Word(name) => matches!(
+            name.as_str(),
+            "lag" | "lead" | "first_value" | "last_value" | "nth_value" | "min" | "max"
+        ),
         _ => false,
     }
 }
@@ -98,14 +92,10 @@ fn is_counted(kind: &TokenKind) -> bool
     ensures { result ≡ spec.is_counted kind.now }
 {
     match kind {
-        TokenKind::Word(name) => {
-            let name = name.as_str();
-            name == "count"
-                || name == "row_number"
-                || name == "rank"
-                || name == "dense_rank"
-                || name == "ntile"
-        }
+        TokenKind::Word(name) => matches!(
+            name.as_str(),
+            "count" | "row_number" | "rank" | "dense_rank" | "ntile"
+        ),
         _ => false,
     }
 }

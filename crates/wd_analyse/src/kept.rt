@@ -10,7 +10,7 @@ ghost use Rattle.wd_analyse.specs.Kept as spec;
 
 use crate::closed::{Closed, once};
 use std::alloc::Global;
-use wd_certificate::{Kept, Target};
+use wd_certificate::{Kept, PackedTarget, Target};
 use wd_facts::{Given, Member};
 use wd_sets::Set;
 use wd_value::OutOfMemory;
@@ -88,12 +88,12 @@ fn target_of(member: Member) -> Target
     }
 }
 
-fn targets(alloc: Global, members: &[Member]) -> Result<Vec<Target>, OutOfMemory>
+fn targets(alloc: Global, members: &[Member]) -> Result<Vec<PackedTarget>, OutOfMemory>
     ensures { IfOk result (λ v. v.items ≡ map spec.target_of members.now) }
 {
     let mut list = Vec::with_capacity(alloc, members.len())?;
     for member in members {
-        list.push(target_of(*member))?;
+        list.push(PackedTarget::new(target_of(*member)))?;
     }
     Ok(list)
 }

@@ -125,13 +125,9 @@ fn add_fixings(
     match condition {
         Expr::And(a, b) => {
             add_fixings(alloc, origins, a, list)?;
-            add_fixings(alloc, origins, b, list)?;
-            Ok(())
+            add_fixings(alloc, origins, b, list)
         }
-        _ => {
-            add_fixing(alloc, origins, condition, list)?;
-            Ok(())
-        }
+        _ => add_fixing(alloc, origins, condition, list),
     }
 }
 
@@ -145,10 +141,7 @@ fn add_join_fixings(
     ensures { IfOk result (λ _. list.new.items ≡ list.old.items ++ spec.fixings_in (listed.origin_in origins.now) (conjuncts_of (option_map expression_of condition.now))) }
 {
     match condition {
-        Some(condition) => {
-            add_fixings(alloc, origins, condition, list)?;
-            Ok(())
-        }
+        Some(condition) => add_fixings(alloc, origins, condition, list),
         None => Ok(()),
     }
 }

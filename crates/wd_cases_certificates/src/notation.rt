@@ -6,7 +6,7 @@
 //! of a certificate of version 2, else they are of version 1. A fact is `0,1>2,row`.
 use std::alloc::Global;
 use wd_cases::{Failure, is_nothing};
-use wd_certificate::{Certificate, Kept, Node, Rule, Target, Trace, Version};
+use wd_certificate::{Certificate, Kept, Node, PackedTarget, Rule, Target, Trace, Version};
 use wd_facts::{Facts, Given, Member};
 
 pub fn certificate_of(alloc: Global, text: &str) -> Result<Certificate, Failure> {
@@ -81,11 +81,11 @@ fn add_claim(alloc: Global, node: &mut Node, claim: &str, trace: u64) -> Result<
     }
 }
 
-fn targets_of(alloc: Global, text: &str) -> Result<Vec<Target>, Failure> {
+fn targets_of(alloc: Global, text: &str) -> Result<Vec<PackedTarget>, Failure> {
     let mut targets = Vec::new(alloc);
     for word in text.split(',') {
         if !is_nothing(word) {
-            targets.push(target_of(word)?)?;
+            targets.push(PackedTarget::new(target_of(word)?))?;
         }
     }
     Ok(targets)

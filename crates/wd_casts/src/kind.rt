@@ -74,23 +74,15 @@ pub fn kind_of_column(column: ColumnKind) -> Option<Kind>
 pub fn kind_of_word(word: &str) -> Option<Kind>
     ensures { result ≡ spec.kind_of_word word.now }
 {
-    if word == "smallint" || word == "int2" {
-        Some(Kind::Small)
-    } else if word == "integer" || word == "int" || word == "int4" {
-        Some(Kind::Whole)
-    } else if word == "bigint" || word == "int8" {
-        Some(Kind::Big)
-    } else if word == "boolean" || word == "bool" {
-        Some(Kind::Boolean)
-    } else if word == "text" || word == "varchar" {
-        Some(Kind::Text)
-    } else if word == "date" {
-        Some(Kind::Date)
-    } else if word == "timestamp" || word == "timestamptz" {
-        Some(Kind::Timestamp)
-    } else if word == "interval" {
-        Some(Kind::Interval)
-    } else {
-        None
+    match word {
+        "smallint" | "int2" => Some(Kind::Small),
+        "integer" | "int" | "int4" => Some(Kind::Whole),
+        "bigint" | "int8" => Some(Kind::Big),
+        "boolean" | "bool" => Some(Kind::Boolean),
+        "text" | "varchar" => Some(Kind::Text),
+        "date" => Some(Kind::Date),
+        "timestamp" | "timestamptz" => Some(Kind::Timestamp),
+        "interval" => Some(Kind::Interval),
+        _ => None,
     }
 }

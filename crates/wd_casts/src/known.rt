@@ -77,8 +77,10 @@ fn is_counted(kind: &TokenKind) -> bool
 {
     match kind {
         TokenKind::Word(name) => {
-            let name = name.as_str();
-            name == "count" || name == "row_number" || name == "rank" || name == "dense_rank"
+            matches!(
+                name.as_str(),
+                "count" | "row_number" | "rank" | "dense_rank"
+            )
         }
         _ => false,
     }

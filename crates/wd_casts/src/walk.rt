@@ -131,8 +131,7 @@ fn add_place(
     let mut operand = Vec::new(*written.allocator());
     walk(&mut operand, kinds, turns, true, place.term.operand)?;
     let cast = cast_by(place.known, &place.term.casts, operand)?;
-    add_all(written, &cast)?;
-    Ok(())
+    add_all(written, &cast)
 }
 
 /// Writes the replacement of what begins here. Returns whether an operand may begin after it, and the tokens from there on.

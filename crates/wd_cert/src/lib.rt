@@ -4,7 +4,7 @@
 
 pub use wd_accept::{Accepted, VerifyError, VerifyOrigin, verify, verify_list};
 pub use wd_certificate::{
-    CertError, Certificate, Kept, Node, Rule, Target, Trace, Version, from_json,
+    CertError, Certificate, Kept, Node, PackedTarget, Rule, Target, Trace, Version, from_json,
 };
 pub use wd_facts::{Facts, Given, Member, given};
 pub use wd_sets::Set;

@@ -2,6 +2,13 @@
 //! from 0; a number may be any `u64`, and whether it names something is for the check of the
 //! certificate against a plan.
 
+ghost use Rattle.std.specs.Prelude.{◌≡◌, if◌then◌else◌};
+ghost use Rattle.std.specs.Int.{from_le_bytes, w64};
+ghost use Rattle.wd_certificate.specs.declared.certificate.Target.{Target as SpecTarget};
+ghost use Rattle.wd_certificate.specs.declared.certificate.Target.TheVariants as target;
+
+use std::marker::Model;
+
 /// What a kept fact determines.
 #[derive(Clone, Copy)]
 pub enum Target {
@@ -9,6 +16,46 @@ pub enum Target {
     Column(u64),
     /// The row: rows that agree on the trace's columns are one row.
     Row,
+}
+
+/// A target as a list of many holds it, in 9 bytes where a `Target` takes 16: a text may have one in every two bytes.
+#[derive(Drop)]
+pub struct PackedTarget {
+    column: [u8; 8],
+    is_row: bool,
+}
+
+impl Model for PackedTarget {
+    ghost Value = { SpecTarget };
+
+    ghost view = { λ t. if t.is_row then target.Row else target.Column (from_le_bytes w64 t.column) };
+}
+
+impl PackedTarget {
+    pub fn new(target: Target) -> PackedTarget
+        ensures { result ≡ target }
+    {
+        match target {
+            Target::Column(column) => PackedTarget {
+                column: column.to_le_bytes(),
+                is_row: false,
+            },
+            Target::Row => PackedTarget {
+                column: [0; 8],
+                is_row: true,
+            },
+        }
+    }
+
+    pub fn target(&self) -> Target
+        ensures { result ≡ self.now }
+    {
+        if self.is_row {
+            Target::Row
+        } else {
+            Target::Column(u64::from_le_bytes(self.column))
+        }
+    }
 }
 
 /// A derivation by dependency steps.
@@ -25,7 +72,7 @@ pub struct Trace {
 #[derive(Drop)]
 pub struct Kept {
     /// What the trace's columns determine.
-    pub to: Vec<Target>,
+    pub to: Vec<PackedTarget>,
     /// The number of the trace that reaches it, among the node's.
     pub trace: u64,
 }

@@ -8,7 +8,7 @@ ghost use Rattle.wd_certificate.specs.Json.{trace_json, target_json, kept_json, 
 ghost use Rattle.wd_certificate.specs.declared.certificate.Target.{Target as SpecTarget};
 ghost use Rattle.wd_certificate.specs.declared.certificate.Rule.{Rule as SpecRule};
 
-use crate::certificate::{Kept, Node, Rule, Target, Trace};
+use crate::certificate::{Kept, Node, PackedTarget, Rule, Target, Trace};
 use serde_json::{Map, Value, json, put};
 use std::alloc::Global;
 use wd_json::{InJson, list_value, numbers_value};
@@ -28,7 +28,7 @@ impl InJson for Trace {
     }
 }
 
-impl InJson for Target {
+impl InJson for PackedTarget {
     ghost Said = { SpecTarget };
 
     ghost said = { λ t. t };
@@ -36,8 +36,8 @@ impl InJson for Target {
     ghost json = { target_json };
 
     fn to_value(&self, alloc: Global) -> Result<Value, OutOfMemory> {
-        match self {
-            Target::Column(c) => Ok(Value::from(*c)),
+        match self.target() {
+            Target::Column(c) => Ok(Value::from(c)),
             Target::Row => Ok(Value::try_from_str(alloc, "row")?),
         }
     }

@@ -14,6 +14,6 @@ mod parts;
 mod read;
 mod write;
 
-pub use certificate::{Certificate, Kept, Node, Rule, Target, Trace, Version};
+pub use certificate::{Certificate, Kept, Node, PackedTarget, Rule, Target, Trace, Version};
 pub use error::CertError;
 pub use read::from_json;

@@ -6,7 +6,7 @@ ghost use Rattle.wd_certificate.specs.Json.{trace_json, target_json, kept_json, 
 ghost use Rattle.wd_certificate.specs.declared.certificate.Target.{Target as SpecTarget};
 ghost use Rattle.wd_certificate.specs.declared.certificate.Rule.{Rule as SpecRule};
 
-use crate::certificate::{Kept, Rule, Target, Trace};
+use crate::certificate::{Kept, PackedTarget, Rule, Target, Trace};
 use json::Reader;
 use std::alloc::Global;
 use wd_json_tokens::{FromTokens, Top, Unread, read_pair, take_top};
@@ -26,7 +26,7 @@ impl FromTokens for Trace {
     }
 }
 
-impl FromTokens for Target {
+impl FromTokens for PackedTarget {
     ghost Said = { SpecTarget };
 
     ghost said = { λ t. t };
@@ -37,12 +37,13 @@ impl FromTokens for Target {
         _alloc: Global,
         reader: &mut Reader<'_>,
         depth: usize,
-    ) -> Result<Option<Target>, Unread> {
-        match take_top(reader, depth)? {
-            Top::Number(number) => Ok(number.as_u64().map(Target::Column)),
-            Top::Text("row") => Ok(Some(Target::Row)),
-            _ => Ok(None),
-        }
+    ) -> Result<Option<PackedTarget>, Unread> {
+        let target = match take_top(reader, depth)? {
+            Top::Number(number) => number.as_u64().map(Target::Column),
+            Top::Text("row") => Some(Target::Row),
+            _ => None,
+        };
+        Ok(target.map(PackedTarget::new))
     }
 }
 

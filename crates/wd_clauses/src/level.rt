@@ -6,7 +6,7 @@ ghost use Rattle.wd_clauses.specs.Reach as spec;
 use wd_lex::{Terminal, Token, TokenKind};
 
 /// What ends a part of a query, apart from the end of its level.
-#[derive(Clone, Copy, PartialEq, Eq)]
+#[derive(Clone, Copy)]
 pub enum Stop {
     /// A comma.
     Comma,

@@ -12,4 +12,4 @@ pub use error::RespellError;
 pub use level::{Stop, closing, split};
 pub use list::parts;
 pub use name::{is_name, is_same_name};
-pub use write::{add, add_all, added_terminal, copy_token, copy_tokens};
+pub use write::{add, add_all, add_copy, added_terminal, copy_token, copy_tokens};

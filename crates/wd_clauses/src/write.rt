@@ -49,13 +49,20 @@ pub fn add(written: &mut Vec<Token>, token: Token) -> Result<(), RespellError>
     Ok(())
 }
 
+/// Adds a copy of a token. The error is `TooLong` where there are 65,536 tokens already.
+pub fn add_copy(written: &mut Vec<Token>, token: &Token) -> Result<(), RespellError>
+    ensures { Writes written.old.items written.new.items result (token.now ∷ []) }
+{
+    add(written, copy_token(token)?)
+}
+
 /// Adds copies of tokens. The error is `TooLong` where there is not room for all of them.
 pub fn add_all(written: &mut Vec<Token>, tokens: &[Token]) -> Result<(), RespellError>
     ensures { Writes written.old.items written.new.items result tokens.now }
 {
     let mut rest = tokens;
     while let [first, after @ ..] = rest {
-        add(written, copy_token(first)?)?;
+        add_copy(written, first)?;
         rest = after;
     }
     Ok(())

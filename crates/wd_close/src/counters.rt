@@ -39,10 +39,7 @@ fn add_fact(fact: Option<&Given>, set: &mut Set, queue: &mut Vec<Member>) -> Res
 {
     match fact {
         None => Ok(()),
-        Some(fact) => {
-            add_all(set, queue, &fact.to)?;
-            Ok(())
-        }
+        Some(fact) => add_all(set, queue, &fact.to),
     }
 }
 

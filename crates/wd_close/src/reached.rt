@@ -93,8 +93,7 @@ fn add_left(split: Option<u16>, set: &mut Set, queue: &mut Vec<Member>) -> Resul
         None => Ok(()),
         Some(split) => {
             add_columns(set, queue, 0, split)?;
-            add_row_with(set, queue, Member::Right)?;
-            Ok(())
+            add_row_with(set, queue, Member::Right)
         }
     }
 }
@@ -114,8 +113,7 @@ fn add_right(
         None => Ok(()),
         Some(split) => {
             add_columns(set, queue, split, columns)?;
-            add_row_with(set, queue, Member::Left)?;
-            Ok(())
+            add_row_with(set, queue, Member::Left)
         }
     }
 }
@@ -130,8 +128,7 @@ fn add_sides(split: Option<u16>, set: &mut Set, queue: &mut Vec<Member>) -> Resu
         None => Ok(()),
         Some(_) => {
             add(set, queue, Member::Left)?;
-            add(set, queue, Member::Right)?;
-            Ok(())
+            add(set, queue, Member::Right)
         }
     }
 }
@@ -149,18 +146,11 @@ pub(crate) fn bring(
 {
     match member {
         Member::Column(_) => Ok(()),
-        Member::Left => {
-            add_left(facts.split, set, queue)?;
-            Ok(())
-        }
-        Member::Right => {
-            add_right(facts.split, facts.columns, set, queue)?;
-            Ok(())
-        }
+        Member::Left => add_left(facts.split, set, queue),
+        Member::Right => add_right(facts.split, facts.columns, set, queue),
         Member::Row => {
             add_columns(set, queue, 0, facts.columns)?;
-            add_sides(facts.split, set, queue)?;
-            Ok(())
+            add_sides(facts.split, set, queue)
         }
     }
 }

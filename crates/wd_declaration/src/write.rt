@@ -36,16 +36,14 @@ pub trait Written {
 fn write_terminal(text: &mut String, terminal: Terminal) -> Result<(), AllocError>
     ensures { OnOk result ((rest : Kinds) → string_bytes text.new ++ printed rest ≡ string_bytes text.old ++ printed (terminal ▸ rest)) }
 {
-    push_terminal(text, terminal)?;
-    Ok(())
+    push_terminal(text, terminal)
 }
 
 /// Prints a word.
 fn write_word(text: &mut String, word: &str) -> Result<(), AllocError>
     ensures { OnOk result ((rest : Kinds) → string_bytes text.new ++ printed rest ≡ string_bytes text.old ++ printed (TokenKind.Word word.now ∷ rest)) }
 {
-    push_word(text, word)?;
-    Ok(())
+    push_word(text, word)
 }
 
 /// Prints a terminal, if `more` says that something follows.
@@ -96,8 +94,7 @@ impl Written for Identifier {
     ghost spell = { spell_name };
 
     fn write(&self, text: &mut String) -> Result<(), AllocError> {
-        push_name(text, self.text.as_str())?;
-        Ok(())
+        push_name(text, self.text.as_str())
     }
 }
 

@@ -78,7 +78,7 @@ fn past_replace(tokens: &[Token]) -> Result<&[Token], Refusal>
     ensures { Gives (λ r. kinds_of r.now) result (past_replace (kinds_of tokens.now)) }
 {
     match eat(tokens, Terminal::Or) {
-        Some(rest) => Ok(expect_text(rest, "replace")?),
+        Some(rest) => expect_text(rest, "replace"),
         None => Ok(tokens),
     }
 }
@@ -138,7 +138,7 @@ fn past_end(tokens: &[Token]) -> Result<&[Token], Refusal>
 {
     match tokens {
         [] => Ok(tokens),
-        [..] => Ok(expect(tokens, Terminal::Semicolon)?),
+        [..] => expect(tokens, Terminal::Semicolon),
     }
 }
 

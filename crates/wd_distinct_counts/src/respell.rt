@@ -41,8 +41,7 @@ fn keys_in(alloc: Global, tokens: &[Token]) -> Result<Option<Vec<&[Token]>>, All
     if tokens.is_empty() {
         return Ok(Some(Vec::new(alloc)));
     }
-    let keys = parts(alloc, tokens)?;
-    Ok(keys)
+    parts(alloc, tokens)
 }
 
 /// Whether each column that is written with its table is a key or the counted column.
@@ -90,10 +89,7 @@ fn over_table(
             let tokens = write_select(alloc, front, select, grouping, &one, column)?;
             Ok(Some(tokens))
         }
-        None => {
-            let tokens = over_tables(alloc, front, select, grouping, column, keys)?;
-            Ok(tokens)
-        }
+        None => over_tables(alloc, front, select, grouping, column, keys),
     }
 }
 
@@ -108,10 +104,9 @@ fn with_column(
     ensures { MayWrite (λ x. x.items) result (spec.with_column front.now (pieces select.now) (grouping_pieces grouping.now) column.now) }
 {
     match keys_in(alloc, grouping.keys)? {
-        Some(keys) if are_columns(&keys) => {
-            let tokens = over_table(alloc, front, select, grouping, column, &keys)?;
-            Ok(tokens)
-        }
+        Some(keys) if are_columns(&keys) => over_table(
+            alloc, front, select, grouping, column, &keys,
+        ),
         _ => Ok(None),
     }
 }
@@ -136,10 +131,7 @@ fn respelled_select(
 {
     let grouping = grouping_of(select.clauses);
     match column_of(select, &grouping) {
-        Some(Some(column)) => {
-            let tokens = with_column(alloc, front, select, &grouping, column)?;
-            Ok(tokens)
-        }
+        Some(Some(column)) => with_column(alloc, front, select, &grouping, column),
         _ => Ok(None),
     }
 }
@@ -155,10 +147,7 @@ fn respell_at(
 {
     let (front, rest) = split_at_place(place, tokens);
     match select_at(rest) {
-        Some(select) => {
-            let tokens = respelled_select(alloc, front, &select)?;
-            Ok(tokens)
-        }
+        Some(select) => respelled_select(alloc, front, &select),
         None => Ok(None),
     }
 }

@@ -10,7 +10,7 @@ ghost use Rattle.wd_using.specs.Named.{pieces};
 use crate::count::add_counted;
 use crate::select::{Grouping, condition_of};
 use std::alloc::Global;
-use wd_clauses::{RespellError, add, add_all, added_terminal, copy_token, copy_tokens};
+use wd_clauses::{RespellError, add, add_all, add_copy, added_terminal, copy_tokens};
 use wd_distinct_on::{add_all_placed, add_terminals};
 use wd_grouping::{OneTable, add_closing, add_qualified};
 use wd_lex::{Terminal, Token};
@@ -41,8 +41,7 @@ fn add_columns(
 {
     add_all_placed(written, keys, word)?;
     add_comma_after(written, keys, word)?;
-    add_all_placed(written, column, word)?;
-    Ok(())
+    add_all_placed(written, column, word)
 }
 
 /// Adds `FROM ( SELECT`.
@@ -51,8 +50,7 @@ fn add_opening(written: &mut Vec<Token>, word: &Token) -> Result<(), RespellErro
     ensures { Writes written.old.items written.new.items result (spec.opening word.now) }
 {
     let words = [Terminal::From, Terminal::LeftBracket, Terminal::Select];
-    add_terminals(written, &words, word)?;
-    Ok(())
+    add_terminals(written, &words, word)
 }
 
 /// Adds `FROM ( SELECT keys, c FROM .. WHERE ..`.
@@ -68,8 +66,7 @@ fn add_inner(
     add_opening(written, one.from)?;
     add_columns(written, keys, column, one.from)?;
     add_all(written, select.tables)?;
-    add_all(written, condition_of(select.clauses))?;
-    Ok(())
+    add_all(written, condition_of(select.clauses))
 }
 
 /// Adds `GROUP BY keys, c ) AS a`.
@@ -83,8 +80,7 @@ fn add_by_columns(
 {
     add_terminals(written, &[Terminal::Group, Terminal::By], one.from)?;
     add_columns(written, keys, column, one.from)?;
-    add_closing(written, one.alias, one.from)?;
-    Ok(())
+    add_closing(written, one.alias, one.from)
 }
 
 /// Adds `SELECT [DISTINCT] items`.
@@ -95,10 +91,9 @@ fn add_head(
 ) -> Result<(), RespellError>
     ensures { Writes written.old.items written.new.items result (spec.head (pieces select.now) (option_map (λ table. table.now) table.entry)) }
 {
-    add(written, copy_token(select.select)?)?;
+    add_copy(written, select.select)?;
     add_all(written, select.distinct)?;
-    add_counted(written, table, &select.select.kind, select.items)?;
-    Ok(())
+    add_counted(written, table, &select.select.kind, select.items)
 }
 
 /// Adds `[GROUP BY keys]` and the clauses after them.
@@ -113,8 +108,7 @@ fn add_tail(
     add_all(written, grouping.words)?;
     add_qualified(written, table, grouping.keys)?;
     add_counted(written, table, &select.select.kind, grouping.later)?;
-    add_all(written, select.after)?;
-    Ok(())
+    add_all(written, select.after)
 }
 
 /// The select that counts each value of a column once, and what follows it, after these tokens.

@@ -17,4 +17,4 @@ pub use key::strip;
 pub use kind::{is_by, is_direction, is_dot, starts_with_select};
 pub use respell::without_distinct_on;
 pub use selects::{Selects, respell_backwards, split_at_place};
-pub use write::{add_all_placed, add_placed, add_terminals, added_name};
+pub use write::{add_all_placed, add_name, add_placed, add_terminals, added_name};

@@ -22,10 +22,7 @@ fn items_in(alloc: Global, tokens: &[Token]) -> Result<Option<Vec<Item<'_>>>, Al
     ensures { IfOk result (λ found. Finds (λ x. map named_item x.items) found (spec.items_in tokens.now)) }
 {
     match parts(alloc, tokens)? {
-        Some(parts) => {
-            let items = items_of(alloc, &parts)?;
-            Ok(items)
-        }
+        Some(parts) => items_of(alloc, &parts),
         None => Ok(None),
     }
 }
@@ -42,10 +39,7 @@ fn keys_in<'t>(
         return Ok(Some(Vec::new(alloc)));
     }
     match parts(alloc, tokens)? {
-        Some(parts) => {
-            let keys = keys_of(alloc, items, &parts)?;
-            Ok(keys)
-        }
+        Some(parts) => keys_of(alloc, items, &parts),
         None => Ok(None),
     }
 }
@@ -79,10 +73,7 @@ fn with_orders<'t>(
     ensures { spec.MayWrite (λ x. x.items) result (spec.with_orders front.now (pieces select.now) (map named_item items.now) (map sort_key keys.now)) }
 {
     match keys_in(alloc, items, select.order.keys)? {
-        Some(orders) => {
-            let tokens = if_fit(alloc, front, select, items, keys, &orders)?;
-            Ok(tokens)
-        }
+        Some(orders) => if_fit(alloc, front, select, items, keys, &orders),
         None => Ok(None),
     }
 }
@@ -97,10 +88,7 @@ fn with_keys<'t>(
     ensures { spec.MayWrite (λ x. x.items) result (spec.with_keys front.now (pieces select.now) (map named_item items.now)) }
 {
     match keys_in(alloc, items, select.keys)? {
-        Some(keys) => {
-            let tokens = with_orders(alloc, front, select, items, &keys)?;
-            Ok(tokens)
-        }
+        Some(keys) => with_orders(alloc, front, select, items, &keys),
         None => Ok(None),
     }
 }
@@ -115,10 +103,7 @@ fn respelled_select(
     ensures { spec.MayWrite (λ x. x.items) result (spec.respelled_select front.now (pieces select.now)) }
 {
     match items_in(alloc, select.items)? {
-        Some(items) => {
-            let tokens = with_keys(alloc, front, select, &items)?;
-            Ok(tokens)
-        }
+        Some(items) => with_keys(alloc, front, select, &items),
         None => Ok(None),
     }
 }
@@ -134,10 +119,7 @@ fn respell_at(
 {
     let (front, rest) = split_at_place(place, tokens);
     match select_at(rest) {
-        Some(select) => {
-            let tokens = respelled_select(alloc, front, &select)?;
-            Ok(tokens)
-        }
+        Some(select) => respelled_select(alloc, front, &select),
         None => Ok(None),
     }
 }

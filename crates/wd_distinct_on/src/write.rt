@@ -9,19 +9,27 @@ use crate::item::Item;
 use crate::key::Key;
 use crate::select::Select;
 use std::alloc::{AllocError, Global};
-use wd_clauses::{RespellError, add, add_all, added_terminal, copy_token, copy_tokens};
+use wd_clauses::{RespellError, add, add_all, add_copy, added_terminal, copy_token, copy_tokens};
 use wd_lex::{Terminal, Token, TokenKind};
 use wd_value::Text;
 
-/// A word that is added because of another word.
-fn added_word(alloc: Global, text: &str, word: &Token) -> Result<Token, AllocError>
-    ensures { IfOk result (λ t. t ≡ spec.added_word text.now word.now) }
+/// Adds a word because of another word.
+fn add_word(
+    alloc: Global,
+    written: &mut Vec<Token>,
+    text: &str,
+    word: &Token,
+) -> Result<(), RespellError>
+    ensures { Writes written.old.items written.new.items result (spec.added_word text.now word.now ∷ []) }
 {
     let text = Text::from_str(alloc, text)?;
-    Ok(Token {
-        kind: TokenKind::Word(text),
-        span: word.span,
-    })
+    add(
+        written,
+        Token {
+            kind: TokenKind::Word(text),
+            span: word.span,
+        },
+    )
 }
 
 /// A name that is added because of a word.
@@ -33,6 +41,18 @@ pub fn added_name(alloc: Global, text: &str, word: &Token) -> Result<Token, Allo
         kind: TokenKind::Quoted(text),
         span: word.span,
     })
+}
+
+/// Adds a name because of a word.
+pub fn add_name(
+    alloc: Global,
+    written: &mut Vec<Token>,
+    text: &str,
+    word: &Token,
+) -> Result<(), RespellError>
+    ensures { Writes written.old.items written.new.items result (spec.added_name text.now word.now ∷ []) }
+{
+    add(written, added_name(alloc, text, word)?)
 }
 
 /// Adds terminals because of a word.
@@ -62,8 +82,7 @@ pub fn add_placed(written: &mut Vec<Token>, token: &Token, word: &Token) -> Resu
             kind: copy.kind,
             span: word.span,
         },
-    )?;
-    Ok(())
+    )
 }
 
 /// Adds copies of tokens, all with the place of a word.
@@ -88,7 +107,7 @@ fn add_names(written: &mut Vec<Token>, items: &[Item], word: &Token) -> Result<(
 {
     let mut rest = items;
     while let [item, after @ ..] = rest {
-        add(written, copy_token(item.name)?)?;
+        add_copy(written, item.name)?;
         if !after.is_empty() {
             add(written, added_terminal(Terminal::Comma, word))?;
         }
@@ -97,14 +116,21 @@ fn add_names(written: &mut Vec<Token>, items: &[Item], word: &Token) -> Result<(
     Ok(())
 }
 
+/// Adds a key.
+fn add_key(written: &mut Vec<Token>, key: &Key) -> Result<(), RespellError>
+    ensures { Writes written.old.items written.new.items result ((sort_key key.now).value ++ (sort_key key.now).rest) }
+{
+    add_all(written, key.value)?;
+    add_all(written, key.rest)
+}
+
 /// Adds keys one after another.
 fn add_keys(written: &mut Vec<Token>, keys: &[Key], word: &Token) -> Result<(), RespellError>
     ensures { Writes written.old.items written.new.items result (spec.listed (map sort_key keys.now) word.now) }
 {
     let mut rest = keys;
     while let [key, after @ ..] = rest {
-        add_all(written, key.value)?;
-        add_all(written, key.rest)?;
+        add_key(written, key)?;
         if !after.is_empty() {
             add(written, added_terminal(Terminal::Comma, word))?;
         }
@@ -124,9 +150,8 @@ fn add_head(written: &mut Vec<Token>, select: &Select, items: &[Item]) -> Result
         &[Terminal::From, Terminal::LeftBracket],
         select.distinct,
     )?;
-    add(written, copy_token(select.select)?)?;
-    add_all(written, select.items)?;
-    Ok(())
+    add_copy(written, select.select)?;
+    add_all(written, select.items)
 }
 
 /// Adds `( ) OVER ( PARTITION BY`.
@@ -142,8 +167,7 @@ fn add_over(written: &mut Vec<Token>, word: &Token) -> Result<(), RespellError>
         Terminal::Partition,
         Terminal::By,
     ];
-    add_terminals(written, &words, word)?;
-    Ok(())
+    add_terminals(written, &words, word)
 }
 
 /// Adds `, ROW_NUMBER ( ) OVER ( PARTITION BY keys`.
@@ -156,7 +180,7 @@ fn add_number(
     ensures { Writes written.old.items written.new.items result (spec.number (map sort_key keys.now) word.now) }
 {
     add(written, added_terminal(Terminal::Comma, word))?;
-    add(written, added_word(alloc, "row_number", word)?)?;
+    add_word(alloc, written, "row_number", word)?;
     add_over(written, word)?;
     add_keys(written, keys, word)?;
     Ok(())
@@ -178,15 +202,14 @@ fn add_order(
         &[Terminal::RightBracket, Terminal::As],
         select.distinct,
     )?;
-    add(written, added_name(alloc, "distinct on", select.distinct)?)?;
-    Ok(())
+    add_name(alloc, written, "distinct on", select.distinct)
 }
 
 /// Adds `"distinct on" = 1`.
 fn add_is_first(alloc: Global, written: &mut Vec<Token>, word: &Token) -> Result<(), RespellError>
     ensures { Writes written.old.items written.new.items result (spec.is_first word.now) }
 {
-    add(written, added_name(alloc, "distinct on", word)?)?;
+    add_name(alloc, written, "distinct on", word)?;
     add(written, added_terminal(Terminal::Equals, word))?;
     add(
         written,
@@ -194,18 +217,16 @@ fn add_is_first(alloc: Global, written: &mut Vec<Token>, word: &Token) -> Result
             kind: TokenKind::Number(1),
             span: word.span,
         },
-    )?;
-    Ok(())
+    )
 }
 
 /// Adds `"distinct" WHERE "distinct on" = 1`.
 fn add_first(alloc: Global, written: &mut Vec<Token>, word: &Token) -> Result<(), RespellError>
     ensures { Writes written.old.items written.new.items result (spec.first word.now) }
 {
-    add(written, added_name(alloc, "distinct", word)?)?;
+    add_name(alloc, written, "distinct", word)?;
     add(written, added_terminal(Terminal::Where, word))?;
-    add_is_first(alloc, written, word)?;
-    Ok(())
+    add_is_first(alloc, written, word)
 }
 
 /// Adds `FROM .. ) AS "distinct" WHERE "distinct on" = 1`.
@@ -218,8 +239,7 @@ fn add_tail(alloc: Global, written: &mut Vec<Token>, select: &Select) -> Result<
         &[Terminal::RightBracket, Terminal::As],
         select.distinct,
     )?;
-    add_first(alloc, written, select.distinct)?;
-    Ok(())
+    add_first(alloc, written, select.distinct)
 }
 
 /// The select that replaces one with DISTINCT ON, and what follows it, after these tokens.

@@ -10,8 +10,8 @@ ghost use Rattle.wd_grouping.specs.Replaced as spec;
 use crate::key::{Key, begins_set};
 use crate::kind::{begins_operand, ends_operand};
 use std::alloc::Global;
-use wd_clauses::{RespellError, add, added_terminal, copy_token, is_name};
-use wd_distinct_on::{add_placed, added_name, is_dot, strip};
+use wd_clauses::{RespellError, add, add_copy, added_terminal, is_name};
+use wd_distinct_on::{add_name, add_placed, is_dot, strip};
 use wd_lex::{Terminal, Token, TokenKind};
 use wd_using::is_star;
 
@@ -71,19 +71,6 @@ fn operand_at(keys: &[Key], before: &TokenKind, tokens: &[Token]) -> Option<Oper
     None
 }
 
-/// Adds a name because of a word.
-pub fn add_name(
-    alloc: Global,
-    written: &mut Vec<Token>,
-    name: &str,
-    word: &Token,
-) -> Result<(), RespellError>
-    ensures { Writes written.old.items written.new.items result (added_name name.now word.now ∷ []) }
-{
-    add(written, added_name(alloc, name, word)?)?;
-    Ok(())
-}
-
 /// Whether the tokens begin with a dot.
 pub fn begins_dot(tokens: &[Token]) -> bool
     ensures { result ≡ kinds.begins kinds.is_dot tokens.now }
@@ -104,14 +91,8 @@ pub fn add_its_table(
     ensures { Writes written.old.items written.new.items result (spec.its_table (option_map (λ table. table.now) table.entry) token.now after.now ∷ []) }
 {
     match table {
-        Some(table) if begins_dot(after) => {
-            add_placed(written, table, token)?;
-            Ok(())
-        }
-        _ => {
-            add(written, copy_token(token)?)?;
-            Ok(())
-        }
+        Some(table) if begins_dot(after) => add_placed(written, table, token),
+        _ => add_copy(written, token),
     }
 }
 
@@ -143,14 +124,8 @@ fn add_at(
     ensures { Writes written.old.items written.new.items result (spec.written_at (option_map (λ table. table.now) table.entry) token.now after.now (option_map named.operand operand)) }
 {
     match operand {
-        Some(operand) => {
-            add_name(alloc, written, operand.name, token)?;
-            Ok(())
-        }
-        None => {
-            add_its_table(written, table, token, after)?;
-            Ok(())
-        }
+        Some(operand) => add_name(alloc, written, operand.name, token),
+        None => add_its_table(written, table, token, after),
     }
 }
 

@@ -52,8 +52,7 @@ fn over_tables(
         [from, ..] => {
             let alias = added_name(alloc, "grouped", from)?;
             let one = tables_called(from, &alias);
-            let tokens = if_clear(alloc, front, select, items, keys, &one)?;
-            Ok(tokens)
+            if_clear(alloc, front, select, items, keys, &one)
         }
         [] => Ok(None),
     }
@@ -74,14 +73,8 @@ fn with_keys(
         return Ok(Some(tokens));
     }
     match one_table(select.select.tables) {
-        Some(one) => {
-            let tokens = if_clear(alloc, front, select, items, keys, &one)?;
-            Ok(tokens)
-        }
-        None => {
-            let tokens = over_tables(alloc, front, select, items, keys)?;
-            Ok(tokens)
-        }
+        Some(one) => if_clear(alloc, front, select, items, keys, &one),
+        None => over_tables(alloc, front, select, items, keys),
     }
 }
 
@@ -99,10 +92,7 @@ fn with_parts<'t>(
         return Ok(None);
     }
     match keys_of(alloc, items, found)? {
-        Some(keys) => {
-            let tokens = with_keys(alloc, front, select, items, &keys)?;
-            Ok(tokens)
-        }
+        Some(keys) => with_keys(alloc, front, select, items, &keys),
         None => Ok(None),
     }
 }
@@ -117,10 +107,7 @@ fn with_items<'t>(
     ensures { MayWrite (λ x. x.items) result (spec.with_items front.now (grouped_pieces select.now) (map (λ item. item.now) items.now)) }
 {
     match parts(alloc, select.keys)? {
-        Some(found) => {
-            let tokens = with_parts(alloc, front, select, items, &found)?;
-            Ok(tokens)
-        }
+        Some(found) => with_parts(alloc, front, select, items, &found),
         None => Ok(None),
     }
 }
@@ -134,10 +121,7 @@ fn respelled_select(
     ensures { MayWrite (λ x. x.items) result (spec.respelled_select front.now (grouped_pieces select.now)) }
 {
     match parts(alloc, select.select.items)? {
-        Some(items) => {
-            let tokens = with_items(alloc, front, select, &items)?;
-            Ok(tokens)
-        }
+        Some(items) => with_items(alloc, front, select, &items),
         None => Ok(None),
     }
 }
@@ -163,10 +147,7 @@ fn respell_at(
 {
     let (front, rest) = split_at_place(place, tokens);
     match grouping_at(rest) {
-        Some(select) => {
-            let tokens = respelled_select(alloc, front, &select)?;
-            Ok(tokens)
-        }
+        Some(select) => respelled_select(alloc, front, &select),
         None => Ok(None),
     }
 }

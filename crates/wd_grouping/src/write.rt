@@ -6,12 +6,12 @@ ghost use Rattle.wd_grouping.specs.Named.{group_key, grouped_pieces, one_table};
 ghost use Rattle.wd_grouping.specs.Written as spec;
 
 use crate::key::Key;
-use crate::replace::{add_items, add_name, add_qualified, add_replaced};
+use crate::replace::{add_items, add_qualified, add_replaced};
 use crate::select::Grouped;
 use crate::source::OneTable;
 use std::alloc::Global;
-use wd_clauses::{RespellError, add, add_all, added_terminal, copy_token, copy_tokens};
-use wd_distinct_on::{add_all_placed, add_placed, add_terminals};
+use wd_clauses::{RespellError, add, add_all, add_copy, added_terminal, copy_tokens};
+use wd_distinct_on::{add_all_placed, add_name, add_placed, add_terminals};
 use wd_lex::{Terminal, Token};
 
 /// Adds what a key groups by.
@@ -25,14 +25,8 @@ fn add_key(
     ensures { Writes written.old.items written.new.items result (spec.key_by (option_map (λ table. table.now) table.entry) word.now (group_key key.now).value (group_key key.now).name) }
 {
     match key.name {
-        Some(name) => {
-            add_name(alloc, written, name, word)?;
-            Ok(())
-        }
-        None => {
-            add_qualified(written, table, key.value)?;
-            Ok(())
-        }
+        Some(name) => add_name(alloc, written, name, word),
+        None => add_qualified(written, table, key.value),
     }
 }
 
@@ -67,10 +61,9 @@ fn add_grouped(
 ) -> Result<(), RespellError>
     ensures { Writes written.old.items written.new.items result (spec.grouped (grouped_pieces select.now) (option_map (λ table. table.now) table.entry) (map group_key keys.now)) }
 {
-    add(written, copy_token(select.group)?)?;
-    add(written, copy_token(select.by)?)?;
-    add_listed(alloc, written, keys, table, select.group)?;
-    Ok(())
+    add_copy(written, select.group)?;
+    add_copy(written, select.by)?;
+    add_listed(alloc, written, keys, table, select.group)
 }
 
 /// Adds `, value AS name`.
@@ -86,8 +79,7 @@ fn add_named(
     add(written, added_terminal(Terminal::Comma, word))?;
     add_all_placed(written, value, word)?;
     add(written, added_terminal(Terminal::As, word))?;
-    add_name(alloc, written, name, word)?;
-    Ok(())
+    add_name(alloc, written, name, word)
 }
 
 /// Adds the column for a key.
@@ -100,10 +92,7 @@ fn add_column(
     ensures { Writes written.old.items written.new.items result (spec.column_by word.now (group_key key.now).value (group_key key.now).name) }
 {
     match key.name {
-        Some(name) => {
-            add_named(alloc, written, key.value, name, word)?;
-            Ok(())
-        }
+        Some(name) => add_named(alloc, written, key.value, name, word),
         None => Ok(()),
     }
 }
@@ -136,8 +125,7 @@ fn add_opening(written: &mut Vec<Token>, word: &Token) -> Result<(), RespellErro
         Terminal::Select,
         Terminal::Star,
     ];
-    add_terminals(written, &words, word)?;
-    Ok(())
+    add_terminals(written, &words, word)
 }
 
 /// Adds `) AS alias`.
@@ -149,8 +137,7 @@ pub fn add_closing(
     ensures { Writes written.old.items written.new.items result (spec.closing alias.now word.now) }
 {
     add_terminals(written, &[Terminal::RightBracket, Terminal::As], word)?;
-    add_placed(written, alias, word)?;
-    Ok(())
+    add_placed(written, alias, word)
 }
 
 /// Adds `FROM ( SELECT * , e AS "group 1" FROM .. WHERE .. ) AS a`.
@@ -167,17 +154,15 @@ fn add_table(
     add_columns(alloc, written, keys, one.from)?;
     add_all(written, grouped.select.tables)?;
     add_all(written, grouped.condition)?;
-    add_closing(written, one.alias, one.from)?;
-    Ok(())
+    add_closing(written, one.alias, one.from)
 }
 
 /// Adds `SELECT [DISTINCT]`.
 fn add_select(written: &mut Vec<Token>, select: &Grouped) -> Result<(), RespellError>
     ensures { Writes written.old.items written.new.items result (spec.select_words (grouped_pieces select.now)) }
 {
-    add(written, copy_token(select.select.select)?)?;
-    add_all(written, select.select.distinct)?;
-    Ok(())
+    add_copy(written, select.select.select)?;
+    add_all(written, select.select.distinct)
 }
 
 /// Adds the pieces of a select before GROUP BY.
@@ -187,8 +172,7 @@ fn add_before_keys(written: &mut Vec<Token>, select: &Grouped) -> Result<(), Res
     add_select(written, select)?;
     add_all(written, select.select.items)?;
     add_all(written, select.select.tables)?;
-    add_all(written, select.condition)?;
-    Ok(())
+    add_all(written, select.condition)
 }
 
 /// The select whose keys are columns of its tables, and what follows it, after these tokens.
@@ -228,8 +212,7 @@ fn add_head(
         select.select.select,
         items,
     )?;
-    add_table(alloc, written, select, one, keys)?;
-    Ok(())
+    add_table(alloc, written, select, one, keys)
 }
 
 /// Adds the clauses from GROUP BY on.
@@ -251,8 +234,7 @@ fn add_tail(
         &select.select.select.kind,
         select.later,
     )?;
-    add_all(written, select.select.after)?;
-    Ok(())
+    add_all(written, select.select.after)
 }
 
 /// The select over the table that has its keys, and what follows it, after these tokens.

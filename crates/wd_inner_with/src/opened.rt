@@ -1,13 +1,13 @@
 //! One WITH clause within brackets.
 
-ghost use Rattle.std.specs.Prelude.{◌≡◌};
+ghost use Rattle.std.specs.Prelude.{◌≡◌, ◌∷◌, ◌++◌};
 ghost use Rattle.wd_clauses.specs.Given.{Makes};
 ghost use Rattle.wd_clauses.specs.Reach as reach;
 ghost use Rattle.wd_inner_with.specs.Inner as spec;
 ghost use Rattle.wd_with.specs.Expanded as members;
 
 use std::alloc::Global;
-use wd_clauses::{RespellError, add, add_all, closing, copy_token, copy_tokens};
+use wd_clauses::{RespellError, add_all, add_copy, closing, copy_tokens};
 use wd_distinct_on::split_at_place;
 use wd_lex::{Terminal, Token, TokenKind};
 use wd_with::{Expanded, without_with};
@@ -25,6 +25,23 @@ pub fn begins_inner(tokens: &[Token]) -> bool
     }
 }
 
+/// These tokens with a query in brackets between them.
+fn joined(
+    alloc: Global,
+    front: &[Token],
+    bracket: &Token,
+    query: &[Token],
+    after: &[Token],
+) -> Result<Vec<Token>, RespellError>
+    ensures { Makes (λ x. x.items) (λ x. x) result (front.now ++ bracket.now ∷ (query.now ++ after.now)) }
+{
+    let mut written = copy_tokens(alloc, front)?;
+    add_copy(&mut written, bracket)?;
+    add_all(&mut written, query)?;
+    add_all(&mut written, after)?;
+    Ok(written)
+}
+
 /// A query in brackets without its WITH clause, put between these tokens.
 fn between(
     alloc: Global,
@@ -36,12 +53,8 @@ fn between(
     ensures { Makes members.said (λ s. s.tokens) result (spec.between front.now bracket.now (members.expanded query.now) after.now) }
 {
     let Expanded { tokens, read_twice } = without_with(alloc, query)?;
-    let mut written = copy_tokens(alloc, front)?;
-    add(&mut written, copy_token(bracket)?)?;
-    add_all(&mut written, &tokens)?;
-    add_all(&mut written, after)?;
     Ok(Expanded {
-        tokens: written,
+        tokens: joined(alloc, front, bracket, &tokens, after)?,
         read_twice,
     })
 }
@@ -75,10 +88,7 @@ pub fn open_at(
 {
     let (front, rest) = split_at_place(place, tokens);
     match rest {
-        [bracket, inner @ ..] if begins_inner(rest) => {
-            let query = up_to(alloc, front, bracket, inner)?;
-            Ok(query)
-        }
+        [bracket, inner @ ..] if begins_inner(rest) => up_to(alloc, front, bracket, inner),
         _ => Ok(None),
     }
 }

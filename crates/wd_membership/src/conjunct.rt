@@ -54,6 +54,5 @@ pub fn conjuncts(alloc: Global, tokens: &[Token]) -> Result<Option<Vec<Conjunct<
     if stands(Extent::Choice, tokens) {
         return Ok(None);
     }
-    let conjuncts = conjuncts_at(alloc, tokens)?;
-    Ok(conjuncts)
+    conjuncts_at(alloc, tokens)
 }

@@ -223,10 +223,7 @@ fn with_conditions<'t>(
     ensures { IfOk result (λ found. Finds named.membership found (spec.with_conditions word.now (pieces select.now) conditions.now alias.now)) }
 {
     match conjuncts(alloc, conditions)? {
-        Some(conjuncts) => {
-            let found = with_conjuncts(alloc, word, select, alias, &conjuncts)?;
-            Ok(found)
-        }
+        Some(conjuncts) => with_conjuncts(alloc, word, select, alias, &conjuncts),
         None => Ok(None),
     }
 }
@@ -244,10 +241,7 @@ fn exists_query<'t>(
         return Ok(None);
     }
     match name_of_table(select.tables) {
-        Some(alias) => {
-            let found = with_conditions(alloc, word, select, alias, conditions)?;
-            Ok(found)
-        }
+        Some(alias) => with_conditions(alloc, word, select, alias, conditions),
         None => Ok(None),
     }
 }
@@ -263,10 +257,7 @@ pub fn exists_at(alloc: Global, tokens: &[Token]) -> Result<Option<Membership<'_
         return Ok(None);
     }
     match query_in(rest) {
-        Some(select) => {
-            let found = exists_query(alloc, word, &select)?;
-            Ok(found)
-        }
+        Some(select) => exists_query(alloc, word, &select),
         None => Ok(None),
     }
 }

@@ -18,7 +18,7 @@ use wd_operands::operand_length;
 use wd_using::{Extent, Select, after_as};
 
 /// A test of whether a row is among others.
-#[derive(Clone, Copy, PartialEq, Eq)]
+#[derive(Clone, Copy)]
 pub enum Test {
     In,
     Exists,
@@ -81,11 +81,11 @@ fn in_query<'t>(
     if !is_value(select.items) || stands(Extent::Limit, select.clauses) {
         return Ok(None);
     }
-    let mut pairs = Vec::new(alloc);
-    pairs.push(Pair {
+    let pair = Pair {
         outer: operand,
         inner: value_of(select.items),
-    })?;
+    };
+    let pairs = Vec::from_slice(alloc, &[pair])?;
     Ok(Some(Membership {
         test: Test::In,
         word,
@@ -112,10 +112,7 @@ fn after_operand<'t>(
         return Ok(None);
     }
     match query_in(rest) {
-        Some(select) => {
-            let found = in_query(alloc, operand, word, &select)?;
-            Ok(found)
-        }
+        Some(select) => in_query(alloc, operand, word, &select),
         None => Ok(None),
     }
 }
@@ -125,8 +122,7 @@ fn in_at(alloc: Global, tokens: &[Token]) -> Result<Option<Membership<'_>>, Allo
     ensures { IfOk result (λ found. Finds named.membership found (spec.in_at tokens.now)) }
 {
     let (operand, following) = split_at_place(operand_length(tokens), tokens);
-    let found = after_operand(alloc, operand, following)?;
-    Ok(found)
+    after_operand(alloc, operand, following)
 }
 
 /// The membership that the tokens are.
@@ -136,10 +132,7 @@ fn membership_at(alloc: Global, tokens: &[Token]) -> Result<Option<Membership<'_
 {
     match exists_at(alloc, tokens)? {
         Some(membership) => Ok(Some(membership)),
-        None => {
-            let found = in_at(alloc, tokens)?;
-            Ok(found)
-        }
+        None => in_at(alloc, tokens),
     }
 }
 

@@ -24,7 +24,7 @@ fn column_text(alloc: Global, test: Test, table: usize, column: usize) -> Result
     ensures { IfOk result (λ text. text ≡ spec.column_name test table column) }
 {
     match test {
-        Test::In => Text::new(alloc, format!(in alloc; "in {table}")?),
+        Test::In => table_text(alloc, test, table),
         Test::Exists => Text::new(alloc, format!(in alloc; "exists {table} {column}")?),
     }
 }

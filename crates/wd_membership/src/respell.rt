@@ -51,10 +51,7 @@ fn respelled_select(
     }
     let (conditions, _later) = split(Stop::Later, select.clauses);
     match conjuncts(alloc, conditions)? {
-        Some(conjuncts) => {
-            let tokens = if_any(alloc, front, select, &conjuncts)?;
-            Ok(tokens)
-        }
+        Some(conjuncts) => if_any(alloc, front, select, &conjuncts),
         None => Ok(None),
     }
 }
@@ -70,10 +67,7 @@ fn respell_at(
 {
     let (front, rest) = split_at_place(place, tokens);
     match select_at(rest) {
-        Some(select) => {
-            let tokens = respelled_select(alloc, front, &select)?;
-            Ok(tokens)
-        }
+        Some(select) => respelled_select(alloc, front, &select),
         None => Ok(None),
     }
 }

@@ -1,10 +1,11 @@
 //! A select with a derived table for each membership.
 
-ghost use Rattle.std.specs.Prelude.{◌≡◌, ◌≤◌, ◌<◌, ◌+◌, ◌^◌, ◌++◌, map};
+ghost use Rattle.std.specs.Prelude.{◌≡◌, ◌≤◌, ◌<◌, ◌+◌, ◌^◌, ◌∷◌, ◌++◌, [], map};
 ghost use Rattle.wd_clauses.specs.Given.{Makes, Writes};
-ghost use Rattle.wd_distinct_on.specs.Written.{comma_before};
+ghost use Rattle.wd_distinct_on.specs.Written.{added_name, comma_before};
 ghost use Rattle.wd_lex.specs.declared.token.Terminal.TheVariants.{Where};
 ghost use Rattle.wd_membership.specs.Named as named;
+ghost use Rattle.wd_membership.specs.Names as names;
 ghost use Rattle.wd_membership.specs.Written as spec;
 ghost use Rattle.wd_using.specs.Named.{pieces};
 
@@ -12,11 +13,40 @@ use crate::conjunct::Conjunct;
 use crate::membership::{Member, Membership, Pair};
 use crate::name::{column_name, table_name};
 use std::alloc::Global;
-use wd_clauses::{
-    RespellError, Stop, add, add_all, added_terminal, copy_token, copy_tokens, split,
-};
+use wd_clauses::{RespellError, Stop, add, add_all, add_copy, added_terminal, copy_tokens, split};
 use wd_lex::{Terminal, Token};
 use wd_using::Select;
+
+/// Adds the name of a membership's table.
+fn add_table_name(
+    alloc: Global,
+    written: &mut Vec<Token>,
+    membership: &Membership,
+    table: usize,
+) -> Result<(), RespellError>
+    ensures { Writes written.old.items written.new.items result (added_name (names.table_name (named.membership membership.now).test table) (named.membership membership.now).word ∷ []) }
+{
+    add(
+        written,
+        table_name(alloc, membership.test, table, membership.word)?,
+    )
+}
+
+/// Adds the name of a column of a membership's table.
+fn add_column_name(
+    alloc: Global,
+    written: &mut Vec<Token>,
+    membership: &Membership,
+    table: usize,
+    column: usize,
+) -> Result<(), RespellError>
+    ensures { Writes written.old.items written.new.items result (added_name (names.column_name (named.membership membership.now).test table column) (named.membership membership.now).word ∷ []) }
+{
+    add(
+        written,
+        column_name(alloc, membership.test, table, column, membership.word)?,
+    )
+}
 
 /// Adds `y AS "in 1"`.
 fn add_item(
@@ -29,11 +59,9 @@ fn add_item(
 ) -> Result<(), RespellError>
     ensures { Writes written.old.items written.new.items result (spec.item_of (named.membership membership.now) table column (named.pair pair.now)) }
 {
-    let name = column_name(alloc, membership.test, table, column, membership.word)?;
     add_all(written, pair.inner)?;
     add(written, added_terminal(Terminal::As, membership.word))?;
-    add(written, name)?;
-    Ok(())
+    add_column_name(alloc, written, membership, table, column)
 }
 
 /// Adds a comma, if something follows.
@@ -42,10 +70,7 @@ fn add_comma(written: &mut Vec<Token>, pairs: &[Pair], word: &Token) -> Result<(
 {
     match pairs {
         [] => Ok(()),
-        [_, ..] => {
-            add(written, added_terminal(Terminal::Comma, word))?;
-            Ok(())
-        }
+        [_, ..] => add(written, added_terminal(Terminal::Comma, word)),
     }
 }
 
@@ -55,10 +80,7 @@ fn add_and(written: &mut Vec<Token>, pairs: &[Pair], word: &Token) -> Result<(),
 {
     match pairs {
         [] => Ok(()),
-        [_, ..] => {
-            add(written, added_terminal(Terminal::And, word))?;
-            Ok(())
-        }
+        [_, ..] => add(written, added_terminal(Terminal::And, word)),
     }
 }
 
@@ -106,14 +128,12 @@ fn add_alias(
 ) -> Result<(), RespellError>
     ensures { Writes written.old.items written.new.items result (spec.alias (named.membership membership.now) table) }
 {
-    let name = table_name(alloc, membership.test, table, membership.word)?;
     add(
         written,
         added_terminal(Terminal::RightBracket, membership.word),
     )?;
     add(written, added_terminal(Terminal::As, membership.word))?;
-    add(written, name)?;
-    Ok(())
+    add_table_name(alloc, written, membership, table)
 }
 
 /// Adds `SELECT DISTINCT y AS "in 1" FROM ..`.
@@ -125,13 +145,12 @@ fn add_query(
 ) -> Result<(), RespellError>
     ensures { Writes written.old.items written.new.items result (spec.query (named.membership membership.now) table) }
 {
-    add(written, copy_token(membership.select)?)?;
+    add_copy(written, membership.select)?;
     add(written, added_terminal(Terminal::Distinct, membership.word))?;
     add_items(alloc, written, membership, table)?;
     add_all(written, membership.tables)?;
     add_conditions(written, &membership.conjuncts)?;
-    add_all(written, membership.clauses)?;
-    Ok(())
+    add_all(written, membership.clauses)
 }
 
 /// Adds `, ( query ) AS "in 1"`.
@@ -149,8 +168,7 @@ fn add_derived(
         added_terminal(Terminal::LeftBracket, membership.word),
     )?;
     add_query(alloc, written, membership, table)?;
-    add_alias(alloc, written, membership, table)?;
-    Ok(())
+    add_alias(alloc, written, membership, table)
 }
 
 /// Adds `= "in 1"."in 1"`.
@@ -163,13 +181,10 @@ fn add_column(
 ) -> Result<(), RespellError>
     ensures { Writes written.old.items written.new.items result (spec.column_of (named.membership membership.now) table column) }
 {
-    let qualifier = table_name(alloc, membership.test, table, membership.word)?;
-    let name = column_name(alloc, membership.test, table, column, membership.word)?;
     add(written, added_terminal(Terminal::Equals, membership.word))?;
-    add(written, qualifier)?;
+    add_table_name(alloc, written, membership, table)?;
     add(written, added_terminal(Terminal::Dot, membership.word))?;
-    add(written, name)?;
-    Ok(())
+    add_column_name(alloc, written, membership, table, column)
 }
 
 /// Adds `x = "in 1"."in 1"`.
@@ -184,8 +199,7 @@ fn add_comparison(
     ensures { Writes written.old.items written.new.items result (spec.comparison_of (named.membership membership.now) table column (named.pair pair.now)) }
 {
     add_all(written, pair.outer)?;
-    add_column(alloc, written, membership, table, column)?;
-    Ok(())
+    add_column(alloc, written, membership, table, column)
 }
 
 /// Adds `x = "in 1"."in 1" {AND x = "in 1"."in 1"}`.
@@ -218,10 +232,7 @@ fn add_table(
     ensures { Writes written.old.items written.new.items result (spec.table_if table (named.member member.now).membership) }
 {
     match &member.membership {
-        Some(membership) => {
-            add_derived(alloc, written, membership, table)?;
-            Ok(())
-        }
+        Some(membership) => add_derived(alloc, written, membership, table),
         None => Ok(()),
     }
 }
@@ -266,14 +277,8 @@ fn add_test(
     ensures { Writes written.old.items written.new.items result (spec.test table (named.member member.now).conjunct (named.member member.now).membership) }
 {
     match &member.membership {
-        Some(membership) => {
-            add_comparisons(alloc, written, membership, table)?;
-            Ok(())
-        }
-        None => {
-            add_all(written, member.conjunct.test)?;
-            Ok(())
-        }
+        Some(membership) => add_comparisons(alloc, written, membership, table),
+        None => add_all(written, member.conjunct.test),
     }
 }
 
@@ -288,7 +293,7 @@ fn add_tests(
     let mut table: usize = 1;
     let mut rest = members;
     while let [member, after @ ..] = rest {
-        add(written, copy_token(member.conjunct.word)?)?;
+        add_copy(written, member.conjunct.word)?;
         add_test(alloc, written, member, table)?;
         table = next(table, member);
         rest = after;
@@ -306,7 +311,7 @@ fn add_select(
     ensures { Writes written.old.items written.new.items result (spec.written (pieces select.now) (map named.member members.now)) }
 {
     let (_conditions, later) = split(Stop::Later, select.clauses);
-    add(written, copy_token(select.select)?)?;
+    add_copy(written, select.select)?;
     add_all(written, select.distinct)?;
     add_all(written, select.items)?;
     add_all(written, select.tables)?;

@@ -1,14 +1,8 @@
 -- Parts of a FROM clause as they are read, as pure data.
 use Rattle.std.specs.Prelude.{map, option_map}
-use Rattle.wd_using.specs.Joins as joins
-use Rattle.wd_using.specs.Named.{table_alias}
 use Rattle.wd_natural.specs.declared.join.Head.{Head}
 use Rattle.wd_natural.specs.declared.join.Joined.{Joined}
-use Rattle.wd_natural.specs.declared.source.Source.{Source}
 use Rattle.wd_natural.specs.Naturals as spec
-
-abbrev pub table_source : Source → joins.Source
-table_source source = record { columns = map (λ column. column.now) source.columns.items; alias = table_alias source.alias }
 
 abbrev pub join_head : Head → spec.Head
 join_head head = record { natural = option_map (λ word. word.now) head.natural; join = head.join.now; after = head.after.now }

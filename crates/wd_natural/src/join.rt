@@ -8,12 +8,11 @@ ghost use Rattle.wd_schema.specs.Schemas.{schema_of};
 ghost use Rattle.wd_using.specs.Joins as joins;
 
 use crate::kind::{begins_condition, begins_table, is_inner, is_join, is_natural};
-use crate::source::{Source, source_at};
 use std::alloc::{AllocError, Global};
 use wd_distinct_on::split_at_place;
 use wd_lex::Token;
 use wd_schema::Schema;
-use wd_using::{Extent, split_at};
+use wd_using::{Extent, Source, source_at, split_at};
 
 /// NATURAL, if it is written, FROM or JOIN, and the tokens after them.
 #[derive(Drop)]

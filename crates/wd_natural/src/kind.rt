@@ -25,12 +25,6 @@ pub fn is_inner(kind: &TokenKind) -> bool
     matches!(kind, TokenKind::Terminal(Terminal::Inner))
 }
 
-pub fn is_select(kind: &TokenKind) -> bool
-    ensures { result ≡ kinds.is_select kind.now }
-{
-    matches!(kind, TokenKind::Terminal(Terminal::Select))
-}
-
 /// Whether the token is FROM or JOIN, after which a table begins.
 pub fn begins_table(kind: &TokenKind) -> bool
     ensures { result ≡ joining.begins_table kind.now }

@@ -28,8 +28,7 @@ fn tables_in<'t>(
     ensures { IfOk result (λ found. Finds (λ x. map natural_table x.items) found (spec.tables_in (schema_of schema.now) clause.now)) }
 {
     if has_natural(clause) {
-        let tables = joined_tables(alloc, schema, clause)?;
-        return Ok(tables);
+        return joined_tables(alloc, schema, clause);
     }
     Ok(None)
 }
@@ -66,8 +65,7 @@ fn respell_at(
     let (front, rest) = split_at_place(place, tokens);
     if starts_with_from(rest) {
         let (clause, after) = split(Stop::Clause, rest);
-        let tokens = respelled_clause(alloc, schema, front, clause, after)?;
-        return Ok(tokens);
+        return respelled_clause(alloc, schema, front, clause, after);
     }
     Ok(None)
 }

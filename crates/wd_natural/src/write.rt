@@ -10,8 +10,8 @@ ghost use Rattle.wd_natural.specs.Written as spec;
 
 use crate::join::Joined;
 use std::alloc::{AllocError, Global};
-use wd_clauses::{RespellError, add, add_all, added_terminal, copy_token};
-use wd_distinct_on::added_name;
+use wd_clauses::{RespellError, add, add_all, add_copy, added_terminal, copy_tokens};
+use wd_distinct_on::add_name;
 use wd_lex::{Terminal, Token};
 
 /// Whether one of the columns has that name.
@@ -43,7 +43,7 @@ fn common<'t>(alloc: Global, left: &[&str], columns: &[&'t str]) -> Result<Vec<&
 }
 
 /// Adds a name after a terminal.
-fn add_name(
+fn add_next_name(
     alloc: Global,
     written: &mut Vec<Token>,
     first: Terminal,
@@ -53,8 +53,7 @@ fn add_name(
     ensures { Writes written.old.items written.new.items result (spelling.added first word.now ∷ naming.added_name name.now word.now ∷ []) }
 {
     add(written, added_terminal(first, word))?;
-    add(written, added_name(alloc, name, word)?)?;
-    Ok(())
+    add_name(alloc, written, name, word)
 }
 
 /// Adds a bracket and a name, and a comma and each further name.
@@ -69,7 +68,7 @@ fn add_names(
     let mut first = Terminal::LeftBracket;
     let mut rest = names;
     while let [name, after @ ..] = rest {
-        add_name(alloc, written, first, name, word)?;
+        add_next_name(alloc, written, first, name, word)?;
         first = Terminal::Comma;
         rest = after;
     }
@@ -87,13 +86,11 @@ fn add_condition(
 {
     if names.is_empty() {
         add(written, added_terminal(Terminal::On, word))?;
-        add(written, added_terminal(Terminal::True, word))?;
-        return Ok(());
+        return add(written, added_terminal(Terminal::True, word));
     }
     add(written, added_terminal(Terminal::Using, word))?;
     add_names(alloc, written, names, word)?;
-    add(written, added_terminal(Terminal::RightBracket, word))?;
-    Ok(())
+    add(written, added_terminal(Terminal::RightBracket, word))
 }
 
 /// Adds the condition of a NATURAL JOIN with a table, after tables with these columns.
@@ -108,8 +105,7 @@ fn add_condition_if(
     match table.natural {
         Some(word) => {
             let names = common(alloc, left, &table.columns)?;
-            add_condition(alloc, written, &names, word)?;
-            Ok(())
+            add_condition(alloc, written, &names, word)
         }
         None => Ok(()),
     }
@@ -124,11 +120,10 @@ fn add_joined(
 ) -> Result<(), RespellError>
     ensures { Writes written.old.items written.new.items result (spec.joined (map (λ column. column.now) left.now) (natural_table table.now)) }
 {
-    add(written, copy_token(table.join)?)?;
+    add_copy(written, table.join)?;
     add_all(written, table.table)?;
     add_condition_if(alloc, written, left, table)?;
-    add_all(written, table.rest)?;
-    Ok(())
+    add_all(written, table.rest)
 }
 
 /// Adds columns after others.
@@ -169,8 +164,7 @@ pub fn write_clause(
 ) -> Result<Vec<Token>, RespellError>
     ensures { Makes (λ x. x.items) (λ x. x) result (front.now ++ spec.all_joined [] (map natural_table tables.now) ++ after.now) }
 {
-    let mut written = Vec::new(alloc);
-    add_all(&mut written, front)?;
+    let mut written = copy_tokens(alloc, front)?;
     add_all_joined(alloc, &mut written, tables)?;
     add_all(&mut written, after)?;
     Ok(written)

@@ -9,7 +9,7 @@ use wd_lex::{Terminal, TokenKind};
 pub fn is_test_word(text: &str) -> bool
     ensures { result ≡ spec.is_test_word text.now }
 {
-    text == "between" || text == "in" || text == "like" || text == "ilike" || text == "similar"
+    matches!(text, "between" | "in" | "like" | "ilike" | "similar")
 }
 
 pub fn is_name(kind: &TokenKind) -> bool

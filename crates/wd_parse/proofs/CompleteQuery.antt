@@ -21,9 +21,9 @@ use Rattle.wd_syntax.specs.Spelling.{not_onto, onto, list_onto, arms_onto, else_
 use Rattle.wd_syntax.specs.Levels.{IsLevelled, WindowLevelled, ItemLevelled, OptionLevelled, TableLevelled, JoinLevelled, JoinsLevelled, SelectLevelled, IsWellLevelled}
 use Rattle.wd_read_expression.proofs.Fitting.{Below, Fits, WindowFits, KeysFit}
 use Rattle.wd_parse.proofs.Fitting.{ItemFits, OptionFits, GroupingFits, TableFits, JoinFits, JoinsFit, SelectFits, QueryFits}
-use Rattle.wd_read_cursor.specs.Cursor.{Fault, Unexpected, Limit, ◌>>=◌, Reads, Parser, Chance, choose, eat, expect, eat_name, many, after, list_at}
-use Rattle.wd_read_expression.specs.Reading.{order_at, window_at, enter, deeper_of}
-use Rattle.wd_parse.specs.Reading.{quantifier_at, required_alias_at, alias_at, star_at, item_at, filter_at, grouping_at, named_window_at, windows_at, limits_at, ending_at, tail_at, Inner, table_at, inner_at, join_at, from_at, select_at, selects, inside_of, if_last, whole}
+use Rattle.wd_read_cursor.specs.Cursor.{Fault, Unexpected, Limit, ◌>>=◌, Reads, Parser, Chance, choose, eat, expect, eat_name, name_at, many, after, list_at}
+use Rattle.wd_read_expression.specs.Reading.{order_at, window_at, enter, Deeper, deeper_of}
+use Rattle.wd_parse.specs.Reading.{quantifier_at, required_alias_at, alias_at, star_at, item_at, filter_at, grouping_at, named_window_at, window_in_brackets_at, windows_at, limits_at, ending_at, tail_at, from_and_tail_at, Inner, table_at, inner_at, join_at, from_at, select_at, selects, inside_of, if_last, whole}
 use Rattle.wd_read_cursor.proofs.Eaten.{eat_same, expect_same, eat_name_same, name_at_same, eat_name_kind}
 use Rattle.wd_read_expression.proofs.TerminalFacts.{grips, grips_name, grip_stops, operator_grip, operator_bounds, clauses, clause_stops, clause_grips}
 use Rattle.wd_parse.proofs.Pieces.{quantifier_same, given_same, alias_same, star_same, limits_same, limits_clause}
@@ -33,6 +33,11 @@ use Rattle.wd_read_expression.proofs.Complete.{Yields, then_yields, then_exactly
 then_then : {A B C : Type 0} (r : Result A Fault) (f : A → Result B Fault) (g : B → Result C Fault) → ((r >>= f) >>= g) ≡ (r >>= λ x. f x >>= g)
 then_then (Ok x) f g = refl
 then_then (Err e) f g = refl
+
+-- what follows the name of a window may be read by itself
+pub named_window_by_window : (deeper : Deeper) (ts : Kinds) → named_window_at deeper ts ≡ (name_at ts >>= λ n. window_in_brackets_at deeper n.1 >>= λ w. Ok ((n.0, w.0), w.1))
+unfolding named_window_at
+named_window_by_window deeper ts = simp then_then
 
 -- ---- what is no `name . *`
 
@@ -374,8 +379,8 @@ module _ (c : ℕ) where
   selects_are zero ts = refl
   selects_are (suc d) ts = refl
 
-  -- what follows FROM may be read first, and then made part of the select
-  pub selects_by_tail : (d : ℕ) (ts : Kinds) → selects c d ts ≡ (expect m.Select ts >>= λ r. list_at m.Comma (item_at (level c d 8)) (quantifier_at r).1 >>= λ items. expect m.From items.1 >>= λ q. from_at (inside_of c d) (level c d 8) q >>= λ tables. tail_at c d tables.1 >>= λ tail. Ok (select (record { quantifier = (quantifier_at r).0; items = items.0; tail = tail.0 }) tables.0.0 (joins_of tables.0.1), tail.1))
+  -- FROM and what follows it may be read first, and then made part of the select
+  pub selects_by_tail : (d : ℕ) (ts : Kinds) → selects c d ts ≡ (expect m.Select ts >>= λ r. list_at m.Comma (item_at (level c d 8)) (quantifier_at r).1 >>= λ items. from_and_tail_at c d items.1 >>= λ more. Ok (select (record { quantifier = (quantifier_at r).0; items = items.0; tail = more.0.1 }) more.0.0.0 (joins_of more.0.0.1), more.1))
   unfolding select_at ending_at tail_at
   selects_by_tail d ts = rw (selects_are d ts) (simp then_then)
 

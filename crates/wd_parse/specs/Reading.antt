@@ -128,6 +128,10 @@ grouping_at depth item ts = group_at depth ts >>= λ items. having_at item items
 unfoldable pub named_window_at : Deeper → Parser (Name × WindowTree)
 named_window_at deeper ts = name_at ts >>= λ n. expect m.As n.1 >>= λ r. expect m.LeftBracket r >>= λ q. enter (length r) deeper (λ p. window_at (p whole_height) q) >>= λ w. Ok ((n.0, w.0), w.1)
 
+-- AS and a window in brackets: that part of named_window_at by itself
+abbrev pub window_in_brackets_at : Deeper → Parser WindowTree
+window_in_brackets_at deeper ts = expect m.As ts >>= λ r. expect m.LeftBracket r >>= λ q. enter (length r) deeper (λ p. window_at (p whole_height) q)
+
 unfoldable pub windows_at : Deeper → Parser (List (Name × WindowTree))
 windows_at deeper ts = choose (eat m.Window ts) (λ r. list_at m.Comma (named_window_at deeper) r) (Ok ([], ts))
 
@@ -179,10 +183,13 @@ limits_at ts =
 abbrev pub Inner : Type 0
 Inner = Option (Parser SelectTree)
 
+abbrev pub named_table_at : Parser TableTree
+named_table_at ts = name_at ts >>= λ n. alias_at n.1 >>= λ alias. Ok (named n.0 alias.0, alias.1)
+
 unfoldable pub table_at : Inner → Parser TableTree
 table_at deeper ts =
     choose (eat m.LeftBracket ts) (λ r. enter (length ts) deeper (λ p. p r) >>= λ s. expect m.RightBracket s.1 >>= λ r. required_alias_at r >>= λ alias. Ok (derived s.0 alias.0, alias.1))
-    (name_at ts >>= λ n. alias_at n.1 >>= λ alias. Ok (named n.0 alias.0, alias.1))
+    (named_table_at ts)
 
 -- after JOIN
 unfoldable pub inner_at : Inner → Parser Tree → Bool → Parser JoinTree
@@ -211,11 +218,15 @@ select_at limit depth inside ts =
 unfoldable pub ending_at : ℕ → ℕ → Parser (List (Name × WindowTree) × List Key × Option Limits)
 ending_at limit depth ts = windows_at (deeper_of limit depth) ts >>= λ windows. order_at (read limit depth whole_height) windows.1 >>= λ order. limits_at order.1 >>= λ limits. Ok ((windows.0, order.0, limits.0), limits.1)
 
+-- GROUP BY, HAVING and what follows them: that part of select_at by itself
+abbrev pub grouped_ending_at : ℕ → ℕ → Parser (GroupingTree × (List (Name × WindowTree) × List Key × Option Limits))
+grouped_ending_at limit depth ts = grouping_at depth (read limit depth whole_height) ts >>= λ grouping. ending_at limit depth grouping.1 >>= λ ending. Ok ((grouping.0, ending.0), ending.1)
+
 -- what follows FROM: that part of select_at by itself
 unfoldable pub tail_at : ℕ → ℕ → Parser Tail
 tail_at limit depth ts =
-    filter_at (read limit depth whole_height) ts >>= λ filter. grouping_at depth (read limit depth whole_height) filter.1 >>= λ grouping. ending_at limit depth grouping.1 >>= λ ending.
-    Ok (record { filter = filter.0; grouping = grouping.0; windows = ending.0.0; order = keys_of ending.0.1; limits = ending.0.2 }, ending.1)
+    filter_at (read limit depth whole_height) ts >>= λ filter. grouped_ending_at limit depth filter.1 >>= λ ending.
+    Ok (record { filter = filter.0; grouping = ending.0.0; windows = ending.0.1.0; order = keys_of ending.0.1.1; limits = ending.0.1.2 }, ending.1)
 
 -- a select with the given number of levels left
 unfoldable pub selects : ℕ → ℕ → Parser SelectTree
@@ -229,6 +240,10 @@ inside_of limit (suc depth) = Some (selects limit depth)
 abbrev pub if_last : QueryTree → Kinds → Result QueryTree Fault
 if_last q [] = Ok q
 if_last q (t ∷ ts) = Err (Unexpected (suc (length ts)))
+
+-- FROM and what follows it: that part of select_at by itself
+abbrev pub from_and_tail_at : ℕ → ℕ → Parser ((TableTree × List JoinTree) × Tail)
+from_and_tail_at limit depth ts = expect m.From ts >>= λ r. from_at (inside_of limit depth) (read limit depth whole_height) r >>= λ tables. tail_at limit depth tables.1 >>= λ tail. Ok ((tables.0, tail.0), tail.1)
 
 -- a select and a semicolon, and no further token
 unfoldable pub whole : ℕ → ℕ → Kinds → Result QueryTree Fault

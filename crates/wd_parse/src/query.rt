@@ -5,9 +5,9 @@ ghost use Rattle.wd_lex.specs.Lexed.{kinds_of};
 ghost use Rattle.wd_syntax.specs.Limits.{most_levels, most_operators};
 ghost use Rattle.wd_syntax.specs.Tokens.{whole_height};
 ghost use Rattle.wd_syntax.specs.Tree.{derived, query};
-ghost use Rattle.wd_syntax.specs.View.{view_item, view_named_window, view_option, view_table, view_joined, view_select, view_query};
+ghost use Rattle.wd_syntax.specs.View.{view_item, view_named_window, view_window, view_option, view_grouping, view_table, view_joined, view_select, view_query};
 ghost use Rattle.wd_read_expression.specs.Reading.{read, deeper_of};
-ghost use Rattle.wd_parse.specs.Reading.{inside_of, selects, quantifier_at, required_alias_at, alias_at, star_at, filter_at, windows_at, ending_at, tail_at, table_at, inner_at, join_at, from_at, if_last, whole};
+ghost use Rattle.wd_parse.specs.Reading.{inside_of, selects, quantifier_at, required_alias_at, alias_at, star_at, filter_at, window_in_brackets_at, windows_at, ending_at, grouped_ending_at, tail_at, named_table_at, table_at, inner_at, join_at, from_at, from_and_tail_at, if_last, whole};
 ghost use Rattle.wd_read_cursor.specs.Cursor.{list_at, many};
 ghost use Rattle.wd_read_cursor.specs.Given.{Gives, MayFind, MayGive};
 ghost use Rattle.wd_parse.specs.Given.{view_from, view_ending, view_tail};
@@ -20,7 +20,7 @@ use wd_read_cursor::{Reader, Refusal, eat, eat_name, expect, list_at, name_at, u
 use wd_read_expression::{deeper, expression_at, order_at, window_at};
 use wd_syntax::{
     Alias, Expr, From, Grouping, Item, Joined, Limits, Name, NamedWindow, Quantifier, Query,
-    Select, SortKey, Table,
+    Select, SortKey, Table, Window,
 };
 
 /// The most levels that are open at once.
@@ -163,6 +163,21 @@ fn filter(alloc: Global, depth: u8, tokens: &[Token]) -> Result<(Option<Expr>, &
     }
 }
 
+/// `AS ( .. )`, with the given number of levels left.
+#[tactic(auto, unfolding(wd_read_expression::specs::Reading::deeper_of), using(wd_read_expression::proofs::Loops::length_kinds))]
+fn window_in_brackets(
+    alloc: Global,
+    depth: u8,
+    tokens: &[Token],
+) -> Result<(Window, &[Token]), Refusal>
+    ensures { Gives (λ x. (view_window x.0, kinds_of x.1.now)) result (window_in_brackets_at (deeper_of most_operators depth) (kinds_of tokens.now)) }
+{
+    let bracket = expect(tokens, Terminal::As)?;
+    let rest = expect(bracket, Terminal::LeftBracket)?;
+    let inside = deeper(depth, bracket.len())?;
+    window_at(alloc, inside, rest)
+}
+
 /// Reads windows `name AS ( .. )`, with the given number of levels left.
 #[derive(Clone, Copy)]
 struct NamedWindows {
@@ -185,17 +200,14 @@ impl Reader for NamedWindows {
 
     ghost item = { λ windows. named_window_at (deeper_of most_operators windows.depth) };
 
-    #[tactic(auto, unfolding(crate::specs::Reading::named_window_at, wd_read_expression::specs::Reading::deeper_of), using(wd_read_expression::proofs::Loops::length_kinds))]
+    #[tactic(auto, using(crate::proofs::CompleteQuery::named_window_by_window))]
     fn read<'t>(
         &self,
         alloc: Global,
         tokens: &'t [Token],
     ) -> Result<(NamedWindow, &'t [Token]), Refusal> {
         let (name, rest) = name_at(alloc, tokens)?;
-        let bracket = expect(rest, Terminal::As)?;
-        let rest = expect(bracket, Terminal::LeftBracket)?;
-        let inside = deeper(self.depth, bracket.len())?;
-        let (window, rest) = window_at(alloc, inside, rest)?;
+        let (window, rest) = window_in_brackets(alloc, self.depth, rest)?;
         Ok((NamedWindow { name, window }, rest))
     }
 }
@@ -249,14 +261,26 @@ fn ending_at(alloc: Global, depth: u8, tokens: &[Token]) -> Result<(Ending, &[To
     ))
 }
 
+/// From GROUP BY to the limits.
+fn grouped_ending_at(
+    alloc: Global,
+    depth: u8,
+    tokens: &[Token],
+) -> Result<((Grouping, Ending), &[Token]), Refusal>
+    ensures { Gives (λ x. ((view_grouping x.0.0, view_ending x.0.1), kinds_of x.1.now)) result (grouped_ending_at most_operators depth (kinds_of tokens.now)) }
+{
+    let (grouping, rest) = grouping(alloc, depth, tokens)?;
+    let (ending, rest) = ending_at(alloc, depth, rest)?;
+    Ok(((grouping, ending), rest))
+}
+
 /// From WHERE to the limits.
 #[tactic(auto, unfolding(crate::specs::Reading::tail_at))]
 fn tail_at(alloc: Global, depth: u8, tokens: &[Token]) -> Result<(Tail, &[Token]), Refusal>
     ensures { Gives (λ x. (view_tail x.0, kinds_of x.1.now)) result (tail_at most_operators depth (kinds_of tokens.now)) }
 {
     let (filter, rest) = filter(alloc, depth, tokens)?;
-    let (grouping, rest) = grouping(alloc, depth, rest)?;
-    let (ending, rest) = ending_at(alloc, depth, rest)?;
+    let ((grouping, ending), rest) = grouped_ending_at(alloc, depth, rest)?;
     Ok((
         Tail {
             filter,
@@ -274,6 +298,15 @@ fn derived_table(select: Box<Select>, alias: Alias) -> Table
     Table::Derived(select, alias)
 }
 
+/// `name [[AS] name]`
+fn named_table(alloc: Global, tokens: &[Token]) -> Result<(Table, &[Token]), Refusal>
+    ensures { Gives (λ x. (view_table x.0, kinds_of x.1.now)) result (named_table_at (kinds_of tokens.now)) }
+{
+    let (name, rest) = name_at(alloc, tokens)?;
+    let (alias, rest) = alias_at(alloc, rest)?;
+    Ok((Table::Named(name, alias), rest))
+}
+
 /// A table of FROM.
 #[tactic(auto, unfolding(crate::specs::Reading::table_at), using(wd_read_expression::proofs::Loops::length_kinds))]
 #[cycle(select)]
@@ -288,11 +321,7 @@ fn table(alloc: Global, depth: u8, tokens: &[Token]) -> Result<(Table, &[Token])
             let (alias, rest) = required_alias_at(alloc, rest)?;
             Ok((derived_table(select, alias), rest))
         }
-        None => {
-            let (name, rest) = name_at(alloc, tokens)?;
-            let (alias, rest) = alias_at(alloc, rest)?;
-            Ok((Table::Named(name, alias), rest))
-        }
+        None => named_table(alloc, tokens),
     }
 }
 
@@ -370,6 +399,21 @@ fn from(alloc: Global, depth: u8, tokens: &[Token]) -> Result<(From, &[Token]), 
     Ok((From { first, joined }, rest))
 }
 
+/// From FROM to the limits.
+#[cycle(select)]
+fn from_and_tail(
+    alloc: Global,
+    depth: u8,
+    tokens: &[Token],
+) -> Result<((From, Tail), &[Token]), Refusal>
+    ensures { Gives (λ x. ((view_from x.0.0, view_tail x.0.1), kinds_of x.1.now)) result (from_and_tail_at most_operators depth (kinds_of tokens.now)) }
+{
+    let rest = expect(tokens, Terminal::From)?;
+    let (from, rest) = from(alloc, depth, rest)?;
+    let (tail, rest) = tail_at(alloc, depth, rest)?;
+    Ok(((from, tail), rest))
+}
+
 /// A select, up to its limits.
 #[tactic(auto, using(crate::proofs::CompleteQuery::selects_by_tail))]
 #[cycle(select)]
@@ -379,9 +423,7 @@ fn select(alloc: Global, depth: u8, tokens: &[Token]) -> Result<(Box<Select>, &[
     let rest = expect(tokens, Terminal::Select)?;
     let (quantifier, rest) = quantifier_at(rest);
     let (items, rest) = list_at(alloc, &Items { depth }, Terminal::Comma, rest)?;
-    let rest = expect(rest, Terminal::From)?;
-    let (from, rest) = from(alloc, depth, rest)?;
-    let (tail, rest) = tail_at(alloc, depth, rest)?;
+    let ((from, tail), rest) = from_and_tail(alloc, depth, rest)?;
     let select = Select {
         quantifier,
         items,

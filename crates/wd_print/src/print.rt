@@ -46,8 +46,7 @@ fn add_word(text: &mut String, word: &str) -> Result<(), AllocError>
     ensures { OnOk result (string_bytes text.new ≡ string_bytes text.old ++ printed_token (TokenKind.Word word.now)) }
 {
     text.push_str(word)?;
-    text.push(' ')?;
-    Ok(())
+    text.push(' ')
 }
 
 /// Prints a name in quotes.
@@ -66,8 +65,7 @@ fn add_name(text: &mut String, name: &str) -> Result<(), AllocError>
 {
     text.push('"')?;
     push_doubled(text, '"', name)?;
-    text.push_str("\" ")?;
-    Ok(())
+    text.push_str("\" ")
 }
 
 /// Prints a text in single quotes.
@@ -86,8 +84,7 @@ fn add_literal(text: &mut String, literal: &str) -> Result<(), AllocError>
 {
     text.push('\'')?;
     push_doubled(text, '\'', literal)?;
-    text.push_str("' ")?;
-    Ok(())
+    text.push_str("' ")
 }
 
 /// Prints a number, in decimal digits.
@@ -105,8 +102,7 @@ fn add_number(text: &mut String, number: u64) -> Result<(), AllocError>
     ensures { OnOk result (string_bytes text.new ≡ string_bytes text.old ++ printed_token (TokenKind.Number number)) }
 {
     write!(text, "{number}")?;
-    text.push(' ')?;
-    Ok(())
+    text.push(' ')
 }
 
 /// Adds the text between quotes, with each quote in it doubled.

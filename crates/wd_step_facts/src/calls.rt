@@ -140,10 +140,7 @@ fn add_ranking(
             list.push(fact)?;
             Ok(())
         }
-        Ranking::Rank | Ranking::DenseRank => {
-            add_rank(alloc, class, column, list)?;
-            Ok(())
-        }
+        Ranking::Rank | Ranking::DenseRank => add_rank(alloc, class, column, list),
         Ranking::Ntile(_) => Ok(()),
     }
 }
@@ -160,13 +157,9 @@ fn add_call(
     ensures { IfOk result (λ _. map fact_of list.new.items ≡ map fact_of list.old.items ++ spec.call_facts (class_of class.now) frame function.now column) }
 {
     match function {
-        Function::Ranking(ranking) => {
-            add_ranking(alloc, class, *ranking, column, list)?;
-            Ok(())
-        }
+        Function::Ranking(ranking) => add_ranking(alloc, class, *ranking, column, list),
         Function::OfFrame(FrameFunction::Aggregate(_)) => {
-            add_over_frame(alloc, class, frame, column, list)?;
-            Ok(())
+            add_over_frame(alloc, class, frame, column, list)
         }
         _ => Ok(()),
     }
@@ -184,8 +177,7 @@ fn add_call_of(
     ensures { IfOk result (λ _. map fact_of list.new.items ≡ map fact_of list.old.items ++ spec.call_facts (slice_index_or (map class_of classes.now) call.now.class (record { partition = []; order = [] })) call.now.frame call.now.function column) }
 {
     let class = &classes[usize::from(call.class)];
-    add_call(alloc, class, call.frame, &call.function, column, list)?;
-    Ok(())
+    add_call(alloc, class, call.frame, &call.function, column, list)
 }
 
 /// The facts of a Window's calls; the first call has the column `first`.

@@ -23,13 +23,9 @@ fn add_equal(
     match other {
         Expr::Column(d) => {
             add_column_fact(alloc, column, *d, list)?;
-            add_column_fact(alloc, *d, column, list)?;
-            Ok(())
+            add_column_fact(alloc, *d, column, list)
         }
-        Expr::Literal(_, _) => {
-            add_fixed(alloc, column, list)?;
-            Ok(())
-        }
+        Expr::Literal(_, _) => add_fixed(alloc, column, list),
         _ => Ok(()),
     }
 }
@@ -43,10 +39,7 @@ fn add_equal_to_literal(
     ensures { IfOk result (λ _. map fact_of list.new.items ≡ map fact_of list.old.items ++ spec.facts_of_fixed (spec.side_of (expression_of other.now))) }
 {
     match other {
-        Expr::Column(d) => {
-            add_fixed(alloc, *d, list)?;
-            Ok(())
-        }
+        Expr::Column(d) => add_fixed(alloc, *d, list),
         _ => Ok(()),
     }
 }
@@ -55,14 +48,8 @@ fn add_equality(alloc: Global, a: &Expr, b: &Expr, list: &mut Vec<Given>) -> Res
     ensures { IfOk result (λ _. map fact_of list.new.items ≡ map fact_of list.old.items ++ spec.equality_facts (spec.side_of (expression_of a.now)) (spec.side_of (expression_of b.now))) }
 {
     match a {
-        Expr::Column(c) => {
-            add_equal(alloc, *c, b, list)?;
-            Ok(())
-        }
-        Expr::Literal(_, _) => {
-            add_equal_to_literal(alloc, b, list)?;
-            Ok(())
-        }
+        Expr::Column(c) => add_equal(alloc, *c, b, list),
+        Expr::Literal(_, _) => add_equal_to_literal(alloc, b, list),
         _ => Ok(()),
     }
 }
@@ -77,10 +64,7 @@ fn add_comparison(
     ensures { IfOk result (λ _. map fact_of list.new.items ≡ map fact_of list.old.items ++ spec.comparison_facts op (spec.side_of (expression_of a.now)) (spec.side_of (expression_of b.now))) }
 {
     match op {
-        ComparisonOp::Equal => {
-            add_equality(alloc, a, b, list)?;
-            Ok(())
-        }
+        ComparisonOp::Equal => add_equality(alloc, a, b, list),
         _ => Ok(()),
     }
 }
@@ -90,10 +74,7 @@ fn add_null(alloc: Global, a: &Expr, list: &mut Vec<Given>) -> Result<(), OutOfM
     ensures { IfOk result (λ _. map fact_of list.new.items ≡ map fact_of list.old.items ++ spec.null_facts (spec.side_of (expression_of a.now))) }
 {
     match a {
-        Expr::Column(c) => {
-            add_fixed(alloc, *c, list)?;
-            Ok(())
-        }
+        Expr::Column(c) => add_fixed(alloc, *c, list),
         _ => Ok(()),
     }
 }
@@ -102,14 +83,8 @@ fn add_conjunct(alloc: Global, conjunct: &Expr, list: &mut Vec<Given>) -> Result
     ensures { IfOk result (λ _. map fact_of list.new.items ≡ map fact_of list.old.items ++ spec.conjunct_facts (expression_of conjunct.now)) }
 {
     match conjunct {
-        Expr::Compare(op, a, b) => {
-            add_comparison(alloc, *op, a, b, list)?;
-            Ok(())
-        }
-        Expr::IsNull(a) => {
-            add_null(alloc, a, list)?;
-            Ok(())
-        }
+        Expr::Compare(op, a, b) => add_comparison(alloc, *op, a, b, list),
+        Expr::IsNull(a) => add_null(alloc, a, list),
         _ => Ok(()),
     }
 }
@@ -126,13 +101,9 @@ fn gather_conjuncts(
     match condition {
         Expr::And(a, b) => {
             gather_conjuncts(alloc, a, list)?;
-            gather_conjuncts(alloc, b, list)?;
-            Ok(())
+            gather_conjuncts(alloc, b, list)
         }
-        _ => {
-            add_conjunct(alloc, condition, list)?;
-            Ok(())
-        }
+        _ => add_conjunct(alloc, condition, list),
     }
 }
 

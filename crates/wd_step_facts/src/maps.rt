@@ -33,47 +33,30 @@ fn add_used(expression: &Expr, list: &mut Vec<u16>) -> Result<(), OutOfMemory>
             Ok(())
         }
         Expr::Literal(_, _) => Ok(()),
-        Expr::Negate(a) => {
-            add_used(a, list)?;
-            Ok(())
-        }
+        Expr::Negate(a) => add_used(a, list),
         Expr::Arithmetic(_, a, b) => {
             add_used(a, list)?;
-            add_used(b, list)?;
-            Ok(())
+            add_used(b, list)
         }
         Expr::Compare(_, a, b) => {
             add_used(a, list)?;
-            add_used(b, list)?;
-            Ok(())
+            add_used(b, list)
         }
-        Expr::Not(a) => {
-            add_used(a, list)?;
-            Ok(())
-        }
+        Expr::Not(a) => add_used(a, list),
         Expr::And(a, b) => {
             add_used(a, list)?;
-            add_used(b, list)?;
-            Ok(())
+            add_used(b, list)
         }
         Expr::Or(a, b) => {
             add_used(a, list)?;
-            add_used(b, list)?;
-            Ok(())
+            add_used(b, list)
         }
-        Expr::IsNull(a) => {
-            add_used(a, list)?;
-            Ok(())
-        }
-        Expr::IsNotNull(a) => {
-            add_used(a, list)?;
-            Ok(())
-        }
+        Expr::IsNull(a) => add_used(a, list),
+        Expr::IsNotNull(a) => add_used(a, list),
         Expr::Case(_, a, b, c) => {
             add_used(a, list)?;
             add_used(b, list)?;
-            add_used(c, list)?;
-            Ok(())
+            add_used(c, list)
         }
     }
 }
@@ -127,10 +110,7 @@ fn add_copy(
     ensures { IfOk result (λ _. map fact_of list.new.items ≡ map fact_of list.old.items ++ spec.copy_facts by number (spec.side_of (expression_of output.now))) }
 {
     match output {
-        Expr::Column(column) => {
-            add_column_fact(alloc, number, by + *column, list)?;
-            Ok(())
-        }
+        Expr::Column(column) => add_column_fact(alloc, number, by + *column, list),
         _ => Ok(()),
     }
 }
@@ -148,8 +128,7 @@ fn add_output(
 {
     let fact = used_fact(alloc, by, number, output)?;
     list.push(fact)?;
-    add_copy(alloc, by, number, output, list)?;
-    Ok(())
+    add_copy(alloc, by, number, output, list)
 }
 
 /// The facts of a Map's outputs, where input columns are renumbered.

@@ -29,14 +29,13 @@ fn amount_of(unit: Unit, number: Option<i64>) -> Option<Amount>
 fn amount_said(word: &str, text: &Text) -> Option<Amount>
     ensures { result ≡ spec.amount_said word.now text.now }
 {
-    if word == "date" {
-        amount_of(Unit::Days, day_of(text.as_bytes()))
-    } else if word == "timestamp" || word == "timestamptz" {
-        amount_of(Unit::Microseconds, microsecond_of(text.as_bytes()))
-    } else if word == "interval" {
-        amount_of(Unit::Span, interval_of(text.as_bytes()))
-    } else {
-        None
+    match word {
+        "date" => amount_of(Unit::Days, day_of(text.as_bytes())),
+        "timestamp" | "timestamptz" => {
+            amount_of(Unit::Microseconds, microsecond_of(text.as_bytes()))
+        }
+        "interval" => amount_of(Unit::Span, interval_of(text.as_bytes())),
+        _ => None,
     }
 }
 

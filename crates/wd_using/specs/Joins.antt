@@ -70,6 +70,10 @@ abbrev pub names_of : List (List Token) → Option (List Token)
 names_of [] = Some []
 names_of (part ∷ found) = with_name (name_of part) (names_of found)
 
+-- the names of a list
+abbrev pub names_in_list : List Token → Option (List Token)
+names_in_list tokens = parts tokens >>= names_of
+
 -- nothing, or INNER before the next JOIN
 abbrev pub ends : List Token → Bool
 ends [] = true
@@ -83,7 +87,7 @@ with_names word rest (Some names) = if ends rest then Some (record { word = word
 -- the columns up to the closing bracket
 abbrev pub names_up_to : Token → List Token → Option ℕ → Option Condition
 names_up_to word tokens None = None
-names_up_to word tokens (Some place) = with_names word (drop (place + 1) tokens) (parts (take place tokens) >>= names_of)
+names_up_to word tokens (Some place) = with_names word (drop (place + 1) tokens) (names_in_list (take place tokens))
 
 -- ( columns ) after USING
 abbrev pub using_at : Token → List Token → Option Condition

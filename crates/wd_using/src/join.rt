@@ -30,7 +30,7 @@ pub struct Joined<'t> {
     pub join: &'t Token,
     pub table: &'t [Token],
     pub alias: &'t Token,
-    pub columns: Vec<&'t [u8]>,
+    pub columns: Vec<&'t str>,
     pub condition: Condition<'t>,
 }
 
@@ -71,6 +71,16 @@ fn ends(tokens: &[Token]) -> bool
     }
 }
 
+/// The names of a list.
+fn names_in_list(alloc: Global, tokens: &[Token]) -> Result<Option<Vec<&Token>>, AllocError>
+    ensures { IfOk result (λ found. Finds (λ x. map (λ name. name.now) x.items) found (spec.names_in_list tokens.now)) }
+{
+    match parts(alloc, tokens)? {
+        Some(parts) => names_of(alloc, &parts),
+        None => Ok(None),
+    }
+}
+
 /// The columns up to the bracket at a place.
 fn names_up_to<'t>(
     alloc: Global,
@@ -83,12 +93,12 @@ fn names_up_to<'t>(
         return Ok(None);
     };
     let rest = &tokens[place + 1..];
-    let Some(parts) = parts(alloc, &tokens[..place])? else {
+    if !ends(rest) {
         return Ok(None);
-    };
-    match names_of(alloc, &parts)? {
-        Some(names) if ends(rest) => Ok(Some(Condition { word, names, rest })),
-        _ => Ok(None),
+    }
+    match names_in_list(alloc, &tokens[..place])? {
+        Some(names) => Ok(Some(Condition { word, names, rest })),
+        None => Ok(None),
     }
 }
 

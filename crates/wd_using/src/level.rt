@@ -11,7 +11,7 @@ use crate::kind::{
 use wd_lex::{Terminal, Token, TokenKind};
 
 /// A part that is looked through, up to its end or the end of the level.
-#[derive(Clone, Copy, PartialEq, Eq)]
+#[derive(Clone, Copy)]
 pub enum Extent {
     /// A table of a FROM clause, with its condition.
     Table,

@@ -18,4 +18,4 @@ pub use kind::{begins_columns, begins_distinct, ends_value, is_star, opens};
 pub use level::{Extent, split_at};
 pub use respell::without_using;
 pub use select::{Select, pieces_at, select_at};
-pub use source::{Alias, after_as, alias_at};
+pub use source::{Alias, Source, after_as, alias_at, source_at};

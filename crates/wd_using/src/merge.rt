@@ -19,11 +19,11 @@ pub struct Merged<'t> {
 }
 
 /// Whether one of the columns has that name.
-fn has_column(name: &TokenKind, mut columns: &[&[u8]]) -> bool
+fn has_column(name: &TokenKind, mut columns: &[&str]) -> bool
     ensures { result ≡ spec.has_column name.now (map (λ column. column.now) columns.entry.now) }
 {
     while let [column, rest @ ..] = columns {
-        if is_named(column, name) {
+        if is_named(column.as_bytes(), name) {
             return true;
         }
         columns = rest;

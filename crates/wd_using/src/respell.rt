@@ -96,10 +96,7 @@ fn with_tables(
 {
     let names = names_in(alloc, tables)?;
     match merge_of(alloc, tables, &names)? {
-        Some(merged) => {
-            let tokens = if_clear(alloc, front, select, tables, &merged)?;
-            Ok(tokens)
-        }
+        Some(merged) => if_clear(alloc, front, select, tables, &merged),
         None => Ok(None),
     }
 }
@@ -114,10 +111,7 @@ fn respelled_select(
     ensures { MayWrite (λ x. x.items) result (spec.respelled_select (schema_of schema.now) front.now (pieces select.now)) }
 {
     match joined_tables(alloc, schema, select.tables)? {
-        Some(tables) => {
-            let tokens = with_tables(alloc, front, select, &tables)?;
-            Ok(tokens)
-        }
+        Some(tables) => with_tables(alloc, front, select, &tables),
         None => Ok(None),
     }
 }
@@ -134,10 +128,7 @@ fn respell_at(
 {
     let (front, rest) = split_at_place(place, tokens);
     match select_at(rest) {
-        Some(select) => {
-            let tokens = respelled_select(alloc, schema, front, &select)?;
-            Ok(tokens)
-        }
+        Some(select) => respelled_select(alloc, schema, front, &select),
         None => Ok(None),
     }
 }

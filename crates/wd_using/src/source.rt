@@ -12,7 +12,7 @@ ghost use Rattle.wd_using.specs.Named as named;
 use crate::kind::{begins_distinct, is_as, is_select, opens};
 use std::alloc::{AllocError, Global};
 use wd_clauses::{Stop, closing, is_name, parts, split};
-use wd_distinct_on::{is_dot, split_at_place};
+use wd_distinct_on::{item_of, split_at_place};
 use wd_lex::{Token, TokenKind};
 use wd_schema::{Column, Schema, Table};
 
@@ -26,7 +26,7 @@ pub struct Alias<'t> {
 /// The columns of a table, and its alias.
 #[derive(Drop)]
 pub struct Source<'t> {
-    pub columns: Vec<&'t [u8]>,
+    pub columns: Vec<&'t str>,
     pub alias: Alias<'t>,
 }
 
@@ -74,18 +74,6 @@ fn declared_table<'t>(schema: &'t Schema, name: &TokenKind) -> Option<&'t Table>
     }
 }
 
-/// The name of a column, with or without a table's before it.
-fn column_of(tokens: &[Token]) -> Option<&Token>
-    ensures { Finds (λ name. name.now) result (spec.name_in (items.column_of tokens.now)) }
-{
-    match tokens {
-        [column] if is_name(&column.kind) => Some(column),
-        [table, dot, column]
-            if is_name(&table.kind) && is_dot(&dot.kind) && is_name(&column.kind) => Some(column),
-        _ => None,
-    }
-}
-
 /// The name after AS.
 pub fn after_as(tokens: &[Token]) -> Option<&Token>
     ensures { Finds (λ name. name.now) result (items.after_as tokens.now) }
@@ -100,25 +88,24 @@ pub fn after_as(tokens: &[Token]) -> Option<&Token>
 fn item_name(tokens: &[Token]) -> Option<&Token>
     ensures { Finds (λ name. name.now) result (spec.name_in (items.item_of tokens.now)) }
 {
-    let count = tokens.len().saturating_sub(2);
-    match after_as(&tokens[count..]) {
-        Some(name) => Some(name),
-        None => column_of(tokens),
+    match item_of(tokens) {
+        Some(item) => Some(item.name),
+        None => None,
     }
 }
 
 /// The text of a name.
-fn text_of(kind: &TokenKind) -> Option<&[u8]>
+fn text_of(kind: &TokenKind) -> Option<&str>
     ensures { Finds (λ text. text.now) result (spec.text_of kind.now) }
 {
     match kind {
-        TokenKind::Word(text) | TokenKind::Quoted(text) => Some(text.as_bytes()),
+        TokenKind::Word(text) | TokenKind::Quoted(text) => Some(text.as_str()),
         _ => None,
     }
 }
 
 /// The text of an item's name.
-fn item_text(tokens: &[Token]) -> Option<&[u8]>
+fn item_text(tokens: &[Token]) -> Option<&str>
     ensures { Finds (λ text. text.now) result (spec.text_in (spec.name_in (items.item_of tokens.now))) }
 {
     match item_name(tokens) {
@@ -128,7 +115,7 @@ fn item_text(tokens: &[Token]) -> Option<&[u8]>
 }
 
 /// The names of items, if each has one.
-fn item_names<'t>(alloc: Global, parts: &[&'t [Token]]) -> Result<Option<Vec<&'t [u8]>>, AllocError>
+fn item_names<'t>(alloc: Global, parts: &[&'t [Token]]) -> Result<Option<Vec<&'t str>>, AllocError>
     ensures { IfOk result (λ found. Finds (λ x. map (λ name. name.now) x.items) found (spec.item_names (map (λ part. part.now) parts.now))) }
 {
     let mut names = Vec::new(alloc);
@@ -144,7 +131,7 @@ fn item_names<'t>(alloc: Global, parts: &[&'t [Token]]) -> Result<Option<Vec<&'t
 }
 
 /// The columns of a derived table, by the items of its select.
-fn derived_columns(alloc: Global, tokens: &[Token]) -> Result<Option<Vec<&[u8]>>, AllocError>
+fn derived_columns(alloc: Global, tokens: &[Token]) -> Result<Option<Vec<&str>>, AllocError>
     ensures { IfOk result (λ found. Finds (λ x. map (λ name. name.now) x.items) found (spec.derived_columns tokens.now)) }
 {
     let [select, rest @ ..] = tokens else {
@@ -156,22 +143,19 @@ fn derived_columns(alloc: Global, tokens: &[Token]) -> Result<Option<Vec<&[u8]>>
     let (_distinct, list) = split_at_place(if begins_distinct(rest) { 1 } else { 0 }, rest);
     let (items, _after) = split(Stop::From, list);
     match parts(alloc, items)? {
-        Some(parts) => {
-            let names = item_names(alloc, &parts)?;
-            Ok(names)
-        }
+        Some(parts) => item_names(alloc, &parts),
         None => Ok(None),
     }
 }
 
 /// The names of columns.
-fn names_of_columns(alloc: Global, columns: &[Column]) -> Result<Vec<&[u8]>, AllocError>
+fn names_of_columns(alloc: Global, columns: &[Column]) -> Result<Vec<&str>, AllocError>
     ensures { IfOk result (λ x. map (λ name. name.now) x.items ≡ map (λ column. column.name) columns.now) }
 {
     let mut names = Vec::new(alloc);
     let mut rest = columns;
     while let [column, after @ ..] = rest {
-        names.push(column.name.as_bytes())?;
+        names.push(column.name.as_str())?;
         rest = after;
     }
     Ok(names)
@@ -235,9 +219,7 @@ pub fn source_at<'t>(
         return Ok(None);
     };
     if opens(&first.kind) {
-        let source = derived_source(alloc, first, rest)?;
-        return Ok(source);
+        return derived_source(alloc, first, rest);
     }
-    let source = declared_source(alloc, schema, &first.kind, alias_at(first, rest))?;
-    Ok(source)
+    declared_source(alloc, schema, &first.kind, alias_at(first, rest))
 }

@@ -13,7 +13,8 @@ use crate::kind::{goes_on, is_taken};
 use crate::merge::{Merged, table_of};
 use crate::select::Select;
 use std::alloc::Global;
-use wd_clauses::{RespellError, add, add_all, added_terminal, copy_token};
+use wd_clauses::{RespellError, add, add_all, add_copy, added_terminal, copy_tokens};
+use wd_distinct_on::add_placed;
 use wd_lex::{Terminal, Token, TokenKind};
 
 /// Adds `table.name`; all tokens but the name have the place of a word.
@@ -25,17 +26,9 @@ fn add_of_table(
 ) -> Result<(), RespellError>
     ensures { Writes written.old.items written.new.items result (spec.of_table word.now name.now table.now) }
 {
-    let alias = copy_token(table)?;
-    add(
-        written,
-        Token {
-            kind: alias.kind,
-            span: word.span,
-        },
-    )?;
+    add_placed(written, table, word)?;
     add(written, added_terminal(Terminal::Dot, word))?;
-    add(written, copy_token(name)?)?;
-    Ok(())
+    add_copy(written, name)
 }
 
 /// Adds a name, with its table if it is a merged column.
@@ -48,14 +41,8 @@ fn add_column(
     ensures { Writes written.old.items written.new.items result (spec.of_table_if word.now name.now (merging.table_of name.now.kind (map named.merged_column merged.now))) }
 {
     match table_of(&name.kind, merged) {
-        Some(table) => {
-            add_of_table(written, word, name, table)?;
-            Ok(())
-        }
-        None => {
-            add(written, copy_token(name)?)?;
-            Ok(())
-        }
+        Some(table) => add_of_table(written, word, name, table),
+        None => add_copy(written, name),
     }
 }
 
@@ -70,11 +57,9 @@ fn add_token(
     ensures { Writes written.old.items written.new.items result (spec.written_token (map named.merged_column merged.now) before.now token.now after.now) }
 {
     if is_taken(before) || goes_on(after) {
-        add(written, copy_token(token)?)?;
-        return Ok(());
+        return add_copy(written, token);
     }
-    add_column(written, merged, token, token)?;
-    Ok(())
+    add_column(written, merged, token, token)
 }
 
 /// Adds tokens, with its table before each merged column.
@@ -109,8 +94,7 @@ fn add_comparison(
     let word = table.condition.word;
     add_column(written, merged, word, name)?;
     add(written, added_terminal(Terminal::Equals, word))?;
-    add_of_table(written, word, name, table.alias)?;
-    Ok(())
+    add_of_table(written, word, name, table.alias)
 }
 
 /// Adds a comparison after a word.
@@ -124,8 +108,7 @@ fn add_compared(
     ensures { Writes written.old.items written.new.items result (spelling.added first table.now.condition.word.now ∷ spec.comparison (map named.merged_column merged.now) (named.joined_table table.now) name.now) }
 {
     add(written, added_terminal(first, table.condition.word))?;
-    add_comparison(written, merged, table, name)?;
-    Ok(())
+    add_comparison(written, merged, table, name)
 }
 
 /// Adds ON and the comparisons of the columns of USING.
@@ -154,11 +137,10 @@ fn add_joined(
 ) -> Result<(), RespellError>
     ensures { Writes written.old.items written.new.items result (spec.joined (map named.merged_column merged.now) (named.joined_table table.now)) }
 {
-    add(written, copy_token(table.join)?)?;
+    add_copy(written, table.join)?;
     add_all(written, table.table)?;
     add_comparisons(written, merged, table)?;
-    add_qualified(written, merged, &table.alias.kind, table.condition.rest)?;
-    Ok(())
+    add_qualified(written, merged, &table.alias.kind, table.condition.rest)
 }
 
 /// Adds tables, and the conditions on which they are joined.
@@ -186,13 +168,12 @@ fn add_select(
 ) -> Result<(), RespellError>
     ensures { Writes written.old.items written.new.items result (spec.written (map named.merged_column merged.now) (map named.joined_table tables.now) (named.pieces select.now)) }
 {
-    add(written, copy_token(select.select)?)?;
+    add_copy(written, select.select)?;
     add_all(written, select.distinct)?;
     add_qualified(written, merged, &select.select.kind, select.items)?;
     add_all_joined(written, merged, tables)?;
     add_qualified(written, merged, &select.select.kind, select.clauses)?;
-    add_all(written, select.after)?;
-    Ok(())
+    add_all(written, select.after)
 }
 
 /// What replaces a select after these tokens.
@@ -205,8 +186,7 @@ pub fn write_select(
 ) -> Result<Vec<Token>, RespellError>
     ensures { Makes (λ x. x.items) (λ x. x) result (front.now ++ spec.written (map named.merged_column merged.now) (map named.joined_table tables.now) (named.pieces select.now)) }
 {
-    let mut written = Vec::new(alloc);
-    add_all(&mut written, front)?;
+    let mut written = copy_tokens(alloc, front)?;
     add_select(&mut written, merged, tables, select)?;
     Ok(written)
 }

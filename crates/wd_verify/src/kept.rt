@@ -16,7 +16,7 @@ ghost use Rattle.wd_verify.specs.Shown.{HaveColumns, evidence_of, refusal_of, sh
 use crate::evidence::Evidence;
 use crate::trace::reaches;
 use std::alloc::Global;
-use wd_certificate::{CertError, Kept, Node, Target, Trace};
+use wd_certificate::{CertError, Kept, Node, PackedTarget, Target, Trace};
 use wd_facts::Member;
 use wd_node_facts::{Followed, Keeps, KeptFact, NodeFacts, are_columns};
 use wd_sets::Set;
@@ -32,11 +32,11 @@ fn is_target(columns: u16, target: Target) -> bool
     }
 }
 
-fn are_targets(columns: u16, targets: &[Target]) -> bool
+fn are_targets(columns: u16, targets: &[PackedTarget]) -> bool
     ensures { result ≡ list_all (rules.is_target columns) targets.now }
 {
     for target in targets {
-        if !is_target(columns, *target) {
+        if !is_target(columns, target.target()) {
             return false;
         }
     }
@@ -55,12 +55,12 @@ fn member_of(columns: u16, target: Target) -> Member
 }
 
 /// Whether each of the targets is reached with the members of the set.
-fn reaches_targets(facts: &NodeFacts, set: &Set, columns: u16, targets: &[Target]) -> bool
+fn reaches_targets(facts: &NodeFacts, set: &Set, columns: u16, targets: &[PackedTarget]) -> bool
     requires { list_all (rules.is_target columns) targets.now ≡ true }
     ensures { result ≡ reaches_each (seen_of facts.now) (has set.now) (map rules.member_of targets.now) }
 {
     for target in targets {
-        if !reaches(facts, set, member_of(columns, *target)) {
+        if !reaches(facts, set, member_of(columns, target.target())) {
             return false;
         }
     }
@@ -72,7 +72,7 @@ fn check_kept(
     node: u64,
     facts: &NodeFacts,
     columns: u16,
-    targets: &[Target],
+    targets: &[PackedTarget],
     trace: &Followed,
 ) -> Result<(), CertError>
     ensures { refusal_of result ≡ rules.kept_refusal node (seen_of facts.now) columns targets.now (Some (traced_of trace.now)) }
@@ -125,14 +125,18 @@ fn meet(
 
 /// The members that the targets name, each once; each is one of the first `columns` columns, or the row.
 #[tactic(auto, using(crate::proofs::Once::once_first))]
-fn targets_once(alloc: Global, columns: u16, targets: &[Target]) -> Result<Vec<Member>, OutOfMemory>
+fn targets_once(
+    alloc: Global,
+    columns: u16,
+    targets: &[PackedTarget],
+) -> Result<Vec<Member>, OutOfMemory>
     requires { list_all (rules.is_target columns) targets.now ≡ true }
     ensures { IfOk result (λ v. v.items ≡ map rules.member_of (once rules.member_of targets.now)) }
 {
     let mut met = Set::new(alloc);
     let mut list = Vec::new(alloc);
     for target in targets {
-        meet(columns, &mut met, &mut list, *target)?;
+        meet(columns, &mut met, &mut list, target.target())?;
     }
     Ok(list)
 }

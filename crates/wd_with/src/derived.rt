@@ -11,7 +11,7 @@ ghost use Rattle.wd_with.specs.Named.{named_query};
 use crate::member::{Member, is_as};
 use crate::place::{Place, is_table, pass};
 use std::alloc::Global;
-use wd_clauses::{RespellError, add, add_all, added_terminal, copy_token, is_name, is_same_name};
+use wd_clauses::{RespellError, add, add_all, add_copy, added_terminal, is_name, is_same_name};
 use wd_lex::{Terminal, Token, TokenKind};
 
 /// A query with a derived table in place of each table of a name, and how many of these there were.
@@ -72,8 +72,7 @@ fn add_alias(written: &mut Vec<Token>, table: &Token, after: &[Token]) -> Result
     if begins_name(after) {
         return Ok(());
     }
-    add(written, copy_token(table)?)?;
-    Ok(())
+    add_copy(written, table)
 }
 
 /// Adds a derived table in place of a table.
@@ -88,8 +87,7 @@ fn add_derived(
     add(written, added_terminal(Terminal::LeftBracket, table))?;
     add_all(written, query)?;
     add(written, added_terminal(Terminal::RightBracket, table))?;
-    add_alias(written, table, after)?;
-    Ok(())
+    add_alias(written, table, after)
 }
 
 /// Adds what replaces a token.
@@ -103,11 +101,9 @@ fn add_written(
     ensures { Writes written.old.items written.new.items result (if is_read then spec.derived query.now token.now after.now else token.now ∷ []) }
 {
     if is_read {
-        add_derived(written, query, token, after)?;
-        return Ok(());
+        return add_derived(written, query, token, after);
     }
-    add(written, copy_token(token)?)?;
-    Ok(())
+    add_copy(written, token)
 }
 
 /// A query with the member's query in place of each table of its name.

@@ -73,12 +73,7 @@ pub fn without_with(alloc: Global, tokens: &[Token]) -> Result<Expanded, Respell
         return copy_query(alloc, tokens);
     }
     match members_at(alloc, rest)? {
-        Some((members, query)) => {
-            if are_distinct(&members) {
-                return without(alloc, members, query);
-            }
-            copy_query(alloc, tokens)
-        }
-        None => copy_query(alloc, tokens),
+        Some((members, query)) if are_distinct(&members) => without(alloc, members, query),
+        _ => copy_query(alloc, tokens),
     }
 }

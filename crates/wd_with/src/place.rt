@@ -7,7 +7,7 @@ use std::alloc::AllocError;
 use wd_lex::{Terminal, TokenKind};
 
 /// The place of a token, as far as tables are concerned.
-#[derive(Clone, Copy, PartialEq, Eq)]
+#[derive(Clone, Copy)]
 pub enum Place {
     /// Before SELECT, and after the FROM clause.
     Elsewhere,

@@ -1,4 +1,5 @@
-use Rattle.std.proofs.Common.{◌≡◌, ◌∙◌, ◌+◌, ◌++◌, ap, sym, drop, get_or, List, ℕ}
+use Rattle.std.proofs.lemmas.Grind.{common_steps}
+use Rattle.std.proofs.Common.{◌≡◌, ◌∙◌, ◌+◌, ◌++◌, ap, sym, drop, get_or, List, ℕ, arith}
 use Rattle.std.proofs.lemmas.List.{at_drop_more}
 use Rattle.wd_analyse.specs.Evidence.{once_after}
 use Rattle.wd_analyse.proofs.Once.{met_next}
@@ -12,3 +13,6 @@ loop-column-preserved c =
     ∙ met_next met (get_or c.args.columns.now c.loop-column.column-index 0) rest
     ∙ sym (at_drop_more (λ (left : List ℕ). met ++ once_after met left) c.args.columns.now c.loop-column.column-index 0 c.loop-column-test.true)
     ∙ c.loop-column.invariant
+
+pub returns : goal.returns
+returns c = grind (arith, common_steps, met_next)

@@ -1,4 +1,5 @@
-use Rattle.std.proofs.Common.{◌∙◌, ◌||◌, ◌+◌, ap, sym, drop, ℕ, List}
+use Rattle.std.proofs.lemmas.Grind.{common_steps}
+use Rattle.std.proofs.Common.{◌∙◌, ◌||◌, ◌+◌, ap, sym, drop, ℕ, List, arith}
 use Rattle.std.proofs.lemmas.List.{at_drop_more}
 use Rattle.wd_step_facts.specs.declared.facts.Member.TheVariants as member
 use Rattle.wd_sets.specs.Sets.{has_column, is_in}
@@ -15,3 +16,6 @@ loop-column-preserved c = λ k.
     ∙ in_or_left (has_column c.loop-column.set k) _ left
     ∙ ap (λ b. has_column c.loop-column.set k || b) (sym (at_drop_more (λ (rest : List ℕ). is_in rest k) c.args.columns.now c.loop-column.column-index 0 c.loop-column-test.true))
     ∙ c.loop-column.invariant k
+
+pub returns : goal.returns
+returns c = grind (arith, common_steps, in_or_left)

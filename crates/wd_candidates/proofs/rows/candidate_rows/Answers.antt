@@ -1,3 +1,4 @@
+use Rattle.std.proofs.lemmas.Grind.{common_steps}
 use Rattle.std.proofs.Common.{◌≡◌, ◌++◌, ◌∷◌, [], ◌∙◌, ap, sym, slice_index_or, None, arith, rules}
 use Rattle.std.proofs.lemmas.List.{map-append}
 use Rattle.std.proofs.lemmas.List.FromFn.{map-range_with_len_more}
@@ -14,3 +15,6 @@ loop-number-preserved c =
     let row : c.in_ok-row.row.items ≡ f i = search rules in
     let pushed = c.in_ok-push.ensures.items in
     ap rows_of pushed ∙ map-append (λ r. r.items) c.loop-number.rows.items (c.in_ok-row.row ∷ []) ∙ (λ j. c.loop-number.invariant j ++ (row j ∷ [])) ∙ sym (map-range_with_len_more f 0 i i (omega arith))
+
+pub returns : goal.returns
+returns c = grind (arith, common_steps)

@@ -1,3 +1,4 @@
+use Rattle.std.proofs.lemmas.Grind.{common_steps}
 use Rattle.std.proofs.Common.{◌≡◌, ◌∙◌, arith, ap, get_or, length, map, subst, sym, rules}
 use Rattle.std.proofs.lemmas.List.{get_or-map, length-map}
 use Rattle.wd_schema.specs.Tables.{key_of}
@@ -23,3 +24,6 @@ loop-key-preserved c =
       long = of_key.long ∙ c.loop-key.invariant.long;
       each = keyed_next (map key_of keys) i (key_of key) (length c.args.table.now.columns.items) old new (simp length-map (omega arith)) (ap key_of at ∙ sym (get_or-map key_of keys i key (key_of key) (omega arith))) c.loop-key.invariant.long of_key c.loop-key.invariant.each;
     })
+
+pub returns : goal.returns
+returns c = grind (arith, common_steps)

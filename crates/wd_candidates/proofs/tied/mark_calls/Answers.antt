@@ -1,4 +1,5 @@
-use Rattle.std.proofs.Common.{◌<◌, ◌∙◌, length, map, rules, sym}
+use Rattle.std.proofs.lemmas.Grind.{common_steps}
+use Rattle.std.proofs.Common.{◌<◌, ◌∙◌, length, map, rules, sym, arith}
 use Rattle.std.proofs.lemmas.List.{length-map}
 use Rattle.wd_plan.specs.Plans.{window_of}
 use Rattle.wd_candidates.specs.Marks.{is_marked}
@@ -23,3 +24,6 @@ loop-number-preserved c =
           (call_at w calls i call inside b.index.ensures) c.loop-number.invariant b.mark_call.ensures)
       | else-is_marked b ↦ rw b.marks-is (wanted_passed c.args.marks.now c.loop-number.marks lists wanted i (simp length-map inside) (sym c.is_marked.ensures ∙ b.if-is_marked.false) c.loop-number.invariant)
     ]
+
+pub returns : goal.returns
+returns c = grind (arith, common_steps)

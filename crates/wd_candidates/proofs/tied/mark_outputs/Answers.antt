@@ -1,3 +1,4 @@
+use Rattle.std.proofs.lemmas.Grind.{common_steps}
 use Rattle.std.proofs.Common.{◌∙◌, arith, map, sym}
 use Rattle.std.proofs.lemmas.List.{length-map}
 use Rattle.wd_plan.specs.Expressions.{expression_of}
@@ -21,3 +22,6 @@ loop-number-preserved c =
           (output_at outputs i output (omega arith) w.index-outputs-number.is) c.loop-number.invariant w.mark_used.ensures)
       | else-is_marked w ↦ rw w.marks-is (wanted_passed c.args.marks.now c.loop-number.marks lists wanted i (simp length-map (omega arith)) (sym c.is_marked.ensures ∙ w.if-is_marked.false) c.loop-number.invariant)
     ]
+
+pub returns : goal.returns
+returns c = grind (arith, common_steps)

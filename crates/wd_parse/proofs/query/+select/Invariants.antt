@@ -9,7 +9,10 @@ use Rattle.wd_parse.proofs.query.+select.Given as goal
 
 -- A level is worth 10, and a helper stands between its caller and what it calls.
 abbrev pub decreases-select : goal.decreases-select
-decreases-select l = 10 * l.depth + 5
+decreases-select l = 10 * l.depth + 6
+
+abbrev pub decreases-from_and_tail : goal.decreases-from_and_tail
+decreases-from_and_tail l = 10 * l.depth + 5
 
 abbrev pub decreases-from : goal.decreases-from
 decreases-from l = 10 * l.depth + 4

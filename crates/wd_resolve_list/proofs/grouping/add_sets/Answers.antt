@@ -1,3 +1,4 @@
+use Rattle.std.proofs.lemmas.Grind.{common_steps}
 use Rattle.std.proofs.Common.{◌≡◌, ◌∙◌, sym, ap, suc, ◌<◌, ◌+◌, ◌∷◌, List, ℕ, add-one, arith, drop, length, nat_eq}
 use Rattle.std.specs.Prelude.{flat_map}
 use Rattle.std.specs.declared.alloc.Global.{Global}
@@ -21,3 +22,6 @@ loop-set-preserved c =
     ∙ sym (with_new_append nat_eq before set.items rest)
     ∙ ap (λ (ss : List (Vec ℕ Global)). with_new nat_eq before (flat_map (λ (s : List ℕ). s) (sets_of ss))) (sym step)
     ∙ c.loop-set.invariant
+
+pub returns : goal.returns
+returns c = grind (arith, common_steps)

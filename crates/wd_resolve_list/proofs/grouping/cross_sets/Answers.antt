@@ -1,3 +1,4 @@
+use Rattle.std.proofs.lemmas.Grind.{common_steps}
 use Rattle.std.proofs.Common.{◌≡◌, ◌∙◌, sym, ap, suc, ◌<◌, ◌+◌, ◌∷◌, ◌++◌, List, ℕ, add-one, append_assoc, arith, drop, length, map}
 use Rattle.std.specs.declared.alloc.Global.{Global}
 use Rattle.std.specs.declared.vec.Vec.{Vec}
@@ -24,3 +25,6 @@ loop-set-preserved c =
     ∙ ap (λ (ss : List (List ℕ)). before ++ (ss ++ rest)) (c.in_ok-more.ensures ∙ ap (λ (s : List ℕ). map (λ t. s ++ t) others) c.deref.ensures.value)
     ∙ ap (λ (ss : List (Vec ℕ Global)). before ++ cross_sets (sets_of ss) others) (sym step)
     ∙ c.loop-set.invariant
+
+pub returns : goal.returns
+returns c = grind (arith, common_steps)

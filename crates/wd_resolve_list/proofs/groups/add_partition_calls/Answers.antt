@@ -1,3 +1,4 @@
+use Rattle.std.proofs.lemmas.Grind.{common_steps}
 use Rattle.std.proofs.Common.{◌≡◌, ◌∙◌, sym, ap, suc, ◌<◌, ◌+◌, ◌∷◌, add-one, arith, drop, length, map}
 use Rattle.std.proofs.Math.Seq.{drop-cons}
 use Rattle.wd_resolve_operand.specs.BoundExpressions.{references}
@@ -20,3 +21,6 @@ loop-expression-preserved c =
     ∙ sym (groups_added before here rest)
     ∙ ap (λ xs. with_new same_group_call before (group_calls_among (all_row_references (map row_expression_of (xs))))) (sym step)
     ∙ c.loop-expression.invariant
+
+pub returns : goal.returns
+returns c = grind (arith, common_steps, groups_added)

@@ -1,4 +1,5 @@
-use Rattle.std.proofs.Common.{◌≡◌, ◌∙◌, sym, ap, subst, ℕ, suc, ◌+◌, ◌<◌, List, [], ◌∷◌, drop, drop-cons, add-one, filter, get_or, length, map, option_map, zip}
+use Rattle.std.proofs.lemmas.Grind.{common_steps}
+use Rattle.std.proofs.Common.{◌≡◌, ◌∙◌, sym, ap, subst, ℕ, suc, ◌+◌, ◌<◌, List, [], ◌∷◌, drop, drop-cons, add-one, filter, get_or, length, map, option_map, zip, arith}
 use Rattle.std.specs.List.{cons_option, range_with_len}
 use Rattle.wd_resolve_scope.specs.declared.scope.ScopeColumn.{ScopeColumn}
 use Rattle.wd_resolve_scope.specs.Resolving.{context_of}
@@ -25,3 +26,6 @@ loop-number-preserved c =
     ∙ sym (column_first context.groups test (n, column) rest before shown c.in_ok-shown.ensures)
     ∙ ap (λ (xs : List ScopeColumn). after before (columns_shown context.groups (filter test (zip (range_with_len n (length xs)) xs)))) (sym next)
     ∙ c.loop-number.invariant
+
+pub returns : goal.returns
+returns c = grind (arith, common_steps)

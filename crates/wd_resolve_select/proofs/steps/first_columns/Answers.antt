@@ -8,3 +8,6 @@ pub loop-number-preserved : goal.loop-number-preserved
 loop-number-preserved c =
     let more = map-range_with_len_more Column 0 c.loop-number.number c.loop-number.number (omega arith) in
     grind (arith, common_steps, more)
+
+pub returns : goal.returns
+returns c = grind (arith, common_steps)

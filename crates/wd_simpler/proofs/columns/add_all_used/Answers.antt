@@ -1,3 +1,4 @@
+use Rattle.std.proofs.lemmas.Grind.{common_steps}
 use Rattle.std.proofs.Common.{◌≡◌, ◌<◌, map, length, get_or, arith, ap, sym, ◌∙◌}
 use Rattle.std.proofs.lemmas.List.{get_or-map, length-map}
 use Rattle.wd_plan.specs.Expressions.{Expression, expression_of}
@@ -14,3 +15,6 @@ loop-expression-preserved c =
     let within : i < length expressions = omega arith in
     let is : e ≡ get_or (map expression_of expressions) i e = ap expression_of c.expression-item.is ∙ sym (get_or-map expression_of expressions i item e within) in
     also_more used c.args.set.now c.loop-expression.set c.add_used.new.set (map expression_of expressions) i e (simp length-map within) is c.loop-expression.invariant c.in_ok-add_used.ensures
+
+pub returns : goal.returns
+returns c = grind (arith, common_steps)

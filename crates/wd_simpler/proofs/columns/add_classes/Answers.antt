@@ -1,3 +1,4 @@
+use Rattle.std.proofs.lemmas.Grind.{common_steps}
 use Rattle.std.proofs.Common.{◌≡◌, List, ℕ, ◌<◌, map, length, get_or, arith, ap, sym, subst, ◌∙◌}
 use Rattle.std.proofs.lemmas.List.{get_or-map, length-map}
 use Rattle.wd_plan.specs.Plans.{ClassRule, class_of}
@@ -18,3 +19,6 @@ loop-class-preserved c =
     let keys = subst (λ l. HasAlso c.add_columns.new.set (map (λ item. item.column) l) c.add_keys.new.set) c.deref-in-loop-class.ensures.value c.in_ok-add_keys.ensures in
     also_more class_columns c.args.set.now c.loop-class.set c.add_keys.new.set (map class_of classes) i class (simp length-map within) is c.loop-class.invariant
     (also_then c.loop-class.set c.add_columns.new.set c.add_keys.new.set class.partition (order_columns class) partition keys)
+
+pub returns : goal.returns
+returns c = grind (arith, common_steps)

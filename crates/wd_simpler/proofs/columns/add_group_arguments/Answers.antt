@@ -1,3 +1,4 @@
+use Rattle.std.proofs.lemmas.Grind.{common_steps}
 use Rattle.std.proofs.Common.{◌≡◌, ◌<◌, map, length, get_or, arith, ap, sym, ◌∙◌, option_to_list}
 use Rattle.std.proofs.lemmas.List.{get_or-map, length-map}
 use Rattle.wd_plan.specs.Plans.{GroupCall, group_call_of}
@@ -14,3 +15,6 @@ loop-call-preserved c =
     let within : i < length calls = omega arith in
     let is : call ≡ get_or (map group_call_of calls) i call = ap group_call_of c.call-item.is ∙ sym (get_or-map group_call_of calls i item call within) in
     also_more (λ call. option_to_list (group_argument call)) c.args.set.now c.loop-call.set c.add_group_argument.new.set (map group_call_of calls) i call (simp length-map within) is c.loop-call.invariant c.in_ok-add_group_argument.ensures
+
+pub returns : goal.returns
+returns c = grind (arith, common_steps)

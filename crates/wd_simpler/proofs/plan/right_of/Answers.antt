@@ -1,3 +1,4 @@
+use Rattle.std.proofs.lemmas.Grind.{common_steps}
 use Rattle.std.proofs.Common.{◌+◌, ◌&&◌, sym, ap, ◌∙◌, arith}
 use Rattle.std.proofs.lemmas.Bool.{le-ltb}
 use Rattle.wd_sets.specs.Sets.{has_column}
@@ -16,3 +17,6 @@ loop-column-preserved c = λ d. elim c.if-contains.branch [
   | else-contains w ↦
       rw w.beside-is (beside_out (has_column c.in-Some.set) c.args.first c.loop-column.column d _ (sym c.contains.ensures ∙ w.if-contains.false) (c.loop-column.invariant d))
 ]
+
+pub returns : goal.returns
+returns c = grind (arith, common_steps)

@@ -1,3 +1,4 @@
+use Rattle.std.proofs.lemmas.Grind.{common_steps}
 use Rattle.std.proofs.Common.{◌≡◌, ◌∙◌, ◌+◌, ◌<◌, ◌++◌, ℕ, List, [], ◌∷◌, ap, arith, get_or, length, map, sym, take}
 use Rattle.std.proofs.lemmas.List.{map-append, take_more}
 use Rattle.wd_plan.specs.declared.group.GroupCall.{GroupCall as Code}
@@ -19,3 +20,6 @@ pub loop-call-preserved : goal.loop-call-preserved
 loop-call-preserved c =
     c.in_ok-add_arguments.ensures ∙ ap (with_new (spec.grouping_arguments_of (group_call_of c.call-item.result))) c.loop-call.invariant
     ∙ taken c.args.calls.now c.loop-call.call-index c.call-item.result (omega (arith, c.loop-call-test.true)) c.call-item.is
+
+pub returns : goal.returns
+returns c = grind (arith, common_steps)

@@ -1,3 +1,4 @@
+use Rattle.std.proofs.lemmas.Grind.{common_steps}
 use Rattle.std.proofs.Common.{◌≡◌, ◌+◌, [], ◌∷◌, ◌++◌, take, refl, arith}
 use Rattle.std.proofs.lemmas.List.{append-nil, take_more}
 use Rattle.wd_value.specs.Rows.{row_at}
@@ -21,3 +22,6 @@ loop-position-preserved c =
     let wrote = c.in_ok-write-2.ensures (answer_text c.args.names.now rows) c.loop-position.invariant in
     let more : take (n + 1) all ≡ rows ++ row ∷ [] = take_more all n [] (omega arith) in
     rw more (rw (answer_text-push c.args.names.now rows row) (rw (c.in_ok-put_values.ensures) at wrote))
+
+pub returns : goal.returns
+returns c = grind (arith, common_steps)

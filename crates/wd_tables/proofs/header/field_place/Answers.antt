@@ -1,3 +1,4 @@
+use Rattle.std.proofs.lemmas.Grind.{common_steps}
 use Rattle.std.proofs.Common.{◌≡◌, ◌<◌, true, [], length, sym, arith, rules}
 use Rattle.std.specs.Str.{bytes_eq}
 use Rattle.std.proofs.lemmas.List.{get_or_read}
@@ -15,3 +16,6 @@ pub returns : goal.returns
 returns c =
     let all : c.loop-place.place ≡ length c.args.names.now = omega arith in
     sym (position_or_len_is (bytes_eq c.args.name.now) c.args.names.now (length c.args.names.now) [] (omega arith) (λ k h. c.loop-place.invariant k (omega arith)) (λ h. absurd (omega arith)))
+
+pub loop-place-preserved : goal.loop-place-preserved
+loop-place-preserved c = grind (arith, common_steps)

@@ -1,3 +1,4 @@
+use Rattle.std.proofs.lemmas.Grind.{common_steps}
 use Rattle.std.proofs.Common.{◌≡◌, ◌<◌, ◌+◌, [], ◌∷◌, ◌++◌, Some, get_or, take, length, arith}
 use Rattle.std.proofs.lemmas.List.{get_or-map, map-append, map_more, take_more}
 use Rattle.csv.specs.Records.{fields_of}
@@ -23,3 +24,6 @@ loop-c-preserved c =
           rw (c.in_ok-push-in-Ok.ensures.items, map-append (λ (w : Value). Some w) c.loop-c.row.items (v ∷ []), ← c.loop-c.invariant.0 header e) more),
       rw (taken, c.in_ok-push-in-Ok.ensures.items) (fits_columns-push (take c.loop-c.c columns) c.loop-c.row.items column v c.loop-c.invariant.1 c.in-Ok.ensures.held),
     )
+
+pub returns : goal.returns
+returns c = grind (arith, common_steps)

@@ -1,3 +1,4 @@
+use Rattle.std.proofs.lemmas.Grind.{common_steps}
 use Rattle.std.proofs.Common.{◌+◌, ◌<◌, ap, drop, inl, inr, length, arith}
 use Rattle.std.proofs.lemmas.List.{drop_more}
 use Rattle.csv.specs.Reading.{strip_bom}
@@ -40,3 +41,6 @@ loop-byte-preserved c =
         omega arith,
       )
     ]
+
+pub returns : goal.returns
+returns c = grind (arith, common_steps)

@@ -1,10 +1,11 @@
+use Rattle.std.proofs.lemmas.Grind.{common_steps}
 use Rattle.std.proofs.Common.{◌≡◌, ◌∙◌, sym, ap, suc, ◌<◌, ◌+◌, ◌∷◌, add-one, arith, drop, length, map}
 use Rattle.std.proofs.Math.Seq.{drop-cons}
 use Rattle.wd_resolve_operand.specs.BoundExpressions.{references}
 use Rattle.wd_resolve_call.specs.References.{bound_expression_of}
 use Rattle.wd_resolve_list.specs.SelectLists.{all_references, projected_shown, projected_with}
 use Rattle.wd_resolve_list.specs.Outputs.{expressions_of, output_of}
-use Rattle.wd_resolve_list.proofs.FirstMet.{projected_append}
+use Rattle.wd_resolve_list.proofs.FirstMet.{projected_append, calls_added, inputs_added, read_added}
 use Rattle.wd_resolve_list.proofs.projected.ProjectedInputs.add_each.Goals as goal
 
 pub loop-output-preserved : goal.loop-output-preserved
@@ -21,3 +22,6 @@ loop-output-preserved c =
     ∙ sym (projected_append before here rest)
     ∙ ap (λ os. projected_with before (all_references (expressions_of (map output_of os)))) (sym step)
     ∙ c.loop-output.invariant
+
+pub returns : goal.returns
+returns c = grind (arith, common_steps, calls_added, inputs_added, read_added)

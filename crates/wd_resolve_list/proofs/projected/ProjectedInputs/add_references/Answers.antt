@@ -1,8 +1,9 @@
+use Rattle.std.proofs.lemmas.Grind.{common_steps}
 use Rattle.std.proofs.Common.{◌≡◌, ◌∙◌, sym, ap, suc, ◌<◌, ◌+◌, [], ◌∷◌, add-one, arith, drop, length, map}
 use Rattle.std.proofs.Math.Seq.{drop-cons}
 use Rattle.wd_resolve_call.specs.References.{reference_of}
 use Rattle.wd_resolve_list.specs.SelectLists.{projected_shown, projected_with}
-use Rattle.wd_resolve_list.proofs.FirstMet.{projected_append}
+use Rattle.wd_resolve_list.proofs.FirstMet.{projected_append, calls_added, inputs_added, read_added}
 use Rattle.wd_resolve_list.proofs.projected.ProjectedInputs.add_references.Goals as goal
 
 pub loop-reference-preserved : goal.loop-reference-preserved
@@ -18,3 +19,6 @@ loop-reference-preserved c =
     ∙ sym (projected_append before (reference_of reference.now ∷ []) rest)
     ∙ ap (λ ls. projected_with before (map (λ k. reference_of k.now) ls)) (sym step)
     ∙ c.loop-reference.invariant
+
+pub returns : goal.returns
+returns c = grind (arith, common_steps, calls_added, inputs_added, read_added)

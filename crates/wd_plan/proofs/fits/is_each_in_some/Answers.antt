@@ -1,0 +1,10 @@
+use Rattle.std.proofs.Common.{arith}
+use Rattle.std.proofs.lemmas.Grind.{common_steps}
+use Rattle.wd_plan.proofs.FitsNodes.{range_tested}
+use Rattle.wd_plan.proofs.fits.is_each_in_some.Goals as goal
+
+pub loop-column-preserved : goal.loop-column-preserved
+loop-column-preserved c = grind (arith, common_steps, range_tested)
+
+pub returns : goal.returns
+returns c = grind (arith, common_steps, range_tested)

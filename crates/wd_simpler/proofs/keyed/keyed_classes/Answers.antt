@@ -1,0 +1,6 @@
+use Rattle.std.proofs.Common.{arith}
+use Rattle.std.proofs.lemmas.Grind.{common_steps}
+use Rattle.wd_simpler.proofs.keyed.keyed_classes.Goals as goal
+
+pub loop-class-preserved : goal.loop-class-preserved
+loop-class-preserved c = grind (arith, common_steps)
