@@ -1,36 +1,35 @@
 -- The facts that a node keeps, as the code holds them, and the given facts of the node above.
 use Rattle.std.specs.Prelude.{◌≡◌, ℕ, ◌+◌, ◌-◌, Bool, true, false, List, [], ◌++◌, map, length, slice_get, Option, Some, None, ⊤, if◌then◌else◌}
+use Rattle.std.specs.declared.alloc.Global.{Global}
 use Rattle.std.specs.List.{list_all}
+use Rattle.std.specs.declared.vec.Vec.{Vec}
 use Rattle.wd_plan.specs.Fits.{width}
 use Rattle.wd_plan.specs.Plans.{PlanTree, Scan, Join, Over, Map, Group}
 use Rattle.wd_step_facts.specs.declared.facts.Member.{Member}
 use Rattle.wd_step_facts.specs.declared.facts.Member.TheVariants as member
 use Rattle.wd_step_facts.specs.Facts.{Fact, FactList, columns_named, fact_of, is_plain_fact, moved_facts}
 use Rattle.wd_step_facts.specs.Steps.{facts_of_group}
-use Rattle.wd_sets.specs.Sets.{has}
-use Rattle.wd_rules.specs.Traces.{Traced}
-use Rattle.wd_node_facts.specs.declared.facts.Followed.{Followed}
 use Rattle.wd_node_facts.specs.declared.facts.Keeps.{Keeps}
 use Rattle.wd_node_facts.specs.declared.facts.KeptFact.{KeptFact}
 use Rattle.wd_node_facts.specs.declared.facts.NodeFacts.{NodeFacts}
 use Rattle.wd_node_facts.specs.declared.facts.Side.{Side}
 
--- what a trace that the code followed shows
-abbrev pub traced_of : Followed → Traced
-traced_of followed = record { from = followed.from.items; has = has followed.set }
+-- the columns of each trace
+abbrev pub each_columns : List (Vec ℕ Global) → List (List ℕ)
+each_columns traces = map (λ (columns : Vec ℕ Global). columns.items) traces
 
 -- the columns of a trace, if it is there
-abbrev pub columns_of : Option Traced → List ℕ
-columns_of None = []
-columns_of (Some trace) = trace.from
+abbrev pub columns_or_none : Option (List ℕ) → List ℕ
+columns_or_none None = []
+columns_or_none (Some columns) = columns
 
--- a kept fact, by the trace that it names
-abbrev pub fact_by : List Traced → KeptFact → Fact
-fact_by shown kept = record { from = columns_named (columns_of (slice_get shown kept.trace)); to = kept.to.items }
+-- a kept fact, by the columns of the trace that it names
+abbrev pub fact_by : List (List ℕ) → KeptFact → Fact
+fact_by traces kept = record { from = columns_named (columns_or_none (slice_get traces kept.trace)); to = kept.to.items }
 
 -- the facts that a node keeps
 abbrev pub facts_kept : Keeps → List Fact
-facts_kept keeps = map (fact_by (map traced_of keeps.traces.items)) keeps.list.items
+facts_kept keeps = map (fact_by (each_columns keeps.traces.items)) keeps.list.items
 
 -- the facts that a side keeps, as the node above numbers them
 abbrev pub side_facts : Side → List Fact

@@ -13,22 +13,14 @@ ghost use Rattle.wd_step_facts.specs.Steps.{facts_of_group};
 ghost use Rattle.wd_facts.specs.Given.{given as given_facts};
 ghost use Rattle.wd_facts.specs.Laws.{AreOfChildren};
 ghost use Rattle.wd_node_facts.specs.Seen as spec;
-ghost use Rattle.wd_node_facts.specs.Seen.{facts_kept, seen_of, traced_of};
+ghost use Rattle.wd_node_facts.specs.Seen.{each_columns, facts_kept, seen_of};
 
 use std::alloc::Global;
 use wd_facts::{Facts, Given, Member, given};
 use wd_plan::{Group, Plan};
 use wd_schema::Schema;
-use wd_sets::Set;
 use wd_step_facts::restrict_members;
 use wd_value::OutOfMemory;
-
-/// A trace's columns, each once, and the members after its uses; what follows from these is reached.
-#[derive(Drop)]
-pub struct Followed {
-    pub from: Vec<u16>,
-    pub set: Set,
-}
 
 /// A kept fact: the number of its trace, and what the trace's columns determine, each once.
 #[derive(Drop)]
@@ -40,7 +32,8 @@ pub struct KeptFact {
 /// What a node keeps by its traces.
 #[derive(Drop)]
 pub struct Keeps {
-    pub traces: Vec<Followed>,
+    /// The columns of each trace that a kept fact names, each once, by the trace's number.
+    pub traces: Vec<Vec<u16>>,
     pub list: Vec<KeptFact>,
 }
 
@@ -78,11 +71,11 @@ impl Keeps {
 }
 
 /// The columns of the trace with a number; empty where no trace has it.
-pub fn columns_of(traces: &[Followed], number: usize) -> &[u16]
-    ensures { result.now ≡ spec.columns_of (slice_get (map traced_of traces.now) number) }
+pub fn columns_of(traces: &[Vec<u16>], number: usize) -> &[u16]
+    ensures { result.now ≡ spec.columns_or_none (slice_get (each_columns traces.now) number) }
 {
     match traces.get(number) {
-        Some(trace) => &trace.from,
+        Some(columns) => columns,
         None => &[],
     }
 }
@@ -122,11 +115,11 @@ fn push_kept(list: &mut Vec<KeptFact>, kept: KeptFact) -> Result<(), OutOfMemory
 fn add_cut(
     alloc: Global,
     columns: u16,
-    traces: &[Followed],
+    traces: &[Vec<u16>],
     kept: &KeptFact,
     list: &mut Vec<KeptFact>,
 ) -> Result<(), OutOfMemory>
-    ensures { IfOk result (λ _. map (spec.fact_by (map traced_of traces.now)) list.new.items ≡ map (spec.fact_by (map traced_of traces.now)) list.old.items ++ steps.restrict_fact columns (spec.fact_by (map traced_of traces.now) kept.now)) }
+    ensures { IfOk result (λ _. map (spec.fact_by (each_columns traces.now)) list.new.items ≡ map (spec.fact_by (each_columns traces.now)) list.old.items ++ steps.restrict_fact columns (spec.fact_by (each_columns traces.now) kept.now)) }
 {
     if are_columns(columns, columns_of(traces, kept.trace)) {
         let cut = restrict_fact(alloc, columns, kept)?;
@@ -141,10 +134,10 @@ fn add_cut(
 fn restrict_facts(
     alloc: Global,
     columns: u16,
-    traces: &[Followed],
+    traces: &[Vec<u16>],
     kept: &[KeptFact],
 ) -> Result<Vec<KeptFact>, OutOfMemory>
-    ensures { IfOk result (λ v. map (spec.fact_by (map traced_of traces.now)) v.items ≡ flat_map (steps.restrict_fact columns) (map (spec.fact_by (map traced_of traces.now)) kept.now)) }
+    ensures { IfOk result (λ v. map (spec.fact_by (each_columns traces.now)) v.items ≡ flat_map (steps.restrict_fact columns) (map (spec.fact_by (each_columns traces.now)) kept.now)) }
 {
     let mut list = Vec::new(alloc);
     for fact in kept {

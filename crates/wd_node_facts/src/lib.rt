@@ -3,4 +3,4 @@
 
 mod facts;
 
-pub use facts::{Followed, Keeps, KeptFact, NodeFacts, Side, are_columns, columns_of, facts_at};
+pub use facts::{Keeps, KeptFact, NodeFacts, Side, are_columns, columns_of, facts_at};

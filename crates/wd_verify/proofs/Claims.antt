@@ -6,8 +6,7 @@ use Rattle.std.proofs.lemmas.Bool.{and_parts}
 use Rattle.std.specs.List.{list_all}
 use Rattle.wd_plan.specs.Fits.{width}
 use Rattle.wd_plan.specs.Plans.{PlanTree}
-use Rattle.wd_certificate.specs.Certificates.{KeptRecord, NodeRecord, TraceRecord, trace_of}
-use Rattle.wd_certificate.specs.declared.certificate.Trace.{Trace}
+use Rattle.wd_certificate.specs.Certificates.{KeptRecord, NodeRecord, TraceRecord}
 use Rattle.wd_certificate.specs.declared.certificate.Target.{Target}
 use Rattle.wd_certificate.specs.declared.certificate.Target.TheVariants as target
 use Rattle.wd_certificate.specs.declared.error.CertError.{CertError}
@@ -17,14 +16,12 @@ use Rattle.wd_step_facts.specs.Facts.{FactList, columns_named, is_plain, is_plai
 use Rattle.wd_facts.specs.Laws.{ArePlain}
 use Rattle.wd_rules.proofs.Kept.{entry_plain}
 use Rattle.wd_rules.proofs.Traces.{parts_of}
-use Rattle.wd_rules.specs.Rules.{claims_refusal, entry_refusal, is_target, kept_fact, kept_facts, member_of}
+use Rattle.wd_rules.specs.Rules.{claims_refusal, entry_refusal, is_target, kept_fact, kept_facts, member_of, trace_or}
 use Rattle.wd_rules.specs.Traces.{Traced, and_then, each_traced, traced}
 use Rattle.wd_node_facts.specs.declared.facts.KeptFact.{KeptFact}
-use Rattle.wd_verify.specs.Lean.{columns_once, lean_kept, lean_trace, once}
-use Rattle.wd_node_facts.specs.Seen.{columns_of, fact_by, traced_of}
-use Rattle.wd_verify.specs.Shown.{HaveColumns, refusal_of}
-use Rattle.wd_sets.specs.Sets.{has}
-use Rattle.wd_node_facts.specs.declared.facts.Followed.{Followed}
+use Rattle.wd_verify.specs.Lean.{lean_kept, once}
+use Rattle.wd_node_facts.specs.Seen.{columns_or_none, fact_by}
+use Rattle.wd_verify.specs.Shown.{IsKeptFact, refusal_of}
 use Rattle.wd_verify.proofs.Once.{targets_all}
 
 -- traces that are good, after those before
@@ -51,19 +48,6 @@ after_one node facts trace traces before has e =
 pub after_stop : (node : ℕ) (facts : FactList) (trace : TraceRecord) (traces : List TraceRecord) (before : List Traced) (refusal : CertError) → traced node facts trace ≡ Err refusal → after before (each_traced node facts (trace ∷ traces)) ≡ Err refusal
 after_stop node facts trace traces before refusal e = ap (λ r. after before (and_then r (λ has. and_then (each_traced node facts traces) (λ shown. Ok (record { from = trace.from; has = has } ∷ shown))))) e
 
--- one more trace that was followed, of those of the code
-pub next_traced : (node : ℕ) (facts : FactList) (traces : List Trace) (i : ℕ) (item : Trace) (before new : List Followed) (one : Followed) → i < length traces → item ≡ get_or traces i item → new ≡ before ++ one ∷ []
-    → one.from.items ≡ columns_once item.from.items → traced node facts (lean_trace (trace_of item)) ≡ Ok (has one.set)
-    → after (map traced_of new) (each_traced node facts (map lean_trace (map trace_of (drop (i + 1) traces)))) ≡ after (map traced_of before) (each_traced node facts (map lean_trace (map trace_of (drop i traces))))
-next_traced node facts traces i item before new one h is e f t =
-    let next : suc i ≡ i + 1 = omega arith in
-    let rest : drop i traces ≡ item ∷ drop (i + 1) traces = drop-cons traces i item h ∙ (λ j. sym is j ∷ drop (next j) traces) in
-    let more : map traced_of new ≡ map traced_of before ++ record { from = columns_once item.from.items; has = has one.set } ∷ [] =
-    ap (map traced_of) e ∙ map-append traced_of before (one ∷ []) ∙ (λ j. map traced_of before ++ record { from = f j; has = has one.set } ∷ []) in
-    (λ j. after (more j) (each_traced node facts (map lean_trace (map trace_of (drop (i + 1) traces)))))
-    ∙ sym (after_one node facts (lean_trace (trace_of item)) (map lean_trace (map trace_of (drop (i + 1) traces))) (map traced_of before) (has one.set) t)
-    ∙ ap (λ xs. after (map traced_of before) (each_traced node facts (map lean_trace (map trace_of xs)))) (sym rest)
-
 -- what an entry claims, by its traces
 pub traced_claims : (node : ℕ) (facts : FactList) (plan : PlanTree) (entry : NodeRecord) (r : Result (List Traced) CertError) → each_traced node facts entry.traces ≡ r → entry_refusal node facts plan entry ≡ claims_refusal node facts plan entry r
 traced_claims node facts plan entry r e = ap (claims_refusal node facts plan entry) e
@@ -83,17 +67,21 @@ plain_to columns traces kept e = targets_all (is_target columns) kept.to ∙ tar
         λ i. parts.0 i && targets to parts.1 i
     targets (target.Row ∷ to) e = targets to e
 
--- the columns of a kept fact are those of its trace that is shown
-pub fact_is : (traces : List TraceRecord) (shown : List Traced) (kept : KeptFact) (record_of : KeptRecord) → HaveColumns traces shown → kept.trace ≡ record_of.trace → kept.to.items ≡ map member_of (once member_of record_of.to) → fact_by shown kept ≡ kept_fact traces (lean_kept record_of)
-fact_is traces shown kept record_of h e f = λ i. record { from = columns_named ((ap (λ n. columns_of (slice_get shown n)) e ∙ sym (h record_of.trace)) i); to = f i }
+-- the columns of a kept fact are those of its trace
+pub fact_is : (traces : List TraceRecord) (columns : List (List ℕ)) (kept : KeptRecord) (fact : KeptFact) → (trace_or (slice_get traces kept.trace)).from ≡ columns_or_none (slice_get columns kept.trace) → IsKeptFact kept fact → fact_by columns fact ≡ kept_fact traces (lean_kept kept)
+fact_is traces columns kept fact h is = λ i. record { from = columns_named ((ap (λ n. columns_or_none (slice_get columns n)) is.trace ∙ sym h) i); to = is.to i }
+
+abbrev pub from_of : Option Traced → List ℕ
+from_of None = []
+from_of (Some trace) = trace.from
 
 -- traces that were followed begin with the columns of the entry's
-pub have_columns : (node : ℕ) (facts : FactList) (traces : List TraceRecord) (shown : List Traced) → each_traced node facts traces ≡ Ok shown → HaveColumns traces shown
-have_columns node facts [] shown e n = let f : shown ≡ [] = cc in ap (λ s. columns_of (slice_get s n)) (sym f)
-have_columns node facts (trace ∷ traces) shown e zero = let parts = parts_of node facts trace traces shown e in ap (λ s. columns_of (slice_get s zero)) (sym parts.is)
+pub have_columns : (node : ℕ) (facts : FactList) (traces : List TraceRecord) (shown : List Traced) → each_traced node facts traces ≡ Ok shown → (n : ℕ) → (trace_or (slice_get traces n)).from ≡ from_of (slice_get shown n)
+have_columns node facts [] shown e n = let f : shown ≡ [] = cc in ap (λ s. from_of (slice_get s n)) (sym f)
+have_columns node facts (trace ∷ traces) shown e zero = let parts = parts_of node facts trace traces shown e in ap (λ s. from_of (slice_get s zero)) (sym parts.is)
 have_columns node facts (trace ∷ traces) shown e (suc n) =
     let parts = parts_of node facts trace traces shown e in
-    have_columns node facts traces parts.rest parts.later n ∙ ap (λ s. columns_of (slice_get s (suc n))) (sym parts.is)
+    have_columns node facts traces parts.rest parts.later n ∙ ap (λ s. from_of (slice_get s (suc n))) (sym parts.is)
 
 -- ---- what a check answers, by its refusal
 

@@ -2,9 +2,12 @@ pub mod Alike
 pub mod Calls
 pub mod Claims
 pub mod Columns
+pub mod Facts
+pub mod Followed
 pub mod Joins
 pub mod LeanEntry
 pub mod LeanNodes
 pub mod Members
+pub mod NamedTraces
 pub mod Once
 pub mod Used

@@ -14,7 +14,7 @@ use Rattle.wd_sets.specs.Reaches.{also, reaches_each}
 use Rattle.wd_rules.specs.Traces.{traced, with_use, with_uses}
 use Rattle.wd_node_facts.specs.declared.facts.KeptFact.{KeptFact}
 use Rattle.wd_node_facts.specs.declared.facts.Side.{Side}
-use Rattle.wd_node_facts.specs.Seen.{IsNarrow, fact_by, facts_kept, side_facts, traced_of}
+use Rattle.wd_node_facts.specs.Seen.{IsNarrow, each_columns, fact_by, facts_kept, side_facts}
 use Rattle.wd_node_facts.proofs.Sides.{get_left, get_right}
 
 -- one more of some members, before others
@@ -51,20 +51,20 @@ at_number t f (y ∷ xs) (suc n) x e at = at_number t f xs n x (and_parts (t (f 
 
 module _ (side : Side) where
   -- a kept fact of a side names columns that can be renumbered
-  pub plain_at : (n : ℕ) (kept : KeptFact) → IsNarrow side → slice_get side.keeps.list.items n ≡ Some kept → is_plain_fact (65536 - side.by) (fact_by (map traced_of side.keeps.traces.items) kept) ≡ true
-  plain_at n kept e at = at_number (is_plain_fact (65536 - side.by)) (fact_by (map traced_of side.keeps.traces.items)) side.keeps.list.items n kept e at
+  pub plain_at : (n : ℕ) (kept : KeptFact) → IsNarrow side → slice_get side.keeps.list.items n ≡ Some kept → is_plain_fact (65536 - side.by) (fact_by (each_columns side.keeps.traces.items) kept) ≡ true
+  plain_at n kept e at = at_number (is_plain_fact (65536 - side.by)) (fact_by (each_columns side.keeps.traces.items)) side.keeps.list.items n kept e at
 
-  got : (n : ℕ) → slice_get (side_facts side) n ≡ option_map (moved_fact (λ c. side.by + c) side.row) (option_map (fact_by (map traced_of side.keeps.traces.items)) (slice_get side.keeps.list.items n))
-  got n = slice_get-map (moved_fact (λ c. side.by + c) side.row) (facts_kept side.keeps) n ∙ ap (option_map (moved_fact (λ c. side.by + c) side.row)) (slice_get-map (fact_by (map traced_of side.keeps.traces.items)) side.keeps.list.items n)
+  got : (n : ℕ) → slice_get (side_facts side) n ≡ option_map (moved_fact (λ c. side.by + c) side.row) (option_map (fact_by (each_columns side.keeps.traces.items)) (slice_get side.keeps.list.items n))
+  got n = slice_get-map (moved_fact (λ c. side.by + c) side.row) (facts_kept side.keeps) n ∙ ap (option_map (moved_fact (λ c. side.by + c) side.row)) (slice_get-map (fact_by (each_columns side.keeps.traces.items)) side.keeps.list.items n)
 
-  pub side_at : (n : ℕ) (kept : KeptFact) → slice_get side.keeps.list.items n ≡ Some kept → slice_get (side_facts side) n ≡ Some (moved_fact (λ c. side.by + c) side.row (fact_by (map traced_of side.keeps.traces.items) kept))
-  side_at n kept e = got n ∙ ap (λ o. option_map (moved_fact (λ c. side.by + c) side.row) (option_map (fact_by (map traced_of side.keeps.traces.items)) o)) e
+  pub side_at : (n : ℕ) (kept : KeptFact) → slice_get side.keeps.list.items n ≡ Some kept → slice_get (side_facts side) n ≡ Some (moved_fact (λ c. side.by + c) side.row (fact_by (each_columns side.keeps.traces.items) kept))
+  side_at n kept e = got n ∙ ap (λ o. option_map (moved_fact (λ c. side.by + c) side.row) (option_map (fact_by (each_columns side.keeps.traces.items)) o)) e
 
   pub side_past : (n : ℕ) → slice_get side.keeps.list.items n ≡ None → slice_get (side_facts side) n ≡ None
-  side_past n e = got n ∙ ap (λ o. option_map (moved_fact (λ c. side.by + c) side.row) (option_map (fact_by (map traced_of side.keeps.traces.items)) o)) e
+  side_past n e = got n ∙ ap (λ o. option_map (moved_fact (λ c. side.by + c) side.row) (option_map (fact_by (each_columns side.keeps.traces.items)) o)) e
 
   many : length (side_facts side) ≡ length side.keeps.list.items
-  many = length-map (facts_kept side.keeps) (moved_fact (λ c. side.by + c) side.row) ∙ length-map side.keeps.list.items (fact_by (map traced_of side.keeps.traces.items))
+  many = length-map (facts_kept side.keeps) (moved_fact (λ c. side.by + c) side.row) ∙ length-map side.keeps.list.items (fact_by (each_columns side.keeps.traces.items))
 
   pub in_side : (others : List Fact) (n : ℕ) → n < length side.keeps.list.items → slice_get (side_facts side ++ others) n ≡ slice_get (side_facts side) n
   in_side others n h = let e = many in get_left (side_facts side) others n (omega arith)

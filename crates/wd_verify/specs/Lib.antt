@@ -1,3 +1,4 @@
 pub mod Lean
+pub mod Named
 pub mod Shown
 pub mod Used

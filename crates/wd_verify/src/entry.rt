@@ -7,17 +7,18 @@ ghost use Rattle.wd_plan.specs.Plans.{plan_of};
 ghost use Rattle.wd_facts.specs.Given.{given as given_facts};
 ghost use Rattle.wd_facts.specs.Laws.{AreOfChildren, ArePlain};
 ghost use Rattle.wd_rules.specs.Rules as rules;
-ghost use Rattle.wd_rules.specs.Traces as spec;
 ghost use Rattle.wd_verify.specs.Lean.{lean_of};
-ghost use Rattle.wd_node_facts.specs.Seen.{AreNarrow, HasNoOther, facts_kept, seen_of, traced_of};
-ghost use Rattle.wd_verify.specs.Shown.{evidence_of, shown_by};
+ghost use Rattle.wd_node_facts.specs.Seen.{AreNarrow, HasNoOther, facts_kept, seen_of};
+ghost use Rattle.wd_verify.specs.Shown.{HaveColumns, evidence_of, own_columns, shown_by};
 
 use crate::evidence::{Evidence, follow_each};
 use crate::kept::{check_keep, keeps_of};
+use crate::named::named_traces;
 use crate::rules::{check_limit, check_window};
+use crate::trace::Followed;
 use std::alloc::Global;
 use wd_certificate::{CertError, Node};
-use wd_node_facts::{Followed, Keeps, NodeFacts, facts_at};
+use wd_node_facts::{Keeps, NodeFacts, facts_at};
 use wd_plan::Plan;
 use wd_schema::Schema;
 
@@ -70,8 +71,8 @@ fn check_claims(
     check_rules(alloc, evidence, plan, schema, entry)
 }
 
-/// Follows the traces of an entry over the given facts of its node, and checks the entry's claims by them; the result is the traces.
-#[tactic(auto, using(crate::proofs::Claims::traced_claims))]
+/// Follows the traces of an entry over the given facts of its node, and checks the entry's claims by them; the result is the traces that
+/// claims name.
 fn judge_entry(
     alloc: Global,
     plan: &Plan,
@@ -79,25 +80,26 @@ fn judge_entry(
     node: u64,
     entry: &Node,
     facts: NodeFacts,
-) -> Result<Vec<Followed>, CertError>
+) -> Result<Vec<Option<Box<Followed>>>, CertError>
     requires fits { fitting.fits (schema_of schema.now) (plan_of plan.now) ≡ true }
     requires narrow { AreNarrow facts }
-    ensures traced { IfOk result (λ v. spec.each_traced node (seen_of facts) (lean_of entry.now).traces ≡ Ok (map traced_of v.items)) }
+    ensures traces { IfOk result (λ v. HaveColumns (lean_of entry.now) (map own_columns v.items)) }
     ensures passed { IfOk result (λ _. rules.entry_refusal node (seen_of facts) (plan_of plan.now) (lean_of entry.now) ≡ None) }
     ensures refused { IfErr result (λ e. e ≢ CertError.OutOfMemory → rules.entry_refusal node (seen_of facts) (plan_of plan.now) (lean_of entry.now) ≡ Some e) }
 {
-    let traces = follow_each(alloc, node, &facts, &entry.traces)?;
+    let marks = named_traces(alloc, entry)?;
+    let traces = follow_each(alloc, node, &facts, &entry.traces, &marks)?;
     let evidence = Evidence {
         node,
         facts,
         traces,
+        unnamed: Followed::new(alloc),
     };
     check_claims(alloc, &evidence, plan, schema, entry)?;
     Ok(evidence.traces)
 }
 
 /// Checks the entry of a plan's top node, where the children keep the given facts; the result is what the entry keeps itself.
-#[tactic(auto, using(crate::proofs::Claims::have_columns))]
 pub(crate) fn check_entry(
     alloc: Global,
     plan: &Plan,

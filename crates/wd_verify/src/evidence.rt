@@ -1,26 +1,30 @@
-//! What the checks of an entry read: the given facts, and the traces, each followed once.
+//! What the checks of an entry read: the given facts, and the traces, each followed once. A trace that no claim names is judged, and not
+//! kept.
 
-ghost use Rattle.std.specs.Prelude.{◌≡◌, ◌≢◌, ◌++◌, [], ◌∷◌, map, slice_get, None, Ok, Err, Some, IfOk, IfErr};
+ghost use Rattle.std.specs.Prelude.{◌≡◌, ◌≢◌, map, slice_get, None, Ok, Err, Some, IfOk, IfErr};
 ghost use Rattle.wd_certificate.specs.Certificates.{trace_of};
 ghost use Rattle.wd_certificate.specs.declared.error.CertError.TheVariants as error;
 ghost use Rattle.wd_rules.specs.Rules as rules;
 ghost use Rattle.wd_rules.specs.Traces as spec;
 ghost use Rattle.wd_verify.specs.Lean.{lean_trace};
-ghost use Rattle.wd_node_facts.specs.Seen.{AreNarrow, seen_of, traced_of};
-ghost use Rattle.wd_verify.specs.Shown.{refusal_of, shown_by};
+ghost use Rattle.wd_node_facts.specs.Seen.{AreNarrow, seen_of};
+ghost use Rattle.wd_verify.specs.Shown.{AreFollowed, IsAdded, refusal_of, shown_by, traced_of};
 
-use crate::trace::follow;
+use crate::named::is_marked;
+use crate::trace::{Followed, follow};
 use std::alloc::Global;
 use wd_certificate::{CertError, Trace};
-use wd_node_facts::{Followed, NodeFacts};
+use wd_node_facts::NodeFacts;
 use wd_value::OutOfMemory;
 
-/// The number of a node, its given facts, and the traces of its entry.
+/// The number of a node, its given facts, and the traces of its entry by their numbers.
 #[derive(Drop)]
 pub(crate) struct Evidence {
     pub(crate) node: u64,
     pub(crate) facts: NodeFacts,
-    pub(crate) traces: Vec<Followed>,
+    pub(crate) traces: Vec<Option<Box<Followed>>>,
+    /// What stands in place of a trace that no claim names.
+    pub(crate) unnamed: Followed,
 }
 
 impl Evidence {
@@ -31,7 +35,8 @@ impl Evidence {
         ensures refusal { IfErr result (λ e. e ≡ error.OutOfRange self.now.node) }
     {
         match self.traces.get(number as usize) {
-            Some(trace) => Ok(trace),
+            Some(Some(trace)) => Ok(trace),
+            Some(None) => Ok(&self.unnamed),
             None => Err(CertError::OutOfRange { node: self.node }),
         }
     }
@@ -44,30 +49,41 @@ pub(crate) fn refuse_unless(holds: bool, refusal: CertError) -> Result<(), CertE
     if holds { Ok(()) } else { Err(refusal) }
 }
 
-/// Appends a trace.
-fn add(list: &mut Vec<Followed>, one: Followed) -> Result<(), OutOfMemory>
-    ensures { IfOk result (λ _. list.new.items ≡ list.old.items ++ (one ∷ [])) }
+/// Appends a trace, or nothing in its place.
+fn add(
+    alloc: Global,
+    list: &mut Vec<Option<Box<Followed>>>,
+    trace: Followed,
+    is_kept: bool,
+) -> Result<(), OutOfMemory>
+    ensures { IfOk result (λ _. IsAdded is_kept trace list.old.items list.new.items) }
 {
-    list.push(one)?;
+    let kept = if is_kept {
+        Some(Box::new(alloc, trace)?)
+    } else {
+        None
+    };
+    list.push(kept)?;
     Ok(())
 }
 
-/// Follows each trace of an entry.
-#[tactic(auto, using(crate::proofs::Claims::after_none, crate::proofs::Claims::after_one, crate::proofs::Claims::after_stop))]
+/// Follows each trace of an entry, and keeps those with a mark.
 pub(crate) fn follow_each(
     alloc: Global,
     node: u64,
     facts: &NodeFacts,
     traces: &[Trace],
-) -> Result<Vec<Followed>, CertError>
+    marks: &[bool],
+) -> Result<Vec<Option<Box<Followed>>>, CertError>
     requires { AreNarrow facts.now }
-    ensures traced { IfOk result (λ v. spec.each_traced node (seen_of facts.now) (map lean_trace (map trace_of traces.now)) ≡ Ok (map traced_of v.items)) }
+    ensures followed { IfOk result (λ v. AreFollowed node (seen_of facts.now) (map lean_trace (map trace_of traces.now)) marks.now v.items) }
     ensures refused { IfErr result (λ e. e ≢ CertError.OutOfMemory → spec.each_traced node (seen_of facts.now) (map lean_trace (map trace_of traces.now)) ≡ Err e) }
 {
     let mut list = Vec::new(alloc);
     for trace in traces {
         let one = follow(alloc, node, facts, trace)?;
-        add(&mut list, one)?;
+        let is_kept = is_marked(marks, list.len());
+        add(alloc, &mut list, one, is_kept)?;
     }
     Ok(list)
 }

@@ -2,23 +2,22 @@
 
 ghost use Rattle.std.specs.Prelude.{◌≡◌, ◌++◌, List, ◌∷◌, true, map, slice_get, IfOk, None, Some};
 ghost use Rattle.std.specs.List.{list_all};
-ghost use Rattle.wd_certificate.specs.Certificates.{kept_of, trace_of};
+ghost use Rattle.wd_certificate.specs.Certificates.{kept_of};
 ghost use Rattle.wd_certificate.specs.declared.certificate.Target.{Target as ATarget};
-ghost use Rattle.wd_step_facts.specs.Facts.{is_plain_fact};
 ghost use Rattle.wd_facts.specs.Laws.{ArePlain};
 ghost use Rattle.wd_sets.specs.Reaches.{reaches_each};
 ghost use Rattle.wd_sets.specs.Sets.{has};
 ghost use Rattle.wd_rules.specs.Rules as rules;
-ghost use Rattle.wd_verify.specs.Lean.{lean_kept, lean_of, lean_trace, once, once_after};
-ghost use Rattle.wd_node_facts.specs.Seen.{fact_by, facts_kept, seen_of, traced_of};
-ghost use Rattle.wd_verify.specs.Shown.{HaveColumns, evidence_of, refusal_of, shown_by};
+ghost use Rattle.wd_verify.specs.Lean.{lean_kept, lean_of, once, once_after};
+ghost use Rattle.wd_node_facts.specs.Seen.{each_columns, fact_by, facts_kept, seen_of};
+ghost use Rattle.wd_verify.specs.Shown.{HaveColumns, IsKeptFact, evidence_of, own_columns as columns_kept, refusal_of, shown_by, traced_of};
 
 use crate::evidence::Evidence;
-use crate::trace::reaches;
+use crate::trace::{Followed, reaches};
 use std::alloc::Global;
-use wd_certificate::{CertError, Kept, Node, PackedTarget, Target, Trace};
+use wd_certificate::{CertError, Kept, Node, PackedTarget, Target};
 use wd_facts::Member;
-use wd_node_facts::{Followed, Keeps, KeptFact, NodeFacts, are_columns};
+use wd_node_facts::{Keeps, KeptFact, NodeFacts, are_columns};
 use wd_sets::Set;
 use wd_value::OutOfMemory;
 
@@ -142,17 +141,10 @@ fn targets_once(
 }
 
 /// A kept fact.
-#[tactic(auto, using(crate::proofs::Claims::plain_to, crate::proofs::Claims::fact_is))]
-fn kept_fact(
-    alloc: Global,
-    columns: u16,
-    traces: &[Trace],
-    shown: &[Followed],
-    kept: &Kept,
-) -> Result<KeptFact, OutOfMemory>
-    requires plain { is_plain_fact columns (rules.kept_fact (map lean_trace (map trace_of traces.now)) (lean_kept (kept_of kept.now))) ≡ true }
-    requires shown { HaveColumns (map lean_trace (map trace_of traces.now)) (map traced_of shown.now) }
-    ensures { IfOk result (λ k. fact_by (map traced_of shown.now) k ≡ rules.kept_fact (map lean_trace (map trace_of traces.now)) (lean_kept (kept_of kept.now))) }
+#[tactic(auto, using(crate::proofs::Claims::fact_is))]
+fn kept_fact(alloc: Global, columns: u16, kept: &Kept) -> Result<KeptFact, OutOfMemory>
+    requires { list_all (rules.is_target columns) (kept_of kept.now).to ≡ true }
+    ensures { IfOk result (λ k. IsKeptFact (kept_of kept.now) k) }
 {
     let to = targets_once(alloc, columns, &kept.to)?;
     Ok(KeptFact {
@@ -166,16 +158,43 @@ fn kept_list(
     alloc: Global,
     columns: u16,
     entry: &Node,
-    shown: &[Followed],
+    traces: &[Vec<u16>],
 ) -> Result<Vec<KeptFact>, OutOfMemory>
     requires plain { ArePlain columns (rules.kept_facts (lean_of entry.now)) }
-    requires shown { HaveColumns (lean_of entry.now).traces (map traced_of shown.now) }
-    ensures { IfOk result (λ v. map (fact_by (map traced_of shown.now)) v.items ≡ rules.kept_facts (lean_of entry.now)) }
+    requires traces { HaveColumns (lean_of entry.now) (each_columns traces.now) }
+    ensures { IfOk result (λ v. map (fact_by (each_columns traces.now)) v.items ≡ rules.kept_facts (lean_of entry.now)) }
 {
     let mut list = Vec::with_capacity(alloc, entry.keep.len())?;
     for kept in &entry.keep {
-        let fact = kept_fact(alloc, columns, &entry.traces, shown, kept)?;
+        let fact = kept_fact(alloc, columns, kept)?;
         list.push(fact)?;
+    }
+    Ok(list)
+}
+
+/// The columns of a trace, if it was kept.
+fn own_columns(alloc: Global, trace: Option<Box<Followed>>) -> Vec<u16>
+    ensures { result.items ≡ columns_kept trace }
+{
+    match trace {
+        Some(trace) => {
+            let Followed { from, .. } = Box::into_inner(trace);
+            from
+        }
+        None => Vec::new(alloc),
+    }
+}
+
+/// The columns of each trace that was kept.
+fn each_own(
+    alloc: Global,
+    traces: Vec<Option<Box<Followed>>>,
+) -> Result<Vec<Vec<u16>>, OutOfMemory>
+    ensures { IfOk result (λ v. each_columns v.items ≡ map columns_kept traces.items) }
+{
+    let mut list = Vec::with_capacity(alloc, traces.len())?;
+    for trace in traces {
+        list.push(own_columns(alloc, trace))?;
     }
     Ok(list)
 }
@@ -185,12 +204,13 @@ pub(crate) fn keeps_of(
     alloc: Global,
     columns: u16,
     entry: &Node,
-    traces: Vec<Followed>,
+    traces: Vec<Option<Box<Followed>>>,
 ) -> Result<Keeps, OutOfMemory>
     requires plain { ArePlain columns (rules.kept_facts (lean_of entry.now)) }
-    requires shown { HaveColumns (lean_of entry.now).traces (map traced_of traces.items) }
+    requires traces { HaveColumns (lean_of entry.now) (map columns_kept traces.items) }
     ensures { IfOk result (λ k. facts_kept k ≡ rules.kept_facts (lean_of entry.now)) }
 {
+    let traces = each_own(alloc, traces)?;
     let list = kept_list(alloc, columns, entry, &traces)?;
     Ok(Keeps { traces, list })
 }

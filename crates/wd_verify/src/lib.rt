@@ -1,14 +1,15 @@
 //! Whether a certificate is valid for a plan and a schema.
 //!
 //! `verify` checks the version and the number of entries, and `nodes` goes through the entries in postorder. For each `entry`, `trace`
-//! follows its traces over the facts of wd_node_facts, each once, and `evidence` holds them for the checks of `kept` facts and of the
-//! `rules` of calls and limits. wd_rules defines a valid certificate over tests of members; the code has the members as the sets of bits
+//! follows its traces over the facts of wd_node_facts, each once, and `evidence` holds those that claims name (`named`) for the checks of
+//! `kept` facts and of the `rules` of calls and limits. wd_rules defines a valid certificate over tests of members; the code has the members as the sets of bits
 //! of wd_sets.
 #![tactic(auto)]
 
 mod entry;
 mod evidence;
 mod kept;
+mod named;
 mod nodes;
 mod rules;
 mod trace;

@@ -1,6 +1,6 @@
 //! What follows from the columns of a trace by the facts that it uses.
 
-ghost use Rattle.std.specs.Prelude.{◌≡◌, ◌≢◌, ℕ, ◌+◌, ◌-◌, ◌||◌, ◌++◌, List, ◌∷◌, true, false, map, nat_lt, Ok, Err, Some, slice_get, IfOk, IfErr, OnOk};
+ghost use Rattle.std.specs.Prelude.{◌≡◌, ◌≢◌, ℕ, ◌+◌, ◌-◌, ◌||◌, ◌++◌, List, [], ◌∷◌, true, false, map, nat_lt, Ok, Err, Some, slice_get, IfOk, IfErr, OnOk};
 ghost use Rattle.std.specs.List.{list_all};
 ghost use Rattle.wd_certificate.specs.Certificates.{trace_of};
 ghost use Rattle.wd_step_facts.specs.declared.facts.Member.{Member as AMember};
@@ -10,17 +10,37 @@ ghost use Rattle.wd_sets.specs.Reaches as reaching;
 ghost use Rattle.wd_sets.specs.Sets.{has, same_member, stands_in};
 ghost use Rattle.wd_rules.specs.Traces as spec;
 ghost use Rattle.wd_verify.specs.Lean.{columns_once, lean_trace, once_after};
-ghost use Rattle.wd_node_facts.specs.Seen.{AreNarrow, IsNarrow, fact_by, seen_of, side_facts, traced_of};
+ghost use Rattle.wd_node_facts.specs.Seen.{AreNarrow, IsNarrow, each_columns, fact_by, seen_of, side_facts};
 ghost use Rattle.wd_verify.specs.Used.{AreUsed, Marks};
 
 use std::alloc::Global;
 use std::collections::BTreeSet;
 use wd_certificate::{CertError, Trace};
 use wd_facts::{Given, Member};
-use wd_node_facts::{Followed, KeptFact, NodeFacts, Side, columns_of};
+use wd_node_facts::{KeptFact, NodeFacts, Side, columns_of};
 use wd_sets::Set;
 use wd_step_facts::moved_member;
 use wd_value::OutOfMemory;
+
+/// A trace's columns, each once, and the members after its uses; what follows from these is reached.
+#[derive(Drop)]
+pub(crate) struct Followed {
+    pub(crate) from: Vec<u16>,
+    pub(crate) set: Set,
+}
+
+impl Followed {
+    /// A trace without columns and uses.
+    pub(crate) fn new(alloc: Global) -> Followed
+        ensures from { result.from.items ≡ [] }
+        ensures set { (m : AMember) → has result.set m ≡ false }
+    {
+        Followed {
+            from: Vec::new(alloc),
+            set: Set::new(alloc),
+        }
+    }
+}
 
 /// The most members on a side of a fact that is used again each time a trace names it; a longer fact is used once in a trace.
 const SHORT: usize = 16;
@@ -158,9 +178,9 @@ fn use_kept(
     side: &Side,
     kept: &KeptFact,
 ) -> Result<bool, CertError>
-    requires { is_plain_fact (65536 - side.now.by) (fact_by (map traced_of side.now.keeps.traces.items) kept.now) ≡ true }
-    ensures used { IfOk result (λ _. spec.with_use node (seen_of facts.now) (has set.old) (Some (moved_fact (λ c. side.now.by + c) side.now.row (fact_by (map traced_of side.now.keeps.traces.items) kept.now))) ≡ Ok (has set.new)) }
-    ensures refused { IfErr result (λ e. e ≢ CertError.OutOfMemory → spec.with_use node (seen_of facts.now) (has set.old) (Some (moved_fact (λ c. side.now.by + c) side.now.row (fact_by (map traced_of side.now.keeps.traces.items) kept.now))) ≡ Err e) }
+    requires { is_plain_fact (65536 - side.now.by) (fact_by (each_columns side.now.keeps.traces.items) kept.now) ≡ true }
+    ensures used { IfOk result (λ _. spec.with_use node (seen_of facts.now) (has set.old) (Some (moved_fact (λ c. side.now.by + c) side.now.row (fact_by (each_columns side.now.keeps.traces.items) kept.now))) ≡ Ok (has set.new)) }
+    ensures refused { IfErr result (λ e. e ≢ CertError.OutOfMemory → spec.with_use node (seen_of facts.now) (has set.old) (Some (moved_fact (λ c. side.now.by + c) side.now.row (fact_by (each_columns side.now.keeps.traces.items) kept.now))) ≡ Err e) }
 {
     let from = columns_of(&side.keeps.traces, kept.trace);
     if !reaches_columns(facts, set, side.by, side.row, from) {
@@ -254,10 +274,7 @@ fn start(alloc: Global, node: u64, facts: &NodeFacts, trace: &Trace) -> Result<F
     ensures named { IfOk result (λ f. (m : AMember) → has f.set m ≡ stands_in (columns_named trace.now.from.items) m) }
     ensures refused { IfErr result (λ e. e ≢ CertError.OutOfMemory → spec.traced node (seen_of facts.now) (trace_of trace.now) ≡ Err e) }
 {
-    let mut followed = Followed {
-        from: Vec::new(alloc),
-        set: Set::new(alloc),
-    };
+    let mut followed = Followed::new(alloc);
     for column in &trace.from {
         if u64::from(facts.columns) <= *column {
             return Err(CertError::OutOfRange { node });

@@ -1,13 +1,11 @@
-use Rattle.std.proofs.lemmas.Grind.{common_steps}
-use Rattle.std.proofs.Common.{◌∙◌, arith}
+use Rattle.std.proofs.Common.{◌≡◌, ◌∙◌, ap, length, rules}
 use Rattle.wd_node_facts.specs.Seen.{seen_of}
-use Rattle.wd_verify.proofs.Claims.{next_traced, after_none, after_one, after_stop}
+use Rattle.wd_verify.specs.Named.{is_marked}
+use Rattle.wd_verify.proofs.Followed.{followed_next}
 use Rattle.wd_verify.proofs.evidence.follow_each.Goals as goal
 
 pub loop-trace-preserved : goal.loop-trace-preserved
 loop-trace-preserved c =
-    next_traced c.args.node (seen_of c.args.facts.now) c.args.traces.now c.loop-trace.trace-index c.trace-item.result c.loop-trace.list.items c.add.new.list.items c.in_ok-one.one c.loop-trace-test.true c.trace-item.is c.in_ok-add.ensures c.in_ok-one.ensures.from c.in_ok-one.ensures.traced
-    ∙ c.loop-trace.invariant
-
-pub returns : goal.returns
-returns c = grind (arith, common_steps, after_none, after_one, after_stop)
+    let long : c.len.result ≡ length c.loop-trace.list.items = search rules in
+    followed_next c.args.node (seen_of c.args.facts.now) c.args.traces.now c.args.marks.now c.loop-trace.trace-index c.trace-item.result c.in_ok-one.one c.is_marked-is_kept.result c.loop-trace.list.items c.add.new.list.items
+    c.loop-trace-test.true c.trace-item.is c.in_ok-one.ensures.from c.in_ok-one.ensures.traced (c.is_marked-is_kept.ensures ∙ ap (is_marked c.args.marks.now) long) c.in_ok-add.ensures c.loop-trace.invariant

@@ -2,7 +2,8 @@ use Rattle.std.proofs.Common.{◌∙◌, Some, ap, sym}
 use Rattle.wd_certificate.specs.Certificates.{kept_of}
 use Rattle.wd_rules.specs.Rules.{kept_refusal, member_of}
 use Rattle.wd_verify.specs.Lean.{once}
-use Rattle.wd_node_facts.specs.Seen.{seen_of, traced_of}
+use Rattle.wd_node_facts.specs.Seen.{seen_of}
+use Rattle.wd_verify.specs.Shown.{traced_of}
 use Rattle.wd_verify.proofs.LeanEntry.{kept_lean}
 use Rattle.wd_verify.proofs.kept.check_claim.Goals as goal
 

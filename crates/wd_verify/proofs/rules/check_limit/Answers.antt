@@ -6,8 +6,7 @@ use Rattle.wd_step_facts.specs.Facts.{columns_named}
 use Rattle.wd_step_facts.specs.Steps.{all_columns}
 use Rattle.wd_sets.specs.Sets.{is_in}
 use Rattle.wd_rules.specs.Rules.{limit_refusal, refuse_unless, refuse_unless_shown, shows}
-use Rattle.wd_node_facts.specs.Seen.{traced_of}
-use Rattle.wd_verify.specs.Shown.{evidence_of, refusal_of}
+use Rattle.wd_verify.specs.Shown.{evidence_of, refusal_of, traced_of}
 use Rattle.wd_verify.proofs.Claims.{passed, refused}
 use Rattle.wd_verify.proofs.rules.check_limit.Goals as goal
 

@@ -1,0 +1,82 @@
+//! The traces that the claims of an entry name. The others are judged, and nothing is kept of them.
+
+ghost use Rattle.std.specs.Prelude.{◌≡◌, ◌||◌, ℕ, true, map, nat_eq, IfOk};
+ghost use Rattle.wd_certificate.specs.Certificates.{kept_of, node_of};
+ghost use Rattle.wd_certificate.specs.Json.{rule_trace};
+ghost use Rattle.wd_verify.specs.Lean.{lean_of};
+ghost use Rattle.wd_verify.specs.Named as spec;
+
+use std::alloc::Global;
+use wd_certificate::{Kept, Node, Rule};
+use wd_value::OutOfMemory;
+
+/// Whether a number is marked; one past the marks counts as marked.
+pub(crate) fn is_marked(marks: &[bool], number: usize) -> bool
+    ensures { result ≡ spec.is_marked marks.now number }
+{
+    match marks.get(number) {
+        Some(mark) => *mark,
+        None => true,
+    }
+}
+
+/// Marks a number.
+fn mark(marks: &mut [bool], number: u64)
+    ensures { (n : ℕ) → spec.is_marked marks.new n ≡ (nat_eq n number || spec.is_marked marks.old n) }
+{
+    let number = number as usize;
+    if number < marks.len() {
+        marks[number] = true;
+    }
+}
+
+/// Marks the number that a claim names, if it names one.
+fn mark_named(marks: &mut [bool], number: Option<u64>)
+    ensures { (n : ℕ) → spec.is_marked marks.new n ≡ (spec.is_it number n || spec.is_marked marks.old n) }
+{
+    if let Some(number) = number {
+        mark(marks, number);
+    }
+}
+
+/// Marks the traces that kept facts name.
+#[tactic(auto, using(crate::proofs::Members::one_more))]
+fn mark_kept(marks: &mut [bool], keep: &[Kept])
+    ensures { (n : ℕ) → spec.is_marked marks.new n ≡ (spec.is_marked marks.old n || spec.is_of_kept (map kept_of keep.now) n) }
+{
+    for kept in keep {
+        mark(marks, kept.trace);
+    }
+}
+
+/// The number of the trace that a rule names.
+fn trace_of_rule(rule: Rule) -> Option<u64>
+    ensures { result ≡ rule_trace rule }
+{
+    match rule {
+        Rule::Peers => None,
+        Rule::Unique(number) | Rule::Values(number) | Rule::Exchange(number) => Some(number),
+    }
+}
+
+/// Marks the traces that the rules of calls name.
+#[tactic(auto, using(crate::proofs::Members::one_more))]
+fn mark_calls(marks: &mut [bool], rules: &[Rule])
+    ensures { (n : ℕ) → spec.is_marked marks.new n ≡ (spec.is_marked marks.old n || spec.is_of_calls rules.now n) }
+{
+    for rule in rules {
+        mark_named(marks, trace_of_rule(*rule));
+    }
+}
+
+/// A mark for each trace, set where a claim of the entry names it.
+#[tactic(auto, using(crate::proofs::NamedTraces::lean_named, crate::proofs::NamedTraces::any_named))]
+pub(crate) fn named_traces(alloc: Global, entry: &Node) -> Result<Vec<bool>, OutOfMemory>
+    ensures { IfOk result (λ v. (n : ℕ) → spec.is_named (lean_of entry.now) n ≡ true → spec.is_marked v.items n ≡ true) }
+{
+    let mut marks = vec![in alloc; false; entry.traces.len()]?;
+    mark_kept(&mut marks, &entry.keep);
+    mark_calls(&mut marks, &entry.calls);
+    mark_named(&mut marks, entry.limit);
+    Ok(marks)
+}
