@@ -32,7 +32,8 @@ FACTS = b'{"nodes":[{"calls":[],"keep":['
 FACTS_END = b'],"limit":null,"traces":[{"from":[0],"uses":[]}]}' + ABOVE
 
 
-# A text is a front, a part that fills it, and an end. It is written a block at a time: the memory of this script would count as
+NAMED = "named"
+# A text is a front, a part that fills it, and an end, or NAMED. It is written a block at a time: the memory of this script would count as
 # that of the program which it starts.
 TABLES = {
     "a header of commas": (b"", b",", b""),
@@ -47,6 +48,7 @@ CERTIFICATES = {
     "a list of objects": (b'[{"":0}', b',{"":0}', b"]"),
     "a trace of zeros": (ENTRY + b'{"from":[0', b",0", b'],"uses":[]}' + ENTRY_END),
     "traces": (ENTRY + b'{"from":[],"uses":[]}', b',{"from":[],"uses":[]}', ENTRY_END),
+    "traces of one, each named": NAMED,
     "traces of one": (ENTRY + b'{"from":[0],"uses":[0]}', b',{"from":[0],"uses":[0]}', b"]}" + ABOVE),
     "a kept fact of zeros": (FACTS + b'{"to":[0', b",0", b'],"trace":0}' + FACTS_END),
     "kept facts of one": (FACTS + b'{"to":[0],"trace":0}', b',{"to":[0],"trace":0}', FACTS_END),
@@ -61,6 +63,21 @@ COMMANDS = (("run", "t=", TABLES), ("verify", "", CERTIFICATES), ("refute", "", 
 PARTS = 1 << 16
 
 
+def pieces_of_named(size):
+    """A certificate of at most so many bytes in which each trace is named by a kept fact of its own."""
+    kept, trace, middle = b'{"to":[0],"trace":%d}', b'{"from":[0],"uses":[0]}', b'],"limit":null,"traces":['
+    # (a number and three commas, brackets or braces beside what both parts have in common)
+    pairs = (size - len(FACTS) - len(middle) - len(ABOVE)) // (len(kept % 0) + len(trace) + 8)
+    yield FACTS
+    for start in range(0, pairs, PARTS):
+        yield b",".join(kept % number for number in range(start, min(start + PARTS, pairs)))
+        yield b"," if start + PARTS < pairs else middle
+    yield trace
+    for _ in range((pairs - 1) // PARTS):
+        yield (b"," + trace) * PARTS
+    yield (b"," + trace) * ((pairs - 1) % PARTS) + b"]}" + ABOVE
+
+
 def write(folder, name, pieces):
     """Writes a text, and returns its path."""
     path = os.path.join(folder, name)
@@ -71,6 +88,9 @@ def write(folder, name, pieces):
 
 def pieces_of(text, size):
     """A text of at most so many bytes: the front, as many parts as there is room for, and the end."""
+    if text is NAMED:
+        yield from pieces_of_named(size)
+        return
     front, part, end = text
     parts = (size - len(front) - len(end)) // len(part)
     yield front

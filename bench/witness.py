@@ -7,12 +7,13 @@
 First come the searches, by `check`: eight tables joined to all their pairs of rows, 65,536 where each has four rows. A limit that
 takes nothing stands on top, so that no two outcomes differ and the search goes on to its end. In the first the limit alone is
 open, which is 18 evaluations; in the second there are calls enough for 2,000, a third of them over four rows in each table, and all
-of one window; in the third each has a column of its own to sort by; in the fourth, of some 400 bytes, seven tables are joined below
-eight calls, each with an order of its own; in the fifth, of as many bytes, seven tables of 51 columns are joined to a table that is
-numbered four ways. In these three no call's value is shown in place of that limit. Then
-come the witnesses, by `refute`: three tables of 64 rows, joined to 262,144 rows, in which two rows differ, and four, the fourth
-of 38 rows, joined to 9,961,472, near the most that a step may have. Of these the last choices are 170 MB of text; in the others, of
-3 and 4 KB, the rows of one table are numbered before they are joined, and the answer has 5 and 17 columns. Prints the seconds and the most memory of one run each.
+of one window; in the third each has a column of its own to sort by, and no call's value is shown in place of that limit; so in those
+after the next one, with some 400 bytes: of seven tables below eight calls, each with an order of its own, and of seven tables of 51
+columns that are joined to a table which is numbered four ways. The one between them shows the greatest value of each call, so no
+simpler plan has one answer by the rules. Then come the witnesses, by `refute`: three tables of 64 rows, joined to 262,144 rows, in
+which two rows differ, and four, the fourth of 38 rows, joined to 9,961,472, near the most that a step may have. Of these the last
+choices are 170 MB of text; in the others, of 3 and 4 KB, the rows of one table are numbered before they are joined, and the answer
+has 5 and 17 columns. Prints the seconds and the most memory of one run each.
 PROGRAM is the built program (default: crates/wdcheck/out/wdcheck, which ./wdcheck builds). With --write the texts are written to
 a folder in place of that.
 """
@@ -41,6 +42,14 @@ def columns_texts(calls):
     items = "".join(", ROW_NUMBER() OVER (ORDER BY a.v%d) AS n%d" % (n, n) for n in range(calls))
     inner = "SELECT a.id%s FROM %s" % (items, ", ".join("t AS %s" % name for name in JOINED))
     return {"schema.sql": "CREATE TABLE t (id BIGINT PRIMARY KEY%s);\n" % columns, "query.sql": "SELECT s.id FROM (%s) AS s\n" % inner}
+
+
+def greatest_texts(calls):
+    """The same, of which the greatest values are shown: these are the same whatever rows tie, but no rule says so."""
+    texts = columns_texts(calls)
+    inner = texts["query.sql"].removeprefix("SELECT s.id FROM ")
+    greatest = ", ".join("MAX(s.n%d)" % n for n in range(calls))
+    return {"schema.sql": texts["schema.sql"], "query.sql": "SELECT %s FROM %s" % (greatest, inner)}
 
 
 def unused_texts():
@@ -94,6 +103,7 @@ def all_texts():
     yield "18 evaluations", "check", (2,), search_texts(0)
     yield "2,000 evaluations", "check", (2,), search_texts(CALLS)
     yield "2,000 evaluations, a column for each call", "check", (2,), columns_texts(CALLS)
+    yield "2,000 evaluations, the greatest value of each call", "check", (2,), greatest_texts(CALLS)
     yield "calls not shown", "check", (2,), unused_texts()
     yield "calls not shown, joined to 51 columns", "check", (2,), wide_texts(51)
     yield "262,144 rows", "refute", (1,), witness_texts([ROWS] * 3)

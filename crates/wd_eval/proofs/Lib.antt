@@ -14,6 +14,7 @@ pub mod StepUnder
 pub mod Putting
 pub mod SomeSort
 pub mod SomeTied
+pub mod Lawful
 pub mod Cursors
 pub mod Walks
 pub mod Walking

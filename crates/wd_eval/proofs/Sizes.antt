@@ -18,14 +18,14 @@ use Rattle.wd_join.specs.Joins.{has_more_rows}
 use Rattle.wd_eval.specs.Walks.{IsFew}
 use Rattle.wd_eval.specs.Windows.{step_over}
 
-fewer : (most n m : ℕ) → m ≤ n → nat_lt most n ≡ false → nat_lt most m ≡ false
+pub fewer : (most n m : ℕ) → m ≤ n → nat_lt most n ≡ false → nat_lt most m ≡ false
 fewer most n m le h = let few = ltb-false most n h in le-ltb most m (omega arith)
 
-fewer_unless : (most : ℕ) (fault : Option Fault) (rows : List Row) → nat_lt most (length rows) ≡ false → has_more_rows most (unless fault rows) ≡ false
+pub fewer_unless : (most : ℕ) (fault : Option Fault) (rows : List Row) → nat_lt most (length rows) ≡ false → has_more_rows most (unless fault rows) ≡ false
 fewer_unless most None rows h = h
 fewer_unless most (Some fault) rows h = refl
 
-filter-le : {X : Type 0} (t : X → Bool) (xs : List X) → length (filter t xs) ≤ length xs
+pub filter-le : {X : Type 0} (t : X → Bool) (xs : List X) → length (filter t xs) ≤ length xs
 filter-le t [] = omega arith
 filter-le t (x ∷ xs) = by (t x) (filter-le t xs)
   where
@@ -36,12 +36,12 @@ filter-le t (x ∷ xs) = by (t x) (filter-le t xs)
 take_while-le : {X : Type 0} (t : X → Bool) (xs : List X) → length (take_while t xs) ≤ length xs
 take_while-le t xs = let front = length-take (prefix_len t xs) xs in omega arith
 
-values_among-le : {X : Type 0} (rs : List (Result X Fault)) → length (values_among rs) ≤ length rs
+pub values_among-le : {X : Type 0} (rs : List (Result X Fault)) → length (values_among rs) ≤ length rs
 values_among-le [] = omega arith
 values_among-le (Ok x ∷ rs) = let h = values_among-le rs in omega arith
 values_among-le (Err f ∷ rs) = let h = values_among-le rs in omega arith
 
-distinct-le : (rows : List Row) → length (distinct rows) ≤ length rows
+pub distinct-le : (rows : List Row) → length (distinct rows) ≤ length rows
 distinct-le [] = omega arith
 distinct-le (r ∷ rs) =
     let h = distinct-le rs in

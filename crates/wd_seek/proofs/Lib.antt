@@ -4,6 +4,7 @@ pub mod Probing
 pub mod Lighter
 pub mod Searching
 pub mod Names
+pub mod OneAnswer
 pub mod Building
 pub mod Meeting
 pub mod Over

@@ -1,5 +1,6 @@
 pub mod Evaluations
 pub mod Search
+pub mod Searched
 pub mod Probed
 pub mod Witnesses
 pub mod Sought

@@ -4,16 +4,17 @@ ghost use Rattle.std.specs.Prelude.{◌≡◌, ◌≤◌, List, filter, map, IfO
 ghost use Rattle.wd_candidates.specs.Candidates.{candidate as candidate_of, shapes as all_shapes};
 ghost use Rattle.wd_candidates.specs.Outlines.{AreTied, IsOutline};
 ghost use Rattle.wd_candidates.specs.Tied.{NodeColumns};
-ghost use Rattle.wd_lighter.specs.Lighter.{IsLighter};
 ghost use Rattle.wd_partition.specs.declared.turn.Turn.TheVariants.{Reversed};
 ghost use Rattle.wd_plan.specs.Plans.{PlanTree, plan_of};
 ghost use Rattle.wd_schema.specs.Schemas.{schema_of};
 ghost use Rattle.wd_schema.specs.Tables.{TableRule};
 ghost use Rattle.wd_seek.specs.Evaluations.{most_evaluations};
 ghost use Rattle.wd_seek.specs.Passed.{ArePassed, HavePassed, ShowNothingTo};
+ghost use Rattle.wd_seek.specs.Searched.{IsSearched};
 ghost use Rattle.wd_seek.specs.Sought.{IsSought, is_meeting};
 
 use crate::probed::MOST_EVALUATIONS;
+use crate::searched::Searched;
 use crate::tried::try_shapes;
 use std::alloc::Global;
 use wd_candidates::{Outline, TiedColumns};
@@ -38,13 +39,13 @@ pub(crate) fn try_tied(
     alloc: Global,
     schema: &Schema,
     plan: &Plan,
-    searched: &Plan,
+    searched: Searched<'_>,
     outline: &Outline,
     tied: TiedColumns,
     spent: u32,
     passed: &mut Vec<Passed>,
 ) -> Result<(Option<Witness>, u32), OutOfMemory>
-    requires lighter { IsLighter (schema_of schema.now) (plan_of plan.now) (plan_of searched.now) }
+    requires searched { IsSearched (schema_of schema.now) (plan_of plan.now) searched }
     requires outline { IsOutline (schema_of schema.now) (plan_of plan.now) outline.now }
     requires few { spent ≤ most_evaluations }
     requires passed { ArePassed (schema_of schema.now) (plan_of plan.now) passed.old.items }
@@ -63,13 +64,13 @@ fn try_anew(
     alloc: Global,
     schema: &Schema,
     plan: &Plan,
-    searched: &Plan,
+    searched: Searched<'_>,
     outline: &Outline,
     tied: TiedColumns,
     spent: u32,
     passed: &mut Vec<Passed>,
 ) -> Result<(Option<Witness>, u32), OutOfMemory>
-    requires lighter { IsLighter (schema_of schema.now) (plan_of plan.now) (plan_of searched.now) }
+    requires searched { IsSearched (schema_of schema.now) (plan_of plan.now) searched }
     requires outline { IsOutline (schema_of schema.now) (plan_of plan.now) outline.now }
     requires few { spent ≤ most_evaluations }
     requires passed { ArePassed (schema_of schema.now) (plan_of plan.now) passed.old.items }

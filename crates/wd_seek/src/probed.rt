@@ -1,21 +1,24 @@
 //! The evaluations of one instance.
 
-ghost use Rattle.std.specs.Prelude.{◌≡◌, ◌≤◌, true, IfOk};
-ghost use Rattle.wd_lighter.specs.Lighter.{IsLighter};
+ghost use Rattle.std.specs.Prelude.{◌≡◌, ◌+◌, ◌≤◌, min, true, IfOk};
 ghost use Rattle.wd_plan.specs.Fits.{fits};
 ghost use Rattle.wd_plan.specs.Plans.{plan_of};
 ghost use Rattle.wd_schema.specs.Meets.{Meets};
 ghost use Rattle.wd_schema.specs.Schemas.{schema_of};
-ghost use Rattle.wd_seek.specs.Evaluations.{most_evaluations};
+ghost use Rattle.wd_seek.specs.Evaluations.{evaluations, most_evaluations};
 ghost use Rattle.wd_seek.specs.Probed.{IsKeptOf, IsOther, IsProbed};
+ghost use Rattle.wd_seek.specs.Searched.{IsSearched};
+ghost use Rattle.wd_sizes.specs.Sizes.{IsBounded};
 ghost use Rattle.wd_value.specs.Rows.{instance_of};
 
 use crate::evaluated::{Evaluated, evaluate};
+use crate::searched::Searched;
 use crate::trailed::{First, agrees_turned, first_of};
 use std::alloc::Global;
 use wd_eval::{Turn, Turned};
 use wd_plan::{Choice, Plan};
 use wd_schema::Schema;
+use wd_sizes::most_rows;
 use wd_value::{Instance, OutOfMemory};
 
 /// The most evaluations of a search.
@@ -61,23 +64,51 @@ pub(crate) fn probe(
     }
 }
 
-/// What the evaluations of a plan over an instance of the schema show, by those of the lighter plan.
-pub(crate) fn probe_lighter(
+/// What the evaluations of a plan over an instance of the schema show, by those of the plan that is searched. Where that is known to have
+/// one answer, and no step of it can be too large, they all agree, and none is made.
+pub(crate) fn probe_searched(
     alloc: Global,
     schema: &Schema,
     plan: &Plan,
-    searched: &Plan,
+    searched: Searched<'_>,
     instance: &Instance,
     turn: Turn,
     spent: u32,
 ) -> Result<(Option<Pair>, u32), OutOfMemory>
-    requires lighter { IsLighter (schema_of schema.now) (plan_of plan.now) (plan_of searched.now) }
+    requires searched { IsSearched (schema_of schema.now) (plan_of plan.now) searched }
     requires meets { Meets (schema_of schema.now) (instance_of instance.now.items) }
     requires few { spent ≤ most_evaluations }
     ensures few { IfOk result (λ r. r.1 ≤ most_evaluations) }
     ensures tried { IfOk result (λ r. IsProbed turn (plan_of plan.now) (instance_of instance.now.items) spent r.1 r.0) }
 {
-    probe(alloc, schema, searched, instance, turn, spent)
+    if all_agree(searched.plan, searched.has_one, instance) {
+        return Ok((None, all_made(searched.plan, spent)));
+    }
+    probe(alloc, schema, searched.plan, instance, turn, spent)
+}
+
+/// Whether all evaluations are known to agree: the plan has one answer, and no step of it can be too large over the instance.
+fn all_agree(plan: &Plan, has_one: bool, instance: &Instance) -> bool
+    ensures one { result ≡ true → has_one ≡ true }
+    ensures bounded { result ≡ true → IsBounded (plan_of plan.now) (instance_of instance.now.items) }
+{
+    match most_rows(plan, instance) {
+        Some(_) => has_one,
+        None => false,
+    }
+}
+
+/// The number of evaluations after those of one candidate of a plan, up to the most.
+fn all_made(plan: &Plan, spent: u32) -> u32
+    requires { spent ≤ most_evaluations }
+    ensures { result ≡ min (spent + evaluations (plan_of plan.now)) most_evaluations }
+{
+    let left = MOST_EVALUATIONS - spent;
+    if plan.orderings() < left {
+        spent + plan.orderings() + 1
+    } else {
+        MOST_EVALUATIONS
+    }
 }
 
 /// Turns one ordering after another until the outcome does not agree with the first; the result is the choice under which it does not,

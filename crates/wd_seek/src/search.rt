@@ -3,13 +3,13 @@
 ghost use Rattle.std.specs.Prelude.{◌≡◌, ◌≤◌, true, filter, IfNone, IfOk, IfSome, OnOk};
 ghost use Rattle.wd_candidates.specs.Candidates.{candidates};
 ghost use Rattle.wd_candidates.specs.Outlines.{IsOutline};
-ghost use Rattle.wd_lighter.specs.Lighter.{IsLighter};
 ghost use Rattle.wd_plan.specs.Fits.{fits};
 ghost use Rattle.wd_partition.specs.declared.turn.Turn.TheVariants.{Reversed};
 ghost use Rattle.wd_plan.specs.Plans.{plan_of};
 ghost use Rattle.wd_seek.specs.Evaluations.{most_evaluations};
 ghost use Rattle.wd_seek.specs.Passed.{ArePassed};
 ghost use Rattle.wd_seek.specs.Search.{FirstShowNothing};
+ghost use Rattle.wd_seek.specs.Searched.{IsSearched};
 ghost use Rattle.wd_refute.specs.Laws.{IsShown};
 ghost use Rattle.wd_schema.specs.Schemas.{schema_of};
 ghost use Rattle.wd_seek.specs.Sought.{IsSought, is_meeting, reasons_of, to_try};
@@ -17,6 +17,7 @@ ghost use Rattle.wd_witness_text.specs.Witnesses.{witness_of};
 
 use crate::passed::{Passed, try_tied};
 use crate::probed::MOST_EVALUATIONS;
+use crate::searched::{Searched, has_one_answer};
 use crate::trailed::FEWEST_ORDERINGS;
 use std::alloc::Global;
 use wd_analyse::{Analysis, Reason};
@@ -55,8 +56,8 @@ pub fn seek(
     }
 }
 
-/// Tries the candidates for each reason, over the lighter plan where what each node gives is kept. A plan with fewer orderings is
-/// evaluated anew each time, and its own calls may cost less than those that stand for what nothing reads.
+/// Tries the candidates for each reason, over the lighter plan where that has one answer, or where what each node gives is kept. Another
+/// plan with fewer orderings is evaluated anew each time, and its own calls may cost less than those that stand for what nothing reads.
 fn try_lighter_plan(
     alloc: Global,
     schema: &Schema,
@@ -69,11 +70,20 @@ fn try_lighter_plan(
     ensures few { IfOk result (λ r. r.1 ≤ most_evaluations) }
     ensures sought { IfOk result (λ r. IsSought Reversed (schema_of schema.now) (plan_of plan.now) (to_try (schema_of schema.now) (plan_of plan.now) reasons.now) 0 r.0 r.1) }
 {
-    if plan.orderings() < FEWEST_ORDERINGS {
-        try_reasons(alloc, schema, plan, plan, outline, reasons)
+    let lighter = lighter(alloc, schema, plan)?;
+    let has_one = has_one_answer(alloc, schema, &lighter)?;
+    if has_one || plan.orderings() >= FEWEST_ORDERINGS {
+        let searched = Searched {
+            plan: &lighter,
+            has_one,
+        };
+        try_reasons(alloc, schema, plan, searched, outline, reasons)
     } else {
-        let searched = lighter(alloc, schema, plan)?;
-        try_reasons(alloc, schema, plan, &searched, outline, reasons)
+        let searched = Searched {
+            plan,
+            has_one: false,
+        };
+        try_reasons(alloc, schema, plan, searched, outline, reasons)
     }
 }
 
@@ -82,12 +92,12 @@ fn try_reasons(
     alloc: Global,
     schema: &Schema,
     plan: &Plan,
-    searched: &Plan,
+    searched: Searched<'_>,
     outline: &Outline,
     reasons: &[Reason],
 ) -> Result<(Option<Witness>, u32), OutOfMemory>
     requires fitting { fits (schema_of schema.now) (plan_of plan.now) ≡ true }
-    requires lighter { IsLighter (schema_of schema.now) (plan_of plan.now) (plan_of searched.now) }
+    requires searched { IsSearched (schema_of schema.now) (plan_of plan.now) searched }
     requires outline { IsOutline (schema_of schema.now) (plan_of plan.now) outline.now }
     ensures few { IfOk result (λ r. r.1 ≤ most_evaluations) }
     ensures sought { IfOk result (λ r. IsSought Reversed (schema_of schema.now) (plan_of plan.now) (to_try (schema_of schema.now) (plan_of plan.now) reasons.now) 0 r.0 r.1) }
@@ -118,14 +128,14 @@ fn try_reason(
     alloc: Global,
     schema: &Schema,
     plan: &Plan,
-    searched: &Plan,
+    searched: Searched<'_>,
     outline: &Outline,
     reason: Reason,
     spent: u32,
     passed: &mut Vec<Passed>,
 ) -> Result<(Option<Witness>, u32), OutOfMemory>
     requires fitting { fits (schema_of schema.now) (plan_of plan.now) ≡ true }
-    requires lighter { IsLighter (schema_of schema.now) (plan_of plan.now) (plan_of searched.now) }
+    requires searched { IsSearched (schema_of schema.now) (plan_of plan.now) searched }
     requires outline { IsOutline (schema_of schema.now) (plan_of plan.now) outline.now }
     requires few { spent ≤ most_evaluations }
     requires passed { ArePassed (schema_of schema.now) (plan_of plan.now) passed.old.items }

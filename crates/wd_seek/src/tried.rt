@@ -4,19 +4,20 @@ ghost use Rattle.std.specs.Prelude.{◌≡◌, ◌≤◌, [], ◌∷◌, map, fi
 ghost use Rattle.wd_candidates.specs.Candidates.{candidate as candidate_of, shapes as all_shapes};
 ghost use Rattle.wd_candidates.specs.Outlines.{AreTied, IsOutline};
 ghost use Rattle.wd_candidates.specs.Tied.{NodeColumns};
-ghost use Rattle.wd_lighter.specs.Lighter.{IsLighter};
 ghost use Rattle.wd_plan.specs.Fits.{fits};
 ghost use Rattle.wd_partition.specs.declared.turn.Turn.TheVariants.{Reversed};
 ghost use Rattle.wd_plan.specs.Plans.{plan_of};
 ghost use Rattle.wd_seek.specs.Evaluations.{most_evaluations};
 ghost use Rattle.wd_schema.specs.Meets.{Meets};
 ghost use Rattle.wd_schema.specs.Schemas.{schema_of};
+ghost use Rattle.wd_seek.specs.Searched.{IsSearched};
 ghost use Rattle.wd_seek.specs.Sought.{IsSought, is_meeting};
 ghost use Rattle.wd_seek.specs.Tried.{IsTried};
 ghost use Rattle.wd_seek.specs.Witnesses.{HasFewRows};
 ghost use Rattle.wd_value.specs.Rows.{instance_of};
 
-use crate::probed::{MOST_EVALUATIONS, probe_lighter};
+use crate::probed::{MOST_EVALUATIONS, probe_searched};
+use crate::searched::Searched;
 use crate::witness::{names_differ, witness_over};
 use std::alloc::Global;
 use wd_candidates::{Outline, Shape, TiedColumns, candidate, shapes};
@@ -31,12 +32,12 @@ pub(crate) fn try_shapes(
     alloc: Global,
     schema: &Schema,
     plan: &Plan,
-    searched: &Plan,
+    searched: Searched<'_>,
     outline: &Outline,
     tied: &TiedColumns,
     spent: u32,
 ) -> Result<(Option<Witness>, u32), OutOfMemory>
-    requires lighter { IsLighter (schema_of schema.now) (plan_of plan.now) (plan_of searched.now) }
+    requires searched { IsSearched (schema_of schema.now) (plan_of plan.now) searched }
     requires outline { IsOutline (schema_of schema.now) (plan_of plan.now) outline.now }
     requires few { spent ≤ most_evaluations }
     ensures few { IfOk result (λ r. r.1 ≤ most_evaluations) }
@@ -58,13 +59,13 @@ fn try_shape(
     alloc: Global,
     schema: &Schema,
     plan: &Plan,
-    searched: &Plan,
+    searched: Searched<'_>,
     outline: &Outline,
     tied: &TiedColumns,
     shape: Shape,
     spent: u32,
 ) -> Result<(Option<Witness>, u32), OutOfMemory>
-    requires lighter { IsLighter (schema_of schema.now) (plan_of plan.now) (plan_of searched.now) }
+    requires searched { IsSearched (schema_of schema.now) (plan_of plan.now) searched }
     requires outline { IsOutline (schema_of schema.now) (plan_of plan.now) outline.now }
     requires small { shape.rows ≤ 64 }
     requires few { spent ≤ most_evaluations }
@@ -105,7 +106,13 @@ pub fn try_candidate(
     ensures few { IfOk result (λ r. r.1 ≤ most_evaluations) }
     ensures sought { IfOk result (λ r. HasFewRows (schema_of schema.now) (plan_of plan.now) (instance_of instance.items) → IsSought turn (schema_of schema.now) (plan_of plan.now) (filter (is_meeting (schema_of schema.now)) (instance_of instance.items ∷ [])) spent r.0 r.1) }
 {
-    try_lighter(alloc, schema, plan, plan, outline, instance, turn, spent)
+    let searched = Searched {
+        plan,
+        has_one: false,
+    };
+    try_lighter(
+        alloc, schema, plan, searched, outline, instance, turn, spent,
+    )
 }
 
 /// Tries an instance as `try_candidate` does, and evaluates it over the lighter plan.
@@ -113,13 +120,13 @@ fn try_lighter(
     alloc: Global,
     schema: &Schema,
     plan: &Plan,
-    searched: &Plan,
+    searched: Searched<'_>,
     outline: &Outline,
     instance: Instance,
     turn: Turn,
     spent: u32,
 ) -> Result<(Option<Witness>, u32), OutOfMemory>
-    requires lighter { IsLighter (schema_of schema.now) (plan_of plan.now) (plan_of searched.now) }
+    requires searched { IsSearched (schema_of schema.now) (plan_of plan.now) searched }
     requires outline { IsOutline (schema_of schema.now) (plan_of plan.now) outline.now }
     requires few { spent ≤ most_evaluations }
     ensures few { IfOk result (λ r. r.1 ≤ most_evaluations) }
@@ -138,20 +145,20 @@ fn try_instance(
     alloc: Global,
     schema: &Schema,
     plan: &Plan,
-    searched: &Plan,
+    searched: Searched<'_>,
     outline: &Outline,
     instance: Instance,
     turn: Turn,
     spent: u32,
 ) -> Result<(Option<Witness>, u32), OutOfMemory>
-    requires lighter { IsLighter (schema_of schema.now) (plan_of plan.now) (plan_of searched.now) }
+    requires searched { IsSearched (schema_of schema.now) (plan_of plan.now) searched }
     requires meets { Meets (schema_of schema.now) (instance_of instance.items) }
     requires few { spent ≤ most_evaluations }
     ensures few { IfOk result (λ r. r.1 ≤ most_evaluations) }
     ensures tried { IfOk result (λ r. IsTried turn (schema_of schema.now) (plan_of plan.now) outline.now (instance_of instance.items) spent r.0 r.1) }
 {
     names_differ(schema);
-    let (pair, spent) = probe_lighter(alloc, schema, plan, searched, &instance, turn, spent)?;
+    let (pair, spent) = probe_searched(alloc, schema, plan, searched, &instance, turn, spent)?;
     match pair {
         None => Ok((None, spent)),
         Some(pair) => {

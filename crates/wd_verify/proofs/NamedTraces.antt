@@ -105,8 +105,8 @@ module _ (node : ℕ) (facts : FactList) (one other : List Traced) where
   claims_same plan entry h =
       let keep = keep_same (width plan) entry.keep (λ n e. h n (or_first (is_of_kept entry.keep n) (is_of_calls entry.calls n || is_it entry.limit n) e)) in
       let rules = rules_same plan entry
-          (λ n e. h n (or_later (is_of_kept entry.keep n) (is_of_calls entry.calls n || is_it entry.limit n) (or_first (is_of_calls entry.calls n) (is_it entry.limit n) e)))
-          (λ n e. h n (or_later (is_of_kept entry.keep n) (is_of_calls entry.calls n || is_it entry.limit n) (or_later (is_of_calls entry.calls n) (is_it entry.limit n) e))) in
+      (λ n e. h n (or_later (is_of_kept entry.keep n) (is_of_calls entry.calls n || is_it entry.limit n) (or_first (is_of_calls entry.calls n) (is_it entry.limit n) e)))
+      (λ n e. h n (or_later (is_of_kept entry.keep n) (is_of_calls entry.calls n || is_it entry.limit n) (or_later (is_of_calls entry.calls n) (is_it entry.limit n) e))) in
       λ i. or_else (keep i) (rules i)
 
 -- ---- claims by the traces that were kept

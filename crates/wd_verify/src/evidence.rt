@@ -28,7 +28,7 @@ pub(crate) struct Evidence {
 }
 
 impl Evidence {
-    /// The trace with a number.
+    /// The trace with a number; what stands in its place where no claim names it.
     pub(crate) fn trace(&self, number: u64) -> Result<&Followed, CertError>
         ensures found { IfOk result (λ t. slice_get (shown_by self.now) number ≡ Some (traced_of t.now)) }
         ensures missing { IfErr result (λ e. slice_get (shown_by self.now) number ≡ None) }

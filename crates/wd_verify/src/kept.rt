@@ -172,7 +172,7 @@ fn kept_list(
     Ok(list)
 }
 
-/// The columns of a trace, if it was kept.
+/// The columns of a trace; none where it was not kept.
 fn own_columns(alloc: Global, trace: Option<Box<Followed>>) -> Vec<u16>
     ensures { result.items ≡ columns_kept trace }
 {
@@ -185,8 +185,8 @@ fn own_columns(alloc: Global, trace: Option<Box<Followed>>) -> Vec<u16>
     }
 }
 
-/// The columns of each trace that was kept.
-fn each_own(
+/// The columns of each trace, of one that was not kept none.
+fn columns_of_each(
     alloc: Global,
     traces: Vec<Option<Box<Followed>>>,
 ) -> Result<Vec<Vec<u16>>, OutOfMemory>
@@ -210,7 +210,7 @@ pub(crate) fn keeps_of(
     requires traces { HaveColumns (lean_of entry.now) (map columns_kept traces.items) }
     ensures { IfOk result (λ k. facts_kept k ≡ rules.kept_facts (lean_of entry.now)) }
 {
-    let traces = each_own(alloc, traces)?;
+    let traces = columns_of_each(alloc, traces)?;
     let list = kept_list(alloc, columns, entry, &traces)?;
     Ok(Keeps { traces, list })
 }
