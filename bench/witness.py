@@ -45,7 +45,7 @@ def columns_texts(calls):
 
 
 def greatest_texts(calls):
-    """The same, of which the greatest values are shown: these are the same whatever rows tie, but no rule says so."""
+    """The same, of which the greatest values are shown: whatever rows tie they are the same, but by the rules only those of one class."""
     texts = columns_texts(calls)
     inner = texts["query.sql"].removeprefix("SELECT s.id FROM ")
     greatest = ", ".join("MAX(s.n%d)" % n for n in range(calls))
