@@ -22,12 +22,12 @@ import verify
 
 SCHEMA = b"CREATE TABLE t (id BIGINT PRIMARY KEY, name TEXT);\n"
 QUERY = b"SELECT id, ROW_NUMBER() OVER () AS n FROM t\n"
+# Of this one a certificate is verified: its plan has two nodes, and lawful texts are accepted.
+CERTIFIED_QUERY = b"SELECT id FROM t\n"
 ENTRY = b'{"nodes":[{"calls":[],"keep":[],"limit":null,"traces":['
 ENTRY_END = b']}],"version":1}'
-# What stands above the first entry in a certificate of the query, so that the whole entry is judged.
-EMPTY = b',{"calls":[],"keep":[],"limit":null,"traces":[]}'
-WINDOW = b',{"calls":[{"rule":"unique","trace":0}],"keep":[],"limit":null,"traces":[{"from":[],"uses":[]}]}'
-ABOVE = EMPTY + WINDOW + EMPTY + b'],"version":1}'
+# What stands above the first entry in a certificate of that query, so that the whole entry is judged.
+ABOVE = b',{"calls":[],"keep":[],"limit":null,"traces":[]}],"version":1}'
 FACTS = b'{"nodes":[{"calls":[],"keep":['
 FACTS_END = b'],"limit":null,"traces":[{"from":[0],"uses":[]}]}' + ABOVE
 
@@ -46,7 +46,7 @@ CERTIFICATES = {
     "a list of zeros": (b"[0", b",0", b"]"),
     "a list of lists of one": (b"[[0]", b",[0]", b"]"),
     "a list of objects": (b'[{"":0}', b',{"":0}', b"]"),
-    "a trace of zeros": (ENTRY + b'{"from":[0', b",0", b'],"uses":[]}' + ENTRY_END),
+    "a trace of zeros": (ENTRY + b'{"from":[0', b",0", b'],"uses":[]}]}' + ABOVE),
     "traces": (ENTRY + b'{"from":[],"uses":[]}', b',{"from":[],"uses":[]}', ENTRY_END),
     "traces of one, each named": NAMED,
     "traces of one": (ENTRY + b'{"from":[0],"uses":[0]}', b',{"from":[0],"uses":[0]}', b"]}" + ABOVE),
@@ -58,8 +58,8 @@ WITNESSES = {
     "orderings of one": (b'{"first":[[0]', b",[0]", b'],"second":[],"tables":{}}'),
     "rows of one": (b'{"first":[],"second":[],"tables":{"t":[[0]', b",[0]", b"]}}"),
 }
-# By their command, and what stands before the path of the text.
-COMMANDS = (("run", "t=", TABLES), ("verify", "", CERTIFICATES), ("refute", "", WITNESSES))
+# By their command: the query, what stands before the path of the text, and the texts.
+COMMANDS = (("run", QUERY, "t=", TABLES), ("verify", CERTIFIED_QUERY, "", CERTIFICATES), ("refute", QUERY, "", WITNESSES))
 PARTS = 1 << 16
 
 
@@ -121,14 +121,14 @@ def main():
     asked = parser.parse_args()
     size = asked.size << 20
     if asked.write:
-        for command, _, texts in COMMANDS:
+        for command, _, _, texts in COMMANDS:
             for number, text in enumerate(texts.values()):
                 write(asked.write, "%s.%d" % (command, number), pieces_of(text, size))
         return
     program = verify.program_of(asked.program)
     with tempfile.TemporaryDirectory() as folder:
-        first = [write(folder, "schema.sql", [SCHEMA]), write(folder, "query.sql", [QUERY])]
-        for command, before, texts in COMMANDS:
+        for command, query, before, texts in COMMANDS:
+            first = [write(folder, "schema.sql", [SCHEMA]), write(folder, "query.sql", [query])]
             for title, text in texts.items():
                 path = write(folder, "text", pieces_of(text, size))
                 seconds, memory, status = measure([program, command, *first, before + path], asked.most)

@@ -54,6 +54,7 @@ def texts(shape):
     whole, within, counted = shape("a", "c", 31), shape("a", "c", 30), shape("count(*)", "c", 30)
     return {
         "WHERE": (f"SELECT a FROM t WHERE {whole} = 1", 0, "a\n1\n"),
+        "WHERE below an open call": (f"SELECT a, ROW_NUMBER() OVER (ORDER BY c) AS q FROM t WHERE {whole} IS NULL", 1, "a,q\n2,1\n"),
         "ON": (f"SELECT t.a, b FROM t JOIN (SELECT a AS b FROM t) AS s ON {whole} = 1", 0, "a,b\n1,1\n1,2\n"),
         "SELECT": (f"SELECT a, {whole} AS q FROM t", 0, "a,q\n1,1\n2,\n"),
         "ORDER BY": (f"SELECT a FROM t ORDER BY {whole} FETCH FIRST 1 ROW ONLY", 1, "a\n1\n"),
