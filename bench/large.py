@@ -17,6 +17,7 @@ import resource
 import subprocess
 import tempfile
 import time
+import typing
 
 import verify
 
@@ -30,10 +31,24 @@ ENTRY_END = b']}],"version":1}'
 ABOVE = b',{"calls":[],"keep":[],"limit":null,"traces":[]}],"version":1}'
 FACTS = b'{"nodes":[{"calls":[],"keep":['
 FACTS_END = b'],"limit":null,"traces":[{"from":[0],"uses":[]}]}' + ABOVE
+TRACES = b'],"limit":null,"traces":['
+
+# A query whose seventh node, of eight, is a join of 1,024 columns.
+WIDE_SCHEMA = b"CREATE TABLE t (c0 BIGINT" + b"".join(b", c%d BIGINT" % number for number in range(1, 256)) + b");\n"
+WIDE_QUERY = b"SELECT a.c0 FROM t AS a, t AS b, t AS c, t AS d\n"
+WIDE_FACTS = b'{"nodes":[' + b'{"calls":[],"keep":[],"limit":null,"traces":[]},' * 6 + FACTS.removeprefix(b'{"nodes":[')
 
 
-NAMED = "named"
-# A text is a front, a part that fills it, and an end, or NAMED. It is written a block at a time: the memory of this script would count as
+class Named(typing.NamedTuple):
+    """A certificate in which each trace is named by as many kept facts of its own."""
+
+    front: bytes
+    kept: bytes
+    facts: int
+    trace: bytes
+
+
+# A text is a front, a part that fills it, and an end, or Named. It is written a block at a time: the memory of this script would count as
 # that of the program which it starts.
 TABLES = {
     "a header of commas": (b"", b",", b""),
@@ -48,34 +63,45 @@ CERTIFICATES = {
     "a list of objects": (b'[{"":0}', b',{"":0}', b"]"),
     "a trace of zeros": (ENTRY + b'{"from":[0', b",0", b'],"uses":[]}]}' + ABOVE),
     "traces": (ENTRY + b'{"from":[],"uses":[]}', b',{"from":[],"uses":[]}', ENTRY_END),
-    "traces of one, each named": NAMED,
+    "traces of one, each named": Named(FACTS, b'{"to":[0],"trace":%d}', 1, b'{"from":[0],"uses":[0]}'),
+    "the same, each named twice": Named(FACTS, b'{"to":[0],"trace":%d}', 2, b'{"from":[0],"uses":[0]}'),
     "traces of one": (ENTRY + b'{"from":[0],"uses":[0]}', b',{"from":[0],"uses":[0]}', b"]}" + ABOVE),
     "a kept fact of zeros": (FACTS + b'{"to":[0', b",0", b'],"trace":0}' + FACTS_END),
     "kept facts of one": (FACTS + b'{"to":[0],"trace":0}', b',{"to":[0],"trace":0}', FACTS_END),
+}
+WIDE_CERTIFICATES = {
+    "traces of 1,024, each named": Named(WIDE_FACTS, b'{"to":[],"trace":%d}', 1, b'{"from":[1023],"uses":[]}'),
+    "the same, each named twice": Named(WIDE_FACTS, b'{"to":[],"trace":%d}', 2, b'{"from":[1023],"uses":[]}'),
 }
 WITNESSES = {
     "an ordering of zeros": (b'{"first":[[0', b",0", b']],"second":[],"tables":{}}'),
     "orderings of one": (b'{"first":[[0]', b",[0]", b'],"second":[],"tables":{}}'),
     "rows of one": (b'{"first":[],"second":[],"tables":{"t":[[0]', b",[0]", b"]}}"),
 }
-# By their command: the query, what stands before the path of the text, and the texts.
-COMMANDS = (("run", QUERY, "t=", TABLES), ("verify", CERTIFIED_QUERY, "", CERTIFICATES), ("refute", QUERY, "", WITNESSES))
+# By their command: the schema, the query, what stands before the path of the text, and the texts.
+COMMANDS = (
+    ("run", SCHEMA, QUERY, "t=", TABLES),
+    ("verify", SCHEMA, CERTIFIED_QUERY, "", CERTIFICATES),
+    ("verify", WIDE_SCHEMA, WIDE_QUERY, "", WIDE_CERTIFICATES),
+    ("refute", SCHEMA, QUERY, "", WITNESSES),
+)
 PARTS = 1 << 16
 
 
-def pieces_of_named(size):
-    """A certificate of at most so many bytes in which each trace is named by a kept fact of its own."""
-    kept, trace, middle = b'{"to":[0],"trace":%d}', b'{"from":[0],"uses":[0]}', b'],"limit":null,"traces":['
-    # (a number and three commas, brackets or braces beside what both parts have in common)
-    pairs = (size - len(FACTS) - len(middle) - len(ABOVE)) // (len(kept % 0) + len(trace) + 8)
-    yield FACTS
-    for start in range(0, pairs, PARTS):
-        yield b",".join(kept % number for number in range(start, min(start + PARTS, pairs)))
-        yield b"," if start + PARTS < pairs else middle
-    yield trace
-    for _ in range((pairs - 1) // PARTS):
-        yield (b"," + trace) * PARTS
-    yield (b"," + trace) * ((pairs - 1) % PARTS) + b"]}" + ABOVE
+def pieces_of_named(text, size):
+    """A certificate of at most so many bytes."""
+    # (a number of eight digits and a comma for each kept fact, and a comma for its trace)
+    length = text.facts * (len(text.kept % 0) + 8) + len(text.trace) + 1
+    traces = (size - len(text.front) - len(TRACES) - len(ABOVE)) // length
+    yield text.front
+    for start in range(0, traces, PARTS):
+        numbers = range(start, min(start + PARTS, traces))
+        yield b",".join(text.kept % number for number in numbers for _ in range(text.facts))
+        yield b"," if start + PARTS < traces else TRACES
+    yield text.trace
+    for _ in range((traces - 1) // PARTS):
+        yield (b"," + text.trace) * PARTS
+    yield (b"," + text.trace) * ((traces - 1) % PARTS) + b"]}" + ABOVE
 
 
 def write(folder, name, pieces):
@@ -88,8 +114,8 @@ def write(folder, name, pieces):
 
 def pieces_of(text, size):
     """A text of at most so many bytes: the front, as many parts as there is room for, and the end."""
-    if text is NAMED:
-        yield from pieces_of_named(size)
+    if isinstance(text, Named):
+        yield from pieces_of_named(text, size)
         return
     front, part, end = text
     parts = (size - len(front) - len(end)) // len(part)
@@ -121,14 +147,14 @@ def main():
     asked = parser.parse_args()
     size = asked.size << 20
     if asked.write:
-        for command, _, _, texts in COMMANDS:
+        for group, (command, _, _, _, texts) in enumerate(COMMANDS):
             for number, text in enumerate(texts.values()):
-                write(asked.write, "%s.%d" % (command, number), pieces_of(text, size))
+                write(asked.write, "%s.%d.%d" % (command, group, number), pieces_of(text, size))
         return
     program = verify.program_of(asked.program)
     with tempfile.TemporaryDirectory() as folder:
-        for command, query, before, texts in COMMANDS:
-            first = [write(folder, "schema.sql", [SCHEMA]), write(folder, "query.sql", [query])]
+        for command, schema, query, before, texts in COMMANDS:
+            first = [write(folder, "schema.sql", [schema]), write(folder, "query.sql", [query])]
             for title, text in texts.items():
                 path = write(folder, "text", pieces_of(text, size))
                 seconds, memory, status = measure([program, command, *first, before + path], asked.most)

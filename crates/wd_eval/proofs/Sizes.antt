@@ -18,14 +18,14 @@ use Rattle.wd_join.specs.Joins.{has_more_rows}
 use Rattle.wd_eval.specs.Walks.{IsFew}
 use Rattle.wd_eval.specs.Windows.{step_over}
 
-pub fewer : (most n m : ℕ) → m ≤ n → nat_lt most n ≡ false → nat_lt most m ≡ false
+fewer : (most n m : ℕ) → m ≤ n → nat_lt most n ≡ false → nat_lt most m ≡ false
 fewer most n m le h = let few = ltb-false most n h in le-ltb most m (omega arith)
 
 pub fewer_unless : (most : ℕ) (fault : Option Fault) (rows : List Row) → nat_lt most (length rows) ≡ false → has_more_rows most (unless fault rows) ≡ false
 fewer_unless most None rows h = h
 fewer_unless most (Some fault) rows h = refl
 
-pub filter-le : {X : Type 0} (t : X → Bool) (xs : List X) → length (filter t xs) ≤ length xs
+filter-le : {X : Type 0} (t : X → Bool) (xs : List X) → length (filter t xs) ≤ length xs
 filter-le t [] = omega arith
 filter-le t (x ∷ xs) = by (t x) (filter-le t xs)
   where

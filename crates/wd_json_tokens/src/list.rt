@@ -1,6 +1,6 @@
 //! Lists of values that are all of one type.
 
-ghost use Rattle.std.specs.Prelude.{◌≡◌, List, map, None, option_map, IfOk, IfErr, ⊤};
+ghost use Rattle.std.specs.Prelude.{◌≡◌, List, [], ◌∷◌, ◌++◌, map, None, option_map, IfOk, IfErr, OnOk, ⊤};
 ghost use Rattle.serde_json.specs.Data.{Data, array};
 ghost use Rattle.serde_json.specs.View.{items_of};
 ghost use Rattle.wd_json.specs.Json.{list_json};
@@ -19,11 +19,27 @@ use std::alloc::Global;
 /// A list of fewer elements keeps no spare room.
 const SHORT: usize = 1024;
 
+/// How many elements a list has room for when its first one comes: texts have millions of lists of one, and a larger first room of a list
+/// is not given back in part.
+const FIRST_ROOM: usize = 2;
+
 /// The elements that were read, up to the first of another form.
 #[derive(Drop)]
 struct Found<T> {
     items: Vec<T>,
     has_other: bool,
+}
+
+/// Appends an element.
+fn append<T: Drop>(list: &mut Vec<T>, element: T) -> Result<(), Unread>
+    ensures appended { OnOk result (list.new.items ≡ list.old.items ++ element ∷ []) }
+    ensures refused { IfErr result (λ e. e ≡ unread.OutOfMemory) }
+{
+    if list.is_empty() {
+        list.reserve_exact(FIRST_ROOM)?;
+    }
+    list.push(element)?;
+    Ok(())
 }
 
 impl<T: FromTokens> Elements for Found<T> {
@@ -40,7 +56,7 @@ impl<T: FromTokens> Elements for Found<T> {
             return Ok(());
         }
         match T::read(alloc, reader, depth)? {
-            Some(item) => self.items.push(item)?,
+            Some(item) => append(&mut self.items, item)?,
             None => self.has_other = true,
         }
         Ok(())

@@ -40,12 +40,13 @@ fn set_bit(words: &mut [u64], at: usize)
     words[at / 64] |= 1u64 << (at % 64);
 }
 
-/// Appends words until there is one for the bit.
+/// Appends words until there is one for the bit, with no room beyond: sets are kept by the million.
 fn widen(words: &mut Vec<u64>, most: usize) -> Result<(), OutOfMemory>
     requires small { most < 65536 }
     ensures within { IfOk result (λ _. most < length words.new.items) }
     ensures bits { (i : ℕ) → get_or words.new.items i 0 ≡ get_or words.old.items i 0 }
 {
+    words.reserve_exact((most + 1).saturating_sub(words.len()))?;
     while words.len() <= most {
         words.push(0)?;
     }

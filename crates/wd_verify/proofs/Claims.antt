@@ -1,10 +1,8 @@
 -- Traces after others.
-use Rattle.std.proofs.Common.{◌≡◌, ℕ, zero, suc, ◌+◌, ◌<◌, arith, drop, get_or, length, Bool, true, ◌&&◌, map, nat_lt, slice_get, Option, Some, None, ◌≢◌, IfOk, IfErr, List, [], ◌∷◌, ◌++◌, refl, ap, ◌∙◌, sym, Result, Ok, Err}
-use Rattle.std.proofs.Math.Seq.{drop-cons}
-use Rattle.std.proofs.lemmas.List.{append_assoc, map-append}
+use Rattle.std.proofs.Common.{◌≡◌, ℕ, Bool, true, ◌&&◌, map, nat_lt, slice_get, Option, Some, None, ◌≢◌, IfOk, IfErr, List, [], ◌∷◌, ◌++◌, refl, ap, ◌∙◌, sym, Result, Ok, Err}
+use Rattle.std.proofs.lemmas.List.{append_assoc}
 use Rattle.std.proofs.lemmas.Bool.{and_parts}
 use Rattle.std.specs.List.{list_all}
-use Rattle.wd_plan.specs.Fits.{width}
 use Rattle.wd_plan.specs.Plans.{PlanTree}
 use Rattle.wd_certificate.specs.Certificates.{KeptRecord, NodeRecord, TraceRecord}
 use Rattle.wd_certificate.specs.declared.certificate.Target.{Target}
@@ -13,10 +11,7 @@ use Rattle.wd_certificate.specs.declared.error.CertError.{CertError}
 use Rattle.wd_certificate.specs.declared.error.CertError.TheVariants.{OutOfMemory}
 use Rattle.wd_step_facts.specs.declared.facts.Member.{Member}
 use Rattle.wd_step_facts.specs.Facts.{FactList, columns_named, is_plain, is_plain_fact}
-use Rattle.wd_facts.specs.Laws.{ArePlain}
-use Rattle.wd_rules.proofs.Kept.{entry_plain}
-use Rattle.wd_rules.proofs.Traces.{parts_of}
-use Rattle.wd_rules.specs.Rules.{claims_refusal, entry_refusal, is_target, kept_fact, kept_facts, member_of, trace_or}
+use Rattle.wd_rules.specs.Rules.{claims_refusal, entry_refusal, is_target, kept_fact, member_of, trace_or}
 use Rattle.wd_rules.specs.Traces.{Traced, and_then, each_traced, traced}
 use Rattle.wd_node_facts.specs.declared.facts.KeptFact.{KeptFact}
 use Rattle.wd_verify.specs.Lean.{lean_kept, once}
@@ -45,16 +40,9 @@ after_one node facts trace traces before has e =
     ap (λ r. after before (and_then r (λ has. and_then (each_traced node facts traces) (λ shown. Ok (record { from = trace.from; has = has } ∷ shown))))) e
     ∙ one_after before (record { from = trace.from; has = has }) (each_traced node facts traces)
 
-pub after_stop : (node : ℕ) (facts : FactList) (trace : TraceRecord) (traces : List TraceRecord) (before : List Traced) (refusal : CertError) → traced node facts trace ≡ Err refusal → after before (each_traced node facts (trace ∷ traces)) ≡ Err refusal
-after_stop node facts trace traces before refusal e = ap (λ r. after before (and_then r (λ has. and_then (each_traced node facts traces) (λ shown. Ok (record { from = trace.from; has = has } ∷ shown))))) e
-
 -- what an entry claims, by its traces
 pub traced_claims : (node : ℕ) (facts : FactList) (plan : PlanTree) (entry : NodeRecord) (r : Result (List Traced) CertError) → each_traced node facts entry.traces ≡ r → entry_refusal node facts plan entry ≡ claims_refusal node facts plan entry r
 traced_claims node facts plan entry r e = ap (claims_refusal node facts plan entry) e
-
--- what it keeps, where none of it is refused
-pub keeps_plain : (node : ℕ) (facts : FactList) (plan : PlanTree) (entry : NodeRecord) (r : Result (List Traced) CertError) → each_traced node facts entry.traces ≡ r → claims_refusal node facts plan entry r ≡ None → ArePlain (width plan) (kept_facts entry)
-keeps_plain node facts plan entry r e passed = entry_plain node facts plan entry (traced_claims node facts plan entry r e ∙ passed)
 
 -- a plain kept fact names columns of the node, and the row
 pub plain_to : (columns : ℕ) (traces : List TraceRecord) (kept : KeptRecord) → is_plain_fact columns (kept_fact traces (lean_kept kept)) ≡ true → list_all (is_target columns) kept.to ≡ true
@@ -70,18 +58,6 @@ plain_to columns traces kept e = targets_all (is_target columns) kept.to ∙ tar
 -- the columns of a kept fact are those of its trace
 pub fact_is : (traces : List TraceRecord) (columns : List (List ℕ)) (kept : KeptRecord) (fact : KeptFact) → (trace_or (slice_get traces kept.trace)).from ≡ columns_or_none (slice_get columns kept.trace) → IsKeptFact kept fact → fact_by columns fact ≡ kept_fact traces (lean_kept kept)
 fact_is traces columns kept fact h is = λ i. record { from = columns_named ((ap (λ n. columns_or_none (slice_get columns n)) is.trace ∙ sym h) i); to = is.to i }
-
-abbrev pub from_of : Option Traced → List ℕ
-from_of None = []
-from_of (Some trace) = trace.from
-
--- traces that were followed begin with the columns of the entry's
-pub have_columns : (node : ℕ) (facts : FactList) (traces : List TraceRecord) (shown : List Traced) → each_traced node facts traces ≡ Ok shown → (n : ℕ) → (trace_or (slice_get traces n)).from ≡ from_of (slice_get shown n)
-have_columns node facts [] shown e n = let f : shown ≡ [] = cc in ap (λ s. from_of (slice_get s n)) (sym f)
-have_columns node facts (trace ∷ traces) shown e zero = let parts = parts_of node facts trace traces shown e in ap (λ s. from_of (slice_get s zero)) (sym parts.is)
-have_columns node facts (trace ∷ traces) shown e (suc n) =
-    let parts = parts_of node facts trace traces shown e in
-    have_columns node facts traces parts.rest parts.later n ∙ ap (λ s. from_of (slice_get s (suc n))) (sym parts.is)
 
 -- ---- what a check answers, by its refusal
 

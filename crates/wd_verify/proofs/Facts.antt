@@ -1,5 +1,5 @@
 -- Kept facts that the code makes one after another.
-use Rattle.std.proofs.Common.{◌≡◌, ℕ, suc, ◌+◌, ◌<◌, arith, drop, get_or, length, Bool, true, ◌||◌, map, nat_eq, slice_get, List, [], ◌∷◌, ◌++◌, refl, ap, ◌∙◌, sym, subst}
+use Rattle.std.proofs.Common.{◌≡◌, ℕ, suc, ◌+◌, ◌<◌, arith, drop, get_or, length, true, ◌||◌, map, nat_eq, slice_get, List, [], ◌∷◌, ◌++◌, ap, ◌∙◌, sym, subst}
 use Rattle.std.proofs.Math.Seq.{drop-cons}
 use Rattle.std.proofs.lemmas.List.{append_assoc, map-append}
 use Rattle.std.specs.List.{list_all}

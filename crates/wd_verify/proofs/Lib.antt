@@ -4,7 +4,9 @@ pub mod Claims
 pub mod Columns
 pub mod Facts
 pub mod Followed
+pub mod Good
 pub mod Joins
+pub mod Judged
 pub mod LeanEntry
 pub mod LeanNodes
 pub mod Members

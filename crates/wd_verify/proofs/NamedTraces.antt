@@ -1,5 +1,5 @@
--- The claims of an entry are judged by the traces that they name.
-use Rattle.std.proofs.Common.{◌≡◌, ℕ, zero, suc, Bool, true, false, ◌||◌, map, nat_eq, slice_get, Option, Some, None, List, [], ◌∷◌, refl, ap, ◌∙◌, sym, Ok}
+-- Calls and limits are judged by the traces that they name, which were kept.
+use Rattle.std.proofs.Common.{◌≡◌, ℕ, Bool, true, false, ◌||◌, map, nat_eq, slice_get, Option, Some, None, List, [], ◌∷◌, refl, ap, ◌∙◌, sym, Ok}
 use Rattle.std.proofs.lemmas.Bool.{eq-eqb}
 use Rattle.std.specs.Global.{Box}
 use Rattle.wd_plan.specs.Fits.{width}
@@ -16,14 +16,13 @@ use Rattle.wd_step_facts.specs.declared.facts.Member.TheVariants as member
 use Rattle.wd_step_facts.specs.Facts.{FactList, columns_named}
 use Rattle.wd_step_facts.specs.Steps.{all_columns}
 use Rattle.wd_sets.specs.Sets.{is_in}
-use Rattle.wd_rules.specs.Rules.{EvidenceRecord, call_refusal, calls_refusal, claims_refusal, entry_refusal, keep_refusal, kept_refusal, limit_refusal, or_else, refuse_unless, refuse_unless_shown, rules_refusal, shows, shows_value, has_one_exchange, trace_or}
-use Rattle.wd_rules.specs.Traces.{Traced}
-use Rattle.wd_node_facts.specs.Seen.{columns_or_none}
+use Rattle.wd_rules.specs.Rules.{EvidenceRecord, call_refusal, calls_refusal, entry_refusal, keep_refusal, limit_refusal, or_else, refuse_unless, refuse_unless_shown, rules_refusal, shows, shows_value, has_one_exchange}
+use Rattle.wd_rules.specs.Traces.{Traced, each_traced}
 use Rattle.wd_verify.specs.Lean.{lean_kept}
-use Rattle.wd_verify.specs.Named.{is_it, is_marked, is_named, is_of_calls, is_of_kept}
-use Rattle.wd_verify.specs.Shown.{AreFollowed, HaveColumns, own_columns, traced_or}
+use Rattle.wd_verify.specs.Named.{is_it, is_of_calls, is_of_kept, is_of_rules}
+use Rattle.wd_verify.specs.Shown.{AreFollowed, shown_or_none, traced_or}
 use Rattle.wd_verify.specs.declared.trace.Followed.{Followed}
-use Rattle.wd_verify.proofs.Claims.{from_of, have_columns, traced_claims}
+use Rattle.wd_verify.proofs.Claims.{traced_claims}
 
 -- ---- numbers that are named
 
@@ -40,13 +39,11 @@ or_later b other e = (λ i. b || e i) ∙ or_true b
 pub or_first : (b other : Bool) → b ≡ true → (b || other) ≡ true
 or_first b other e = λ i. e i || other
 
--- one of three claims names a number, so it is marked after each of them
-pub any_named : (keep calls limit marked : Bool) → (keep || (calls || limit)) ≡ true → (limit || ((marked || keep) || calls)) ≡ true
-any_named keep calls true marked e = refl
-any_named keep true false marked e = or_true (marked || keep)
-any_named true false false true e = refl
-any_named true false false false e = refl
-any_named false false false marked e = absurd (cc)
+-- a call or the limit names a number, so it is marked after both of them
+pub any_named : (calls limit marked : Bool) → (calls || limit) ≡ true → (limit || (marked || calls)) ≡ true
+any_named calls true marked e = refl
+any_named true false marked e = or_true marked
+any_named false false marked e = absurd (cc)
 
 -- the lean form of a kept fact names the same trace
 pub lean_named : (keep : List KeptRecord) (n : ℕ) → is_of_kept (map lean_kept keep) n ≡ is_of_kept keep n
@@ -64,13 +61,6 @@ module _ (node : ℕ) (facts : FactList) (one other : List Traced) where
 
   abbrev Agree : (ℕ → Bool) → Type 0
   Agree named = (n : ℕ) → named n ≡ true → slice_get one n ≡ slice_get other n
-
-  keep_same : (columns : ℕ) (keep : List KeptRecord) → Agree (is_of_kept keep) → keep_refusal by_one columns keep ≡ keep_refusal by_other columns keep
-  keep_same columns [] h = refl
-  keep_same columns (kept ∷ keep) h =
-      let own = h kept.trace (or_first (nat_eq kept.trace kept.trace) (is_of_kept keep kept.trace) (same_number kept.trace)) in
-      let rest = keep_same columns keep (λ n e. h n (or_later (nat_eq n kept.trace) (is_of_kept keep n) e)) in
-      λ i. or_else (kept_refusal node facts columns kept.to (own i)) (rest i)
 
   call_same : (columns : ℕ) (among : ℕ → Bool) (call : Call) (r : Rule) → Agree (is_it (rule_trace r)) → call_refusal by_one columns among call r ≡ call_refusal by_other columns among call r
   call_same columns among call rule.Peers h = refl
@@ -91,7 +81,7 @@ module _ (node : ℕ) (facts : FactList) (one other : List Traced) where
   limit_same columns limit None h = refl
   limit_same columns limit (Some n) h = ap (refuse_unless_shown node (UnjustifiedLimit node) (shows facts (is_in (order_columns (limit_class limit))) (columns_named (all_columns columns)))) (h n (same_number n))
 
-  rules_same : (plan : PlanTree) (entry : NodeRecord) → Agree (is_of_calls entry.calls) → Agree (is_it entry.limit) → rules_refusal by_one plan entry ≡ rules_refusal by_other plan entry
+  pub rules_same : (plan : PlanTree) (entry : NodeRecord) → Agree (is_of_calls entry.calls) → Agree (is_it entry.limit) → rules_refusal by_one plan entry ≡ rules_refusal by_other plan entry
   rules_same (Scan table columns) entry c l = refl
   rules_same (Join condition left right) entry c l = refl
   rules_same (Over (Filter condition) input) entry c l = refl
@@ -101,33 +91,27 @@ module _ (node : ℕ) (facts : FactList) (one other : List Traced) where
   rules_same (Over Distinct input) entry c l = refl
   rules_same (Over (Limit limit) input) entry c l = limit_same (width input) limit entry.limit l
 
-  claims_same : (plan : PlanTree) (entry : NodeRecord) → Agree (is_named entry) → claims_refusal node facts plan entry (Ok one) ≡ claims_refusal node facts plan entry (Ok other)
-  claims_same plan entry h =
-      let keep = keep_same (width plan) entry.keep (λ n e. h n (or_first (is_of_kept entry.keep n) (is_of_calls entry.calls n || is_it entry.limit n) e)) in
-      let rules = rules_same plan entry
-      (λ n e. h n (or_later (is_of_kept entry.keep n) (is_of_calls entry.calls n || is_it entry.limit n) (or_first (is_of_calls entry.calls n) (is_it entry.limit n) e)))
-      (λ n e. h n (or_later (is_of_kept entry.keep n) (is_of_calls entry.calls n || is_it entry.limit n) (or_later (is_of_calls entry.calls n) (is_it entry.limit n) e))) in
-      λ i. or_else (keep i) (rules i)
+-- ---- claims by the traces that were followed
 
--- ---- claims by the traces that were kept
+module _ (node : ℕ) (facts : FactList) (plan : PlanTree) (entry : NodeRecord) (kept : List (Option (Box Followed))) (other : Traced) (followed : AreFollowed node facts entry.traces (is_of_rules entry) kept) where
+  abbrev all : EvidenceRecord
+  all = record { node = node; facts = facts; shown = shown_or_none (each_traced node facts entry.traces) }
 
-module _ (node : ℕ) (facts : FactList) (entry : NodeRecord) (marks : List Bool) (kept : List (Option (Box Followed))) (named : (n : ℕ) → is_named entry n ≡ true → is_marked marks n ≡ true) (followed : AreFollowed node facts entry.traces marks kept) where
-  pub kept_claims : (plan : PlanTree) (other : Traced) → claims_refusal node facts plan entry (Ok (map (traced_or other) kept)) ≡ entry_refusal node facts plan entry
-  kept_claims plan other =
-      claims_same node facts (map (traced_or other) kept) followed.shown plan entry (λ n e. followed.at other n (named n e))
-      ∙ sym (traced_claims node facts plan entry (Ok followed.shown) followed.traced)
+  abbrev as_kept : EvidenceRecord
+  as_kept = record { node = node; facts = facts; shown = map (traced_or other) kept }
 
-  abbrev nothing : Traced
-  nothing = record { from = []; has = λ m. false }
+  abbrev own : EvidenceRecord
+  own = record { node = node; facts = facts; shown = followed.all.shown }
 
-  own : (traces : List (Option (Box Followed))) (n : ℕ) → from_of (slice_get (map (traced_or nothing) traces) n) ≡ columns_or_none (slice_get (map own_columns traces) n)
-  own [] n = refl
-  own (None ∷ traces) zero = refl
-  own (Some trace ∷ traces) zero = refl
-  own (trace ∷ traces) (suc n) = own traces n
+  all_is : all ≡ own
+  all_is = λ i. record { node = node; facts = facts; shown = shown_or_none (followed.all.traced i) }
 
-  pub kept_columns : HaveColumns entry (map own_columns kept)
-  kept_columns n e =
-      have_columns node facts entry.traces followed.shown followed.traced n
-      ∙ ap from_of (sym (followed.at nothing n (named n e)))
-      ∙ own kept n
+  rules_is : rules_refusal as_kept plan entry ≡ rules_refusal own plan entry
+  rules_is =
+      rules_same node facts (map (traced_or other) kept) followed.all.shown plan entry
+      (λ n e. followed.at other n (or_first (is_of_calls entry.calls n) (is_it entry.limit n) e))
+      (λ n e. followed.at other n (or_later (is_of_calls entry.calls n) (is_it entry.limit n) e))
+
+  -- the kept facts by all traces, then calls and the limit by those that were kept
+  pub entry_is : entry_refusal node facts plan entry ≡ or_else (keep_refusal all (width plan) entry.keep) (rules_refusal as_kept plan entry)
+  entry_is = traced_claims node facts plan entry (Ok followed.all.shown) followed.all.traced ∙ (λ i. or_else (keep_refusal (sym all_is i) (width plan) entry.keep) (sym rules_is i))

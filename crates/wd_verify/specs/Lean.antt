@@ -1,7 +1,8 @@
 -- Entries of a certificate in which no trace starts from a column twice, and no kept fact has a target twice.
 use Rattle.std.specs.Prelude.{ℕ, Bool, false, ◌||◌, List, [], ◌∷◌, map, if◌then◌else◌}
-use Rattle.wd_certificate.specs.Certificates.{KeptRecord, NodeRecord, TraceRecord, node_of}
+use Rattle.wd_certificate.specs.Certificates.{KeptRecord, NodeRecord, TraceRecord, node_of, trace_of}
 use Rattle.wd_certificate.specs.declared.certificate.Node.{Node}
+use Rattle.wd_certificate.specs.declared.certificate.Trace.{Trace}
 use Rattle.wd_step_facts.specs.declared.facts.Member.{Member}
 use Rattle.wd_step_facts.specs.declared.facts.Member.TheVariants as member
 use Rattle.wd_sets.specs.Sets.{same_member}
@@ -31,6 +32,10 @@ lean_kept kept = record { to = once member_of kept.to; trace = kept.trace }
 
 abbrev pub lean_entry : NodeRecord → NodeRecord
 lean_entry entry = record { calls = entry.calls; keep = map lean_kept entry.keep; limit = entry.limit; traces = map lean_trace entry.traces }
+
+-- the lean forms of traces of the code
+abbrev pub lean_traces : List Trace → List TraceRecord
+lean_traces traces = map lean_trace (map trace_of traces)
 
 -- the lean form of an entry of the code
 abbrev pub lean_of : Node → NodeRecord

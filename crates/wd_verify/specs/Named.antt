@@ -16,9 +16,9 @@ is_of_kept keep n = list_any (λ (kept : KeptRecord). nat_eq n kept.trace) keep
 abbrev pub is_of_calls : List Rule → ℕ → Bool
 is_of_calls rules n = list_any (λ rule. is_it (rule_trace rule) n) rules
 
--- a kept fact, a call or the limit names the trace with this number
-abbrev pub is_named : NodeRecord → ℕ → Bool
-is_named entry n = is_of_kept entry.keep n || (is_of_calls entry.calls n || is_it entry.limit n)
+-- a call or the limit names the trace with this number
+abbrev pub is_of_rules : NodeRecord → ℕ → Bool
+is_of_rules entry n = is_of_calls entry.calls n || is_it entry.limit n
 
 -- the number is marked; one past the marks counts as marked
 abbrev pub is_marked : List Bool → ℕ → Bool

@@ -1,6 +1,6 @@
 //! A node's entry in a certificate.
 
-ghost use Rattle.std.specs.Prelude.{◌≡◌, ◌≢◌, ◌<◌, true, map, None, Ok, Some, IfOk, IfErr};
+ghost use Rattle.std.specs.Prelude.{◌≡◌, ◌≢◌, ◌<◌, true, None, Some, IfOk, IfErr};
 ghost use Rattle.wd_schema.specs.Schemas.{schema_of};
 ghost use Rattle.wd_plan.specs.Fits as fitting;
 ghost use Rattle.wd_plan.specs.Plans.{plan_of};
@@ -9,11 +9,12 @@ ghost use Rattle.wd_facts.specs.Laws.{AreOfChildren, ArePlain};
 ghost use Rattle.wd_rules.specs.Rules as rules;
 ghost use Rattle.wd_verify.specs.Lean.{lean_of};
 ghost use Rattle.wd_node_facts.specs.Seen.{AreNarrow, HasNoOther, facts_kept, seen_of};
-ghost use Rattle.wd_verify.specs.Shown.{HaveColumns, evidence_of, own_columns, shown_by};
+ghost use Rattle.wd_verify.specs.Named.{is_of_rules};
+ghost use Rattle.wd_verify.specs.Shown.{AreFollowed, AreGood, evidence_of};
 
 use crate::evidence::{Evidence, follow_each};
 use crate::kept::{check_keep, keeps_of};
-use crate::named::named_traces;
+use crate::named::traces_to_keep;
 use crate::rules::{check_limit, check_window};
 use crate::trace::Followed;
 use std::alloc::Global;
@@ -54,7 +55,7 @@ fn check_rules(
     }
 }
 
-/// Checks what an entry claims, by its traces.
+/// Checks what an entry claims, by its traces, which were followed.
 #[tactic(auto, using(wd_plan::proofs::Ranges::narrow))]
 fn check_claims(
     alloc: Global,
@@ -63,16 +64,17 @@ fn check_claims(
     schema: &Schema,
     entry: &Node,
 ) -> Result<(), CertError>
-    requires { fitting.fits (schema_of schema.now) (plan_of plan.now) ≡ true }
-    ensures passed { IfOk result (λ _. rules.claims_refusal evidence.now.node (seen_of evidence.now.facts) (plan_of plan.now) (lean_of entry.now) (Ok (shown_by evidence.now)) ≡ None) }
-    ensures refused { IfErr result (λ e. e ≢ CertError.OutOfMemory → rules.claims_refusal evidence.now.node (seen_of evidence.now.facts) (plan_of plan.now) (lean_of entry.now) (Ok (shown_by evidence.now)) ≡ Some e) }
+    requires fits { fitting.fits (schema_of schema.now) (plan_of plan.now) ≡ true }
+    requires narrow { AreNarrow evidence.now.facts }
+    requires followed { AreFollowed evidence.now.node (seen_of evidence.now.facts) (lean_of entry.now).traces (is_of_rules (lean_of entry.now)) evidence.now.traces.items }
+    ensures passed { IfOk result (λ _. rules.entry_refusal evidence.now.node (seen_of evidence.now.facts) (plan_of plan.now) (lean_of entry.now) ≡ None) }
+    ensures refused { IfErr result (λ e. e ≢ CertError.OutOfMemory → rules.entry_refusal evidence.now.node (seen_of evidence.now.facts) (plan_of plan.now) (lean_of entry.now) ≡ Some e) }
 {
-    check_keep(evidence, width(plan), &entry.keep)?;
+    check_keep(alloc, evidence, width(plan), &entry.traces, &entry.keep)?;
     check_rules(alloc, evidence, plan, schema, entry)
 }
 
-/// Follows the traces of an entry over the given facts of its node, and checks the entry's claims by them; the result is the traces that
-/// claims name.
+/// Follows the traces of an entry over the given facts of its node, and checks the entry's claims by them; the result is the facts.
 fn judge_entry(
     alloc: Global,
     plan: &Plan,
@@ -80,14 +82,15 @@ fn judge_entry(
     node: u64,
     entry: &Node,
     facts: NodeFacts,
-) -> Result<Vec<Option<Box<Followed>>>, CertError>
+) -> Result<NodeFacts, CertError>
     requires fits { fitting.fits (schema_of schema.now) (plan_of plan.now) ≡ true }
     requires narrow { AreNarrow facts }
-    ensures traces { IfOk result (λ v. HaveColumns (lean_of entry.now) (map own_columns v.items)) }
+    ensures facts { IfOk result (λ f. f ≡ facts) }
+    ensures good { IfOk result (λ _. AreGood node (seen_of facts) (lean_of entry.now).traces) }
     ensures passed { IfOk result (λ _. rules.entry_refusal node (seen_of facts) (plan_of plan.now) (lean_of entry.now) ≡ None) }
     ensures refused { IfErr result (λ e. e ≢ CertError.OutOfMemory → rules.entry_refusal node (seen_of facts) (plan_of plan.now) (lean_of entry.now) ≡ Some e) }
 {
-    let marks = named_traces(alloc, entry)?;
+    let marks = traces_to_keep(alloc, entry)?;
     let traces = follow_each(alloc, node, &facts, &entry.traces, &marks)?;
     let evidence = Evidence {
         node,
@@ -96,7 +99,7 @@ fn judge_entry(
         unnamed: Followed::new(alloc),
     };
     check_claims(alloc, &evidence, plan, schema, entry)?;
-    Ok(evidence.traces)
+    Ok(evidence.facts)
 }
 
 /// Checks the entry of a plan's top node, where the children keep the given facts; the result is what the entry keeps itself.
@@ -118,7 +121,6 @@ pub(crate) fn check_entry(
     ensures refused { IfErr result (λ e. e ≢ CertError.OutOfMemory → rules.entry_refusal node (given_facts (schema_of schema.now) (plan_of plan.now) (facts_kept left) (facts_kept right)) (plan_of plan.now) (lean_of entry.now) ≡ Some e) }
 {
     let facts = facts_at(alloc, plan, schema, left, right)?;
-    let traces = judge_entry(alloc, plan, schema, node, entry, facts)?;
-    let keeps = keeps_of(alloc, width(plan), entry, traces)?;
-    Ok(keeps)
+    let facts = judge_entry(alloc, plan, schema, node, entry, facts)?;
+    keeps_of(alloc, width(plan), node, &facts, entry)
 }

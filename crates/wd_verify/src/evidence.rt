@@ -1,14 +1,13 @@
-//! What the checks of an entry read: the given facts, and the traces, each followed once. A trace that no claim names is judged, and not
-//! kept.
+//! What the checks of an entry read: the given facts, and of the traces, which were followed one after another, those that were kept.
 
-ghost use Rattle.std.specs.Prelude.{◌≡◌, ◌≢◌, map, slice_get, None, Ok, Err, Some, IfOk, IfErr};
-ghost use Rattle.wd_certificate.specs.Certificates.{trace_of};
+ghost use Rattle.std.specs.Prelude.{◌≡◌, ◌≢◌, map, slice_get, None, Ok, Err, Some, IfOk, IfErr, IfSome};
 ghost use Rattle.wd_certificate.specs.declared.error.CertError.TheVariants as error;
 ghost use Rattle.wd_rules.specs.Rules as rules;
 ghost use Rattle.wd_rules.specs.Traces as spec;
-ghost use Rattle.wd_verify.specs.Lean.{lean_trace};
+ghost use Rattle.wd_verify.specs.Lean.{lean_traces};
 ghost use Rattle.wd_node_facts.specs.Seen.{AreNarrow, seen_of};
-ghost use Rattle.wd_verify.specs.Shown.{AreFollowed, IsAdded, refusal_of, shown_by, traced_of};
+ghost use Rattle.wd_verify.specs.Named.{is_marked as is_marked_by};
+ghost use Rattle.wd_verify.specs.Shown.{AreFollowed, IsAdded, kept_in, refusal_of, shown_by, traced_of};
 
 use crate::named::is_marked;
 use crate::trace::{Followed, follow};
@@ -23,12 +22,12 @@ pub(crate) struct Evidence {
     pub(crate) node: u64,
     pub(crate) facts: NodeFacts,
     pub(crate) traces: Vec<Option<Box<Followed>>>,
-    /// What stands in place of a trace that no claim names.
+    /// What stands in place of a trace that was not kept.
     pub(crate) unnamed: Followed,
 }
 
 impl Evidence {
-    /// The trace with a number; what stands in its place where no claim names it.
+    /// The trace with a number, or what stands in its place.
     pub(crate) fn trace(&self, number: u64) -> Result<&Followed, CertError>
         ensures found { IfOk result (λ t. slice_get (shown_by self.now) number ≡ Some (traced_of t.now)) }
         ensures missing { IfErr result (λ e. slice_get (shown_by self.now) number ≡ None) }
@@ -38,6 +37,16 @@ impl Evidence {
             Some(Some(trace)) => Ok(trace),
             Some(None) => Ok(&self.unnamed),
             None => Err(CertError::OutOfRange { node: self.node }),
+        }
+    }
+
+    /// The trace with a number, if it is there and was kept.
+    pub(crate) fn kept(&self, number: usize) -> Option<&Followed>
+        ensures { IfSome result (λ t. kept_in (slice_get self.now.traces.items number) ≡ Some (traced_of t.now)) }
+    {
+        match self.traces.get(number) {
+            Some(Some(trace)) => Some(trace),
+            _ => None,
         }
     }
 }
@@ -76,8 +85,8 @@ pub(crate) fn follow_each(
     marks: &[bool],
 ) -> Result<Vec<Option<Box<Followed>>>, CertError>
     requires { AreNarrow facts.now }
-    ensures followed { IfOk result (λ v. AreFollowed node (seen_of facts.now) (map lean_trace (map trace_of traces.now)) marks.now v.items) }
-    ensures refused { IfErr result (λ e. e ≢ CertError.OutOfMemory → spec.each_traced node (seen_of facts.now) (map lean_trace (map trace_of traces.now)) ≡ Err e) }
+    ensures followed { IfOk result (λ v. AreFollowed node (seen_of facts.now) (lean_traces traces.now) (is_marked_by marks.now) v.items) }
+    ensures refused { IfErr result (λ e. e ≢ CertError.OutOfMemory → spec.each_traced node (seen_of facts.now) (lean_traces traces.now) ≡ Err e) }
 {
     let mut list = Vec::new(alloc);
     for trace in traces {

@@ -1,21 +1,25 @@
 //! The facts that an entry keeps, by its traces.
 
-ghost use Rattle.std.specs.Prelude.{◌≡◌, ◌++◌, List, ◌∷◌, true, map, slice_get, IfOk, None, Some};
+ghost use Rattle.std.specs.Prelude.{◌≡◌, ◌≢◌, ◌++◌, List, [], ◌∷◌, Bool, true, map, IfOk, IfErr, None, Some, Ok, Err};
 ghost use Rattle.std.specs.List.{list_all};
-ghost use Rattle.wd_certificate.specs.Certificates.{kept_of};
+ghost use Rattle.wd_certificate.specs.Certificates.{kept_of, trace_of};
 ghost use Rattle.wd_certificate.specs.declared.certificate.Target.{Target as ATarget};
 ghost use Rattle.wd_facts.specs.Laws.{ArePlain};
+ghost use Rattle.wd_step_facts.specs.declared.facts.Member.{Member as AMember};
 ghost use Rattle.wd_sets.specs.Reaches.{reaches_each};
 ghost use Rattle.wd_sets.specs.Sets.{has};
 ghost use Rattle.wd_rules.specs.Rules as rules;
-ghost use Rattle.wd_verify.specs.Lean.{lean_kept, lean_of, once, once_after};
-ghost use Rattle.wd_node_facts.specs.Seen.{each_columns, fact_by, facts_kept, seen_of};
-ghost use Rattle.wd_verify.specs.Shown.{HaveColumns, IsKeptFact, evidence_of, own_columns as columns_kept, refusal_of, shown_by, traced_of};
+ghost use Rattle.wd_rules.specs.Traces.{traced};
+ghost use Rattle.wd_verify.specs.Lean.{lean_kept, lean_of, lean_trace, lean_traces, once, once_after};
+ghost use Rattle.wd_node_facts.specs.Seen.{AreNarrow, each_columns, fact_by, facts_kept, seen_of};
+ghost use Rattle.wd_verify.specs.Named.{is_marked as is_marked_by, is_of_kept};
+ghost use Rattle.wd_verify.specs.Shown.{AreGood, HaveColumns, IsFollowed, IsKeptFact, claim_refusal, evidence_with, refusal_of, shown_from, traced_of};
 
 use crate::evidence::Evidence;
-use crate::trace::{Followed, reaches};
+use crate::named::{is_marked, traces_of_kept};
+use crate::trace::{Followed, follow, reaches, start};
 use std::alloc::Global;
-use wd_certificate::{CertError, Kept, Node, PackedTarget, Target};
+use wd_certificate::{CertError, Kept, Node, PackedTarget, Target, Trace};
 use wd_facts::Member;
 use wd_node_facts::{Keeps, KeptFact, NodeFacts, are_columns};
 use wd_sets::Set;
@@ -86,20 +90,62 @@ fn check_kept(
     }
 }
 
-/// Checks a kept fact, by the trace that it names.
-fn check_claim(evidence: &Evidence, columns: u16, kept: &Kept) -> Result<(), CertError>
-    ensures { refusal_of result ≡ rules.kept_refusal evidence.now.node (seen_of evidence.now.facts) columns (lean_kept (kept_of kept.now)).to (slice_get (shown_by evidence.now) (kept_of kept.now).trace) }
+/// Checks a kept fact by its trace, which is followed for it.
+fn check_again(
+    alloc: Global,
+    node: u64,
+    facts: &NodeFacts,
+    columns: u16,
+    targets: &[PackedTarget],
+    trace: &Trace,
+) -> Result<(), CertError>
+    requires { AreNarrow facts.now }
+    ensures passed { IfOk result (λ _. (h : AMember → Bool) → traced node (seen_of facts.now) (lean_trace (trace_of trace.now)) ≡ Ok h → rules.kept_refusal node (seen_of facts.now) columns targets.now (Some (shown_from (lean_trace (trace_of trace.now)) h)) ≡ None) }
+    ensures refused { IfErr result (λ e. e ≢ CertError.OutOfMemory → (h : AMember → Bool) → traced node (seen_of facts.now) (lean_trace (trace_of trace.now)) ≡ Ok h → rules.kept_refusal node (seen_of facts.now) columns targets.now (Some (shown_from (lean_trace (trace_of trace.now)) h)) ≡ Some e) }
 {
-    let trace = evidence.trace(kept.trace)?;
-    check_kept(evidence.node, &evidence.facts, columns, &kept.to, trace)
+    let followed = follow(alloc, node, facts, trace)?;
+    check_kept(node, facts, columns, targets, &followed)
+}
+
+/// Checks a kept fact, by the trace that it names.
+fn check_claim(
+    alloc: Global,
+    evidence: &Evidence,
+    columns: u16,
+    traces: &[Trace],
+    kept: &Kept,
+) -> Result<(), CertError>
+    requires narrow { AreNarrow evidence.now.facts }
+    requires followed { IsFollowed evidence.now traces.now }
+    ensures passed { IfOk result (λ _. claim_refusal (evidence_with evidence.now traces.now) columns (lean_kept (kept_of kept.now)) ≡ None) }
+    ensures refused { IfErr result (λ e. e ≢ CertError.OutOfMemory → claim_refusal (evidence_with evidence.now traces.now) columns (lean_kept (kept_of kept.now)) ≡ Some e) }
+{
+    let number = kept.trace as usize;
+    let node = evidence.node;
+    match traces.get(number) {
+        None => Err(CertError::OutOfRange { node }),
+        Some(trace) => match evidence.kept(number) {
+            Some(followed) => check_kept(node, &evidence.facts, columns, &kept.to, followed),
+            None => check_again(alloc, node, &evidence.facts, columns, &kept.to, trace),
+        },
+    }
 }
 
 /// Checks the facts that an entry keeps, in order.
-pub(crate) fn check_keep(evidence: &Evidence, columns: u16, keep: &[Kept]) -> Result<(), CertError>
-    ensures { refusal_of result ≡ rules.keep_refusal (evidence_of evidence.now) columns (map lean_kept (map kept_of keep.now)) }
+pub(crate) fn check_keep(
+    alloc: Global,
+    evidence: &Evidence,
+    columns: u16,
+    traces: &[Trace],
+    keep: &[Kept],
+) -> Result<(), CertError>
+    requires narrow { AreNarrow evidence.now.facts }
+    requires followed { IsFollowed evidence.now traces.now }
+    ensures passed { IfOk result (λ _. rules.keep_refusal (evidence_with evidence.now traces.now) columns (map lean_kept (map kept_of keep.now)) ≡ None) }
+    ensures refused { IfErr result (λ e. e ≢ CertError.OutOfMemory → rules.keep_refusal (evidence_with evidence.now traces.now) columns (map lean_kept (map kept_of keep.now)) ≡ Some e) }
 {
     for kept in keep {
-        check_claim(evidence, columns, kept)?;
+        check_claim(alloc, evidence, columns, traces, kept)?;
     }
     Ok(())
 }
@@ -161,7 +207,7 @@ fn kept_list(
     traces: &[Vec<u16>],
 ) -> Result<Vec<KeptFact>, OutOfMemory>
     requires plain { ArePlain columns (rules.kept_facts (lean_of entry.now)) }
-    requires traces { HaveColumns (lean_of entry.now) (each_columns traces.now) }
+    requires traces { HaveColumns (is_of_kept (lean_of entry.now).keep) (lean_of entry.now).traces (each_columns traces.now) }
     ensures { IfOk result (λ v. map (fact_by (each_columns traces.now)) v.items ≡ rules.kept_facts (lean_of entry.now)) }
 {
     let mut list = Vec::with_capacity(alloc, entry.keep.len())?;
@@ -172,45 +218,69 @@ fn kept_list(
     Ok(list)
 }
 
-/// The columns of a trace; none where it was not kept.
-fn own_columns(alloc: Global, trace: Option<Box<Followed>>) -> Vec<u16>
-    ensures { result.items ≡ columns_kept trace }
+/// The columns of a trace that was good, each once; none where they are not asked for.
+fn columns_if(
+    alloc: Global,
+    node: u64,
+    facts: &NodeFacts,
+    trace: &Trace,
+    is_asked: bool,
+) -> Result<Vec<u16>, CertError>
+    ensures columns { IfOk result (λ v. is_asked ≡ true → v.items ≡ (lean_trace (trace_of trace.now)).from) }
+    ensures refused { IfErr result (λ e. e ≢ CertError.OutOfMemory → traced node (seen_of facts.now) (trace_of trace.now) ≡ Err e) }
 {
-    match trace {
-        Some(trace) => {
-            let Followed { from, .. } = Box::into_inner(trace);
-            from
-        }
-        None => Vec::new(alloc),
+    if is_asked {
+        let Followed { from, .. } = start(alloc, node, facts, trace)?;
+        Ok(from)
+    } else {
+        Ok(Vec::new(alloc))
     }
 }
 
-/// The columns of each trace, of one that was not kept none.
+/// Appends the columns of a trace.
+fn push_columns(list: &mut Vec<Vec<u16>>, columns: Vec<u16>) -> Result<(), OutOfMemory>
+    ensures { IfOk result (λ _. list.new.items ≡ list.old.items ++ columns ∷ []) }
+{
+    list.push(columns)?;
+    Ok(())
+}
+
+/// The columns of each trace that has a mark, where all traces are good.
 fn columns_of_each(
     alloc: Global,
-    traces: Vec<Option<Box<Followed>>>,
-) -> Result<Vec<Vec<u16>>, OutOfMemory>
-    ensures { IfOk result (λ v. each_columns v.items ≡ map columns_kept traces.items) }
+    node: u64,
+    facts: &NodeFacts,
+    traces: &[Trace],
+    marks: &[bool],
+) -> Result<Vec<Vec<u16>>, CertError>
+    requires { AreGood node (seen_of facts.now) (lean_traces traces.now) }
+    ensures columns { IfOk result (λ v. HaveColumns (is_marked_by marks.now) (lean_traces traces.now) (each_columns v.items)) }
+    ensures refused { IfErr result (λ e. e ≢ CertError.OutOfMemory → ⊥) }
 {
-    let mut list = Vec::with_capacity(alloc, traces.len())?;
+    let mut list = Vec::new(alloc);
     for trace in traces {
-        list.push(own_columns(alloc, trace))?;
+        let is_asked = is_marked(marks, list.len());
+        let columns = columns_if(alloc, node, facts, trace, is_asked)?;
+        push_columns(&mut list, columns)?;
     }
     Ok(list)
 }
 
-/// What an entry of a node with `columns` columns keeps, by its traces.
+/// What an entry of a node with `columns` columns keeps, where its traces are good over the given facts.
 pub(crate) fn keeps_of(
     alloc: Global,
     columns: u16,
+    node: u64,
+    facts: &NodeFacts,
     entry: &Node,
-    traces: Vec<Option<Box<Followed>>>,
-) -> Result<Keeps, OutOfMemory>
+) -> Result<Keeps, CertError>
     requires plain { ArePlain columns (rules.kept_facts (lean_of entry.now)) }
-    requires traces { HaveColumns (lean_of entry.now) (map columns_kept traces.items) }
-    ensures { IfOk result (λ k. facts_kept k ≡ rules.kept_facts (lean_of entry.now)) }
+    requires good { AreGood node (seen_of facts.now) (lean_of entry.now).traces }
+    ensures kept { IfOk result (λ k. facts_kept k ≡ rules.kept_facts (lean_of entry.now)) }
+    ensures refused { IfErr result (λ e. e ≢ CertError.OutOfMemory → ⊥) }
 {
-    let traces = columns_of_each(alloc, traces)?;
+    let marks = traces_of_kept(alloc, entry)?;
+    let traces = columns_of_each(alloc, node, facts, &entry.traces, &marks)?;
     let list = kept_list(alloc, columns, entry, &traces)?;
     Ok(Keeps { traces, list })
 }

@@ -1,9 +1,9 @@
 //! Whether a certificate is valid for a plan and a schema.
 //!
 //! `verify` checks the version and the number of entries, and `nodes` goes through the entries in postorder. For each `entry`, `trace`
-//! follows its traces over the facts of wd_node_facts, each once, and `evidence` holds those that claims name (`named`) for the checks of
-//! `kept` facts and of the `rules` of calls and limits. wd_rules defines a valid certificate over tests of members; the code has the members as the sets of bits
-//! of wd_sets.
+//! follows its traces over the facts of wd_node_facts, and `evidence` holds those that a call, the limit or several kept facts name
+//! (`named`), for the checks of `kept` facts and of the `rules` of calls and limits; one that a single kept fact names is followed again
+//! for it. wd_rules defines a valid certificate over tests of members; the code has the members as the sets of bits of wd_sets.
 #![tactic(auto)]
 
 mod entry;

@@ -1,7 +1,8 @@
-//! The traces that the claims of an entry name. The others are judged, and nothing is kept of them.
+//! Which traces the claims of an entry name. One that a single kept fact names is followed again when that fact is judged, so that nothing
+//! is kept of it, and one that no claim names is judged alone.
 
 ghost use Rattle.std.specs.Prelude.{◌≡◌, ◌||◌, ℕ, true, map, nat_eq, IfOk};
-ghost use Rattle.wd_certificate.specs.Certificates.{kept_of, node_of};
+ghost use Rattle.wd_certificate.specs.Certificates.{kept_of};
 ghost use Rattle.wd_certificate.specs.Json.{rule_trace};
 ghost use Rattle.wd_verify.specs.Lean.{lean_of};
 ghost use Rattle.wd_verify.specs.Named as spec;
@@ -69,13 +70,36 @@ fn mark_calls(marks: &mut [bool], rules: &[Rule])
     }
 }
 
-/// A mark for each trace, set where a claim of the entry names it.
-#[tactic(auto, using(crate::proofs::NamedTraces::lean_named, crate::proofs::NamedTraces::any_named))]
-pub(crate) fn named_traces(alloc: Global, entry: &Node) -> Result<Vec<bool>, OutOfMemory>
-    ensures { IfOk result (λ v. (n : ℕ) → spec.is_named (lean_of entry.now) n ≡ true → spec.is_marked v.items n ≡ true) }
+/// Marks the traces that more than one kept fact names.
+fn mark_shared(alloc: Global, marks: &mut [bool], keep: &[Kept]) -> Result<(), OutOfMemory> {
+    let mut once = vec![in alloc; false; marks.len()]?;
+    for kept in keep {
+        if is_marked(&once, kept.trace as usize) {
+            mark(marks, kept.trace);
+        } else {
+            mark(&mut once, kept.trace);
+        }
+    }
+    Ok(())
+}
+
+/// A mark for each trace, set where a kept fact names it.
+#[tactic(auto, using(crate::proofs::NamedTraces::lean_named))]
+pub(crate) fn traces_of_kept(alloc: Global, entry: &Node) -> Result<Vec<bool>, OutOfMemory>
+    ensures { IfOk result (λ v. (n : ℕ) → spec.is_of_kept (lean_of entry.now).keep n ≡ true → spec.is_marked v.items n ≡ true) }
 {
     let mut marks = vec![in alloc; false; entry.traces.len()]?;
     mark_kept(&mut marks, &entry.keep);
+    Ok(marks)
+}
+
+/// A mark for each trace that is kept once it was followed, since a call or the limit names it, or more than one kept fact.
+#[tactic(auto, using(crate::proofs::NamedTraces::any_named))]
+pub(crate) fn traces_to_keep(alloc: Global, entry: &Node) -> Result<Vec<bool>, OutOfMemory>
+    ensures { IfOk result (λ v. (n : ℕ) → spec.is_of_rules (lean_of entry.now) n ≡ true → spec.is_marked v.items n ≡ true) }
+{
+    let mut marks = vec![in alloc; false; entry.traces.len()]?;
+    mark_shared(alloc, &mut marks, &entry.keep)?;
     mark_calls(&mut marks, &entry.calls);
     mark_named(&mut marks, entry.limit);
     Ok(marks)

@@ -268,7 +268,12 @@ fn meet(followed: &mut Followed, column: u16) -> Result<(), OutOfMemory>
 
 /// The columns from which a trace starts; each has to be a column of the facts.
 #[tactic(auto, using(crate::proofs::Members::one_more, crate::proofs::Members::not_started, crate::proofs::Once::once_first))]
-fn start(alloc: Global, node: u64, facts: &NodeFacts, trace: &Trace) -> Result<Followed, CertError>
+pub(crate) fn start(
+    alloc: Global,
+    node: u64,
+    facts: &NodeFacts,
+    trace: &Trace,
+) -> Result<Followed, CertError>
     ensures below { IfOk result (λ _. list_all (λ c. nat_lt c facts.now.columns) trace.now.from.items ≡ true) }
     ensures from { IfOk result (λ f. f.from.items ≡ columns_once trace.now.from.items) }
     ensures named { IfOk result (λ f. (m : AMember) → has f.set m ≡ stands_in (columns_named trace.now.from.items) m) }

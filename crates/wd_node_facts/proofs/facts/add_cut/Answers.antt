@@ -1,4 +1,4 @@
-use Rattle.std.proofs.Common.{◌≡◌, ◌∙◌, ap, map, slice_get, sym}
+use Rattle.std.proofs.Common.{◌≡◌, ◌∙◌, ap, slice_get, sym}
 use Rattle.std.proofs.lemmas.Result.{IfOk-weaker}
 use Rattle.wd_step_facts.specs.Facts.{columns_named}
 use Rattle.wd_node_facts.specs.Seen.{columns_or_none, each_columns, fact_by}

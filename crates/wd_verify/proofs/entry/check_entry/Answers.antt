@@ -1,17 +1,23 @@
-use Rattle.std.proofs.Common.{subst, sym}
+use Rattle.std.proofs.Common.{◌≡◌, subst, sym}
+use Rattle.std.proofs.lemmas.Result.{IfOk-weaker}
 use Rattle.wd_plan.specs.Fits.{width}
 use Rattle.wd_plan.specs.Plans.{plan_of}
 use Rattle.wd_facts.specs.Laws.{ArePlain}
 use Rattle.wd_rules.specs.Rules.{kept_facts}
 use Rattle.wd_rules.proofs.Kept.{entry_plain}
+use Rattle.wd_node_facts.specs.Seen.{facts_kept, seen_of}
 use Rattle.wd_verify.specs.Lean.{lean_of}
-use Rattle.wd_node_facts.specs.Seen.{seen_of}
+use Rattle.wd_verify.specs.Shown.{AreGood}
 use Rattle.wd_verify.proofs.entry.check_entry.Goals as goal
 
 pub keeps_of-requires-clause-plain : goal.keeps_of-requires-clause-plain
 keeps_of-requires-clause-plain c =
-    subst (λ w. ArePlain w (kept_facts (lean_of c.args.entry.now))) (sym c.width.ensures) (entry_plain c.args.node (seen_of c.in_ok-facts.facts) (plan_of c.args.plan.now) (lean_of c.args.entry.now) c.in_ok-traces.ensures.passed)
+    subst (λ w. ArePlain w (kept_facts (lean_of c.args.entry.now))) (sym c.width.ensures) (entry_plain c.args.node (seen_of c.in_ok-facts.facts) (plan_of c.args.plan.now) (lean_of c.args.entry.now) c.in_ok-facts-2.ensures.passed)
+
+pub keeps_of-requires-clause-good : goal.keeps_of-requires-clause-good
+keeps_of-requires-clause-good c = subst (λ facts. AreGood c.args.node (seen_of facts) (lean_of c.args.entry.now).traces) (sym c.in_ok-facts-2.ensures.facts) c.in_ok-facts-2.ensures.good
 
 pub returns-clause-plain : goal.returns-clause-plain
 returns-clause-plain c =
-    subst (ArePlain (width (plan_of c.args.plan.now))) (sym c.in_ok-keeps.ensures) (entry_plain c.args.node (seen_of c.in_ok-facts.facts) (plan_of c.args.plan.now) (lean_of c.args.entry.now) c.in_ok-traces.ensures.passed)
+    IfOk-weaker c.keeps_of.result (λ k. facts_kept k ≡ kept_facts (lean_of c.args.entry.now)) (λ k. ArePlain (width (plan_of c.args.plan.now)) (facts_kept k))
+    (λ k is. subst (ArePlain (width (plan_of c.args.plan.now))) (sym is) (entry_plain c.args.node (seen_of c.in_ok-facts.facts) (plan_of c.args.plan.now) (lean_of c.args.entry.now) c.in_ok-facts-2.ensures.passed)) c.keeps_of.ensures.kept
