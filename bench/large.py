@@ -33,10 +33,20 @@ FACTS = b'{"nodes":[{"calls":[],"keep":['
 FACTS_END = b'],"limit":null,"traces":[{"from":[0],"uses":[]}]}' + ABOVE
 TRACES = b'],"limit":null,"traces":['
 
-# A query whose seventh node, of eight, is a join of 1,024 columns.
-WIDE_SCHEMA = b"CREATE TABLE t (c0 BIGINT" + b"".join(b", c%d BIGINT" % number for number in range(1, 256)) + b");\n"
-WIDE_QUERY = b"SELECT a.c0 FROM t AS a, t AS b, t AS c, t AS d\n"
+# A query whose seventh node, of eight, is a join of 1,024 columns. Each of its rows is one by the first column.
+WIDE_SCHEMA = b"CREATE TABLE t (c0 BIGINT PRIMARY KEY" + b"".join(b", c%d BIGINT" % number for number in range(1, 256)) + b");\n"
+WIDE_QUERY = b"SELECT a.c0 FROM t AS a" + b"".join(b" JOIN t AS %s ON a.c0 = %s.c0" % (name, name) for name in (b"b", b"c", b"d")) + b"\n"
 WIDE_FACTS = b'{"nodes":[' + b'{"calls":[],"keep":[],"limit":null,"traces":[]},' * 6 + FACTS.removeprefix(b'{"nodes":[')
+SCAN = b'{"calls":[],"keep":[{"to":["row"],"trace":0}],"limit":null,"traces":[{"from":[0],"uses":[0]}]},'
+JOIN = b'{"calls":[],"keep":[%s],"limit":null,"traces":[{"from":[0],"uses":[0,2,1]},{"from":[%s],"uses":[]}]},'
+ROWS_JOINED = JOIN % (b'{"to":["row"],"trace":0}', b"")
+ALL = b",".join(b"%d" % column for column in range(1024))
+# The first column gives all of them, and these give themselves, a thousand times.
+KEPT = b'{"to":[%s],"trace":0}' % ALL + b',{"to":[0],"trace":1}' * 1000
+BELOW = b'{"nodes":[' + SCAN + (SCAN + ROWS_JOINED) * 2 + SCAN + JOIN % (KEPT, ALL) + ENTRY.removeprefix(b'{"nodes":[')
+# In the node above the output gives the first column, and this all of them.
+USED_ONCE = b'{"from":[0],"uses":[1002,0]}'
+USED_EACH = b'{"from":[0],"uses":[1002,0,%s]}' % b",".join(b"%d" % number for number in range(1, 1001))
 
 
 class Named(typing.NamedTuple):
@@ -70,6 +80,8 @@ CERTIFICATES = {
     "kept facts of one": (FACTS + b'{"to":[0],"trace":0}', b',{"to":[0],"trace":0}', FACTS_END),
 }
 WIDE_CERTIFICATES = {
+    "traces to 1,024 columns": (BELOW + USED_ONCE, b"," + USED_ONCE, ENTRY_END),
+    "traces by 1,000 such facts": (BELOW + USED_EACH, b"," + USED_EACH, ENTRY_END),
     "traces of 1,024, each named": Named(WIDE_FACTS, b'{"to":[],"trace":%d}', 1, b'{"from":[1023],"uses":[]}'),
     "the same, each named twice": Named(WIDE_FACTS, b'{"to":[],"trace":%d}', 2, b'{"from":[1023],"uses":[]}'),
 }

@@ -1,6 +1,6 @@
 //! Sets of members.
 
-ghost use Rattle.std.specs.Prelude.{◌≡◌, ◌<◌, ◌/◌, ℕ, false, not, ◌||◌, nat_eq, length, IfOk, IfErr, get_or};
+ghost use Rattle.std.specs.Prelude.{◌≡◌, ◌<◌, ◌≤◌, ◌/◌, ℕ, true, false, not, ◌||◌, nat_eq, length, IfOk, IfErr, IsTrue, get_or};
 ghost use Rattle.wd_step_facts.specs.declared.facts.Member.{Member as AMember};
 ghost use Rattle.wd_sets.specs.Sets.{same_member};
 ghost use Rattle.wd_sets.specs.Sets as spec;
@@ -40,17 +40,49 @@ fn set_bit(words: &mut [u64], at: usize)
     words[at / 64] |= 1u64 << (at % 64);
 }
 
-/// Appends words until there is one for the bit, with no room beyond: sets are kept by the million.
-fn widen(words: &mut Vec<u64>, most: usize) -> Result<(), OutOfMemory>
-    requires small { most < 65536 }
-    ensures within { IfOk result (λ _. most < length words.new.items) }
+/// Appends words until there are so many, with no room beyond: sets are kept by the million.
+fn widen(words: &mut Vec<u64>, count: usize) -> Result<(), OutOfMemory>
+    ensures within { IfOk result (λ _. count ≤ length words.new.items) }
     ensures bits { (i : ℕ) → get_or words.new.items i 0 ≡ get_or words.old.items i 0 }
 {
-    words.reserve_exact((most + 1).saturating_sub(words.len()))?;
-    while words.len() <= most {
+    words.reserve_exact(count.saturating_sub(words.len()))?;
+    while words.len() < count {
         words.push(0)?;
     }
     Ok(())
+}
+
+/// Adds the bits of other words.
+fn or_words(words: &mut [u64], others: &[u64])
+    requires { length others.now ≤ length words.old }
+    ensures { (i : ℕ) → spec.has_bit words.new i ≡ (spec.has_bit words.old i || spec.has_bit others.now i) }
+{
+    for (at, other) in others.iter().enumerate() {
+        words[at] |= *other;
+    }
+}
+
+/// The word with a number, which is empty past the last.
+fn word_at(words: &[u64], at: usize) -> u64
+    ensures { result ≡ get_or words.now at 0 }
+{
+    match words.get(at) {
+        Some(word) => *word,
+        None => 0,
+    }
+}
+
+/// Whether each bit of the words is set in one of two others.
+fn are_within(words: &[u64], first: &[u64], second: &[u64]) -> bool
+    ensures { IsTrue result → (i : ℕ) → spec.has_bit words.now i ≡ true → (spec.has_bit first.now i || spec.has_bit second.now i) ≡ true }
+{
+    for (at, word) in words.iter().enumerate() {
+        let among = word_at(first, at) | word_at(second, at);
+        if *word | among != among {
+            return false;
+        }
+    }
+    true
 }
 
 /// A set of columns, the sides of a Join and the row, as bits; it grows with its members.
@@ -86,11 +118,31 @@ impl Set {
         ensures kept { IfErr result (λ _. (m : AMember) → spec.has self.new m ≡ spec.has self.old m) }
     {
         let at = place(member);
-        widen(&mut self.words, at / 64)?;
+        widen(&mut self.words, at / 64 + 1)?;
         if has_bit(&self.words, at) {
             return Ok(false);
         }
         set_bit(&mut self.words, at);
         Ok(true)
+    }
+
+    /// Adds all members of another set.
+    ///
+    /// # Errors
+    /// Where memory runs out; the set is then unchanged.
+    pub fn insert_all(&mut self, other: &Set) -> Result<(), OutOfMemory>
+        ensures has { IfOk result (λ _. (m : AMember) → spec.has self.new m ≡ (spec.has self.old m || spec.has other.now m)) }
+        ensures kept { IfErr result (λ _. (m : AMember) → spec.has self.new m ≡ spec.has self.old m) }
+    {
+        widen(&mut self.words, other.words.len())?;
+        or_words(&mut self.words, &other.words);
+        Ok(())
+    }
+
+    /// Whether each member is in one of two other sets, by a look at whole words.
+    pub fn is_within(&self, first: &Set, second: &Set) -> bool
+        ensures { IsTrue result → (m : AMember) → spec.has self.now m ≡ true → (spec.has first.now m || spec.has second.now m) ≡ true }
+    {
+        are_within(&self.words, &first.words, &second.words)
     }
 }

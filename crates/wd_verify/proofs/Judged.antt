@@ -20,7 +20,7 @@ use Rattle.wd_verify.proofs.LeanEntry.{kept_lean}
 
 module _ (evidence : Evidence) (traces : List Trace) (columns : ℕ) (kept : KeptRecord) (followed : IsFollowed evidence traces) where
   abbrev facts : FactList
-  facts = seen_of evidence.facts
+  facts = seen_of evidence.known.facts
 
   abbrev refusal : Option CertError
   refusal = claim_refusal (evidence_with evidence traces) columns (lean_kept kept)

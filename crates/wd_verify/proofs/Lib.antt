@@ -13,3 +13,4 @@ pub mod Members
 pub mod NamedTraces
 pub mod Once
 pub mod Used
+pub mod Wide

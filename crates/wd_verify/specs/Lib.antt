@@ -1,3 +1,4 @@
+pub mod Known
 pub mod Lean
 pub mod Named
 pub mod Shown

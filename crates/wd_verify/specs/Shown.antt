@@ -69,11 +69,11 @@ abbrev pub shown_by : Evidence → List Traced
 shown_by evidence = map (traced_or (traced_of evidence.unnamed)) evidence.traces.items
 
 abbrev pub evidence_of : Evidence → EvidenceRecord
-evidence_of evidence = record { node = evidence.node; facts = seen_of evidence.facts; shown = shown_by evidence }
+evidence_of evidence = record { node = evidence.node; facts = seen_of evidence.known.facts; shown = shown_by evidence }
 
 -- the traces of an entry were followed
 abbrev pub IsFollowed : Evidence → List Trace → Type 0
-IsFollowed evidence traces = AreOwn evidence.node (seen_of evidence.facts) (lean_traces traces) evidence.traces.items
+IsFollowed evidence traces = AreOwn evidence.node (seen_of evidence.known.facts) (lean_traces traces) evidence.traces.items
 
 -- what good traces show
 abbrev pub shown_or_none : Result (List Traced) CertError → List Traced
@@ -84,8 +84,8 @@ shown_or_none (Err refusal) = []
 abbrev pub evidence_with : Evidence → List Trace → EvidenceRecord
 evidence_with evidence traces = record {
   node = evidence.node;
-  facts = seen_of evidence.facts;
-  shown = shown_or_none (each_traced evidence.node (seen_of evidence.facts) (lean_traces traces));
+  facts = seen_of evidence.known.facts;
+  shown = shown_or_none (each_traced evidence.node (seen_of evidence.known.facts) (lean_traces traces));
 }
 
 -- the refusal of a kept fact by the trace that it names

@@ -8,18 +8,20 @@ ghost use Rattle.wd_facts.specs.Given.{given as given_facts};
 ghost use Rattle.wd_facts.specs.Laws.{AreOfChildren, ArePlain};
 ghost use Rattle.wd_rules.specs.Rules as rules;
 ghost use Rattle.wd_verify.specs.Lean.{lean_of};
-ghost use Rattle.wd_node_facts.specs.Seen.{AreNarrow, HasNoOther, facts_kept, seen_of};
+ghost use Rattle.wd_node_facts.specs.Seen.{HasNoOther, facts_kept, seen_of};
+ghost use Rattle.wd_verify.specs.Known.{AreKnown};
 ghost use Rattle.wd_verify.specs.Named.{is_of_rules};
 ghost use Rattle.wd_verify.specs.Shown.{AreFollowed, AreGood, evidence_of};
 
 use crate::evidence::{Evidence, follow_each};
 use crate::kept::{check_keep, keeps_of};
+use crate::known::{Known, with_sets};
 use crate::named::traces_to_keep;
 use crate::rules::{check_limit, check_window};
 use crate::trace::Followed;
 use std::alloc::Global;
 use wd_certificate::{CertError, Node};
-use wd_node_facts::{Keeps, NodeFacts, facts_at};
+use wd_node_facts::{Keeps, facts_at};
 use wd_plan::Plan;
 use wd_schema::Schema;
 
@@ -65,44 +67,45 @@ fn check_claims(
     entry: &Node,
 ) -> Result<(), CertError>
     requires fits { fitting.fits (schema_of schema.now) (plan_of plan.now) ≡ true }
-    requires narrow { AreNarrow evidence.now.facts }
-    requires followed { AreFollowed evidence.now.node (seen_of evidence.now.facts) (lean_of entry.now).traces (is_of_rules (lean_of entry.now)) evidence.now.traces.items }
-    ensures passed { IfOk result (λ _. rules.entry_refusal evidence.now.node (seen_of evidence.now.facts) (plan_of plan.now) (lean_of entry.now) ≡ None) }
-    ensures refused { IfErr result (λ e. e ≢ CertError.OutOfMemory → rules.entry_refusal evidence.now.node (seen_of evidence.now.facts) (plan_of plan.now) (lean_of entry.now) ≡ Some e) }
+    requires known { AreKnown evidence.now.known }
+    requires followed { AreFollowed evidence.now.node (seen_of evidence.now.known.facts) (lean_of entry.now).traces (is_of_rules (lean_of entry.now)) evidence.now.traces.items }
+    ensures passed { IfOk result (λ _. rules.entry_refusal evidence.now.node (seen_of evidence.now.known.facts) (plan_of plan.now) (lean_of entry.now) ≡ None) }
+    ensures refused { IfErr result (λ e. e ≢ CertError.OutOfMemory → rules.entry_refusal evidence.now.node (seen_of evidence.now.known.facts) (plan_of plan.now) (lean_of entry.now) ≡ Some e) }
 {
     check_keep(alloc, evidence, width(plan), &entry.traces, &entry.keep)?;
     check_rules(alloc, evidence, plan, schema, entry)
 }
 
-/// Follows the traces of an entry over the given facts of its node, and checks the entry's claims by them; the result is the facts.
+/// Follows the traces of an entry over the given facts of its node, and checks the entry's claims by them; the result is what is known.
 fn judge_entry(
     alloc: Global,
     plan: &Plan,
     schema: &Schema,
     node: u64,
     entry: &Node,
-    facts: NodeFacts,
-) -> Result<NodeFacts, CertError>
+    known: Known,
+) -> Result<Known, CertError>
     requires fits { fitting.fits (schema_of schema.now) (plan_of plan.now) ≡ true }
-    requires narrow { AreNarrow facts }
-    ensures facts { IfOk result (λ f. f ≡ facts) }
-    ensures good { IfOk result (λ _. AreGood node (seen_of facts) (lean_of entry.now).traces) }
-    ensures passed { IfOk result (λ _. rules.entry_refusal node (seen_of facts) (plan_of plan.now) (lean_of entry.now) ≡ None) }
-    ensures refused { IfErr result (λ e. e ≢ CertError.OutOfMemory → rules.entry_refusal node (seen_of facts) (plan_of plan.now) (lean_of entry.now) ≡ Some e) }
+    requires known { AreKnown known }
+    ensures same { IfOk result (λ k. k ≡ known) }
+    ensures good { IfOk result (λ _. AreGood node (seen_of known.facts) (lean_of entry.now).traces) }
+    ensures passed { IfOk result (λ _. rules.entry_refusal node (seen_of known.facts) (plan_of plan.now) (lean_of entry.now) ≡ None) }
+    ensures refused { IfErr result (λ e. e ≢ CertError.OutOfMemory → rules.entry_refusal node (seen_of known.facts) (plan_of plan.now) (lean_of entry.now) ≡ Some e) }
 {
     let marks = traces_to_keep(alloc, entry)?;
-    let traces = follow_each(alloc, node, &facts, &entry.traces, &marks)?;
+    let traces = follow_each(alloc, node, &known, &entry.traces, &marks)?;
     let evidence = Evidence {
         node,
-        facts,
+        known,
         traces,
         unnamed: Followed::new(alloc),
     };
     check_claims(alloc, &evidence, plan, schema, entry)?;
-    Ok(evidence.facts)
+    Ok(evidence.known)
 }
 
 /// Checks the entry of a plan's top node, where the children keep the given facts; the result is what the entry keeps itself.
+#[tactic(auto, using(wd_plan::proofs::Ranges::narrow))]
 pub(crate) fn check_entry(
     alloc: Global,
     plan: &Plan,
@@ -121,6 +124,7 @@ pub(crate) fn check_entry(
     ensures refused { IfErr result (λ e. e ≢ CertError.OutOfMemory → rules.entry_refusal node (given_facts (schema_of schema.now) (plan_of plan.now) (facts_kept left) (facts_kept right)) (plan_of plan.now) (lean_of entry.now) ≡ Some e) }
 {
     let facts = facts_at(alloc, plan, schema, left, right)?;
-    let facts = judge_entry(alloc, plan, schema, node, entry, facts)?;
-    keeps_of(alloc, width(plan), node, &facts, entry)
+    let known = with_sets(alloc, facts)?;
+    let known = judge_entry(alloc, plan, schema, node, entry, known)?;
+    keeps_of(alloc, width(plan), node, &known.facts, entry)
 }

@@ -1,26 +1,27 @@
 //! What the checks of an entry read: the given facts, and of the traces, which were followed one after another, those that were kept.
 
-ghost use Rattle.std.specs.Prelude.{◌≡◌, ◌≢◌, map, slice_get, None, Ok, Err, Some, IfOk, IfErr, IfSome};
+ghost use Rattle.std.specs.Prelude.{◌≡◌, ◌≢◌, slice_get, None, Ok, Err, Some, IfOk, IfErr, IfSome};
 ghost use Rattle.wd_certificate.specs.declared.error.CertError.TheVariants as error;
 ghost use Rattle.wd_rules.specs.Rules as rules;
 ghost use Rattle.wd_rules.specs.Traces as spec;
 ghost use Rattle.wd_verify.specs.Lean.{lean_traces};
-ghost use Rattle.wd_node_facts.specs.Seen.{AreNarrow, seen_of};
+ghost use Rattle.wd_node_facts.specs.Seen.{seen_of};
+ghost use Rattle.wd_verify.specs.Known.{AreKnown};
 ghost use Rattle.wd_verify.specs.Named.{is_marked as is_marked_by};
 ghost use Rattle.wd_verify.specs.Shown.{AreFollowed, IsAdded, kept_in, refusal_of, shown_by, traced_of};
 
+use crate::known::Known;
 use crate::named::is_marked;
 use crate::trace::{Followed, follow};
 use std::alloc::Global;
 use wd_certificate::{CertError, Trace};
-use wd_node_facts::NodeFacts;
 use wd_value::OutOfMemory;
 
 /// The number of a node, its given facts, and the traces of its entry by their numbers.
 #[derive(Drop)]
 pub(crate) struct Evidence {
     pub(crate) node: u64,
-    pub(crate) facts: NodeFacts,
+    pub(crate) known: Known,
     pub(crate) traces: Vec<Option<Box<Followed>>>,
     /// What stands in place of a trace that was not kept.
     pub(crate) unnamed: Followed,
@@ -80,17 +81,17 @@ fn add(
 pub(crate) fn follow_each(
     alloc: Global,
     node: u64,
-    facts: &NodeFacts,
+    known: &Known,
     traces: &[Trace],
     marks: &[bool],
 ) -> Result<Vec<Option<Box<Followed>>>, CertError>
-    requires { AreNarrow facts.now }
-    ensures followed { IfOk result (λ v. AreFollowed node (seen_of facts.now) (lean_traces traces.now) (is_marked_by marks.now) v.items) }
-    ensures refused { IfErr result (λ e. e ≢ CertError.OutOfMemory → spec.each_traced node (seen_of facts.now) (lean_traces traces.now) ≡ Err e) }
+    requires { AreKnown known.now }
+    ensures followed { IfOk result (λ v. AreFollowed node (seen_of known.now.facts) (lean_traces traces.now) (is_marked_by marks.now) v.items) }
+    ensures refused { IfErr result (λ e. e ≢ CertError.OutOfMemory → spec.each_traced node (seen_of known.now.facts) (lean_traces traces.now) ≡ Err e) }
 {
     let mut list = Vec::new(alloc);
     for trace in traces {
-        let one = follow(alloc, node, facts, trace)?;
+        let one = follow(alloc, node, known, trace)?;
         let is_kept = is_marked(marks, list.len());
         add(alloc, &mut list, one, is_kept)?;
     }

@@ -11,13 +11,16 @@ ghost use Rattle.wd_sets.specs.Sets.{has};
 ghost use Rattle.wd_rules.specs.Rules as rules;
 ghost use Rattle.wd_rules.specs.Traces.{traced};
 ghost use Rattle.wd_verify.specs.Lean.{lean_kept, lean_of, lean_trace, lean_traces, once, once_after};
-ghost use Rattle.wd_node_facts.specs.Seen.{AreNarrow, each_columns, fact_by, facts_kept, seen_of};
+ghost use Rattle.wd_node_facts.specs.Seen.{each_columns, fact_by, facts_kept, seen_of};
+ghost use Rattle.wd_verify.specs.Known.{AreKnown};
 ghost use Rattle.wd_verify.specs.Named.{is_marked as is_marked_by, is_of_kept};
 ghost use Rattle.wd_verify.specs.Shown.{AreGood, HaveColumns, IsFollowed, IsKeptFact, claim_refusal, evidence_with, refusal_of, shown_from, traced_of};
 
 use crate::evidence::Evidence;
 use crate::named::{is_marked, traces_of_kept};
-use crate::trace::{Followed, follow, reaches, start};
+use crate::known::Known;
+use crate::reached::reaches;
+use crate::trace::{Followed, follow, start};
 use std::alloc::Global;
 use wd_certificate::{CertError, Kept, Node, PackedTarget, Target, Trace};
 use wd_facts::Member;
@@ -94,17 +97,17 @@ fn check_kept(
 fn check_again(
     alloc: Global,
     node: u64,
-    facts: &NodeFacts,
+    known: &Known,
     columns: u16,
     targets: &[PackedTarget],
     trace: &Trace,
 ) -> Result<(), CertError>
-    requires { AreNarrow facts.now }
-    ensures passed { IfOk result (λ _. (h : AMember → Bool) → traced node (seen_of facts.now) (lean_trace (trace_of trace.now)) ≡ Ok h → rules.kept_refusal node (seen_of facts.now) columns targets.now (Some (shown_from (lean_trace (trace_of trace.now)) h)) ≡ None) }
-    ensures refused { IfErr result (λ e. e ≢ CertError.OutOfMemory → (h : AMember → Bool) → traced node (seen_of facts.now) (lean_trace (trace_of trace.now)) ≡ Ok h → rules.kept_refusal node (seen_of facts.now) columns targets.now (Some (shown_from (lean_trace (trace_of trace.now)) h)) ≡ Some e) }
+    requires { AreKnown known.now }
+    ensures passed { IfOk result (λ _. (h : AMember → Bool) → traced node (seen_of known.now.facts) (lean_trace (trace_of trace.now)) ≡ Ok h → rules.kept_refusal node (seen_of known.now.facts) columns targets.now (Some (shown_from (lean_trace (trace_of trace.now)) h)) ≡ None) }
+    ensures refused { IfErr result (λ e. e ≢ CertError.OutOfMemory → (h : AMember → Bool) → traced node (seen_of known.now.facts) (lean_trace (trace_of trace.now)) ≡ Ok h → rules.kept_refusal node (seen_of known.now.facts) columns targets.now (Some (shown_from (lean_trace (trace_of trace.now)) h)) ≡ Some e) }
 {
-    let followed = follow(alloc, node, facts, trace)?;
-    check_kept(node, facts, columns, targets, &followed)
+    let followed = follow(alloc, node, known, trace)?;
+    check_kept(node, &known.facts, columns, targets, &followed)
 }
 
 /// Checks a kept fact, by the trace that it names.
@@ -115,7 +118,7 @@ fn check_claim(
     traces: &[Trace],
     kept: &Kept,
 ) -> Result<(), CertError>
-    requires narrow { AreNarrow evidence.now.facts }
+    requires known { AreKnown evidence.now.known }
     requires followed { IsFollowed evidence.now traces.now }
     ensures passed { IfOk result (λ _. claim_refusal (evidence_with evidence.now traces.now) columns (lean_kept (kept_of kept.now)) ≡ None) }
     ensures refused { IfErr result (λ e. e ≢ CertError.OutOfMemory → claim_refusal (evidence_with evidence.now traces.now) columns (lean_kept (kept_of kept.now)) ≡ Some e) }
@@ -125,8 +128,8 @@ fn check_claim(
     match traces.get(number) {
         None => Err(CertError::OutOfRange { node }),
         Some(trace) => match evidence.kept(number) {
-            Some(followed) => check_kept(node, &evidence.facts, columns, &kept.to, followed),
-            None => check_again(alloc, node, &evidence.facts, columns, &kept.to, trace),
+            Some(followed) => check_kept(node, &evidence.known.facts, columns, &kept.to, followed),
+            None => check_again(alloc, node, &evidence.known, columns, &kept.to, trace),
         },
     }
 }
@@ -139,7 +142,7 @@ pub(crate) fn check_keep(
     traces: &[Trace],
     keep: &[Kept],
 ) -> Result<(), CertError>
-    requires narrow { AreNarrow evidence.now.facts }
+    requires known { AreKnown evidence.now.known }
     requires followed { IsFollowed evidence.now traces.now }
     ensures passed { IfOk result (λ _. rules.keep_refusal (evidence_with evidence.now traces.now) columns (map lean_kept (map kept_of keep.now)) ≡ None) }
     ensures refused { IfErr result (λ e. e ≢ CertError.OutOfMemory → rules.keep_refusal (evidence_with evidence.now traces.now) columns (map lean_kept (map kept_of keep.now)) ≡ Some e) }

@@ -1,6 +1,6 @@
 //! The rules of an entry's calls and of its limit, by its traces.
 
-ghost use Rattle.std.specs.Prelude.{◌≡◌, ◌≢◌, ◌<◌, ◌||◌, ◌++◌, ℕ, [], true, length, map, slice_index_or, None, Some, IfOk, IfErr};
+ghost use Rattle.std.specs.Prelude.{◌≡◌, ◌≢◌, ◌<◌, ◌||◌, ◌++◌, [], true, length, map, None, Some, IfOk, IfErr};
 ghost use Rattle.std.specs.List.{list_all};
 ghost use Rattle.wd_value.specs.Keys.{key_columns};
 ghost use Rattle.wd_plan.specs.Outcomes.{class_at};
@@ -16,7 +16,8 @@ ghost use Rattle.wd_node_facts.specs.Seen.{seen_of};
 ghost use Rattle.wd_verify.specs.Shown.{evidence_of, refusal_of, traced_of};
 
 use crate::evidence::{Evidence, refuse_unless};
-use crate::trace::{Followed, reaches, reaches_each};
+use crate::reached::{reaches, reaches_each};
+use crate::trace::Followed;
 use std::alloc::Global;
 use wd_certificate::{CertError, Rule};
 use wd_facts::Member;
@@ -139,7 +140,7 @@ fn check_call(
 ) -> Result<(), CertError>
     ensures { refusal_of result ≡ spec.call_refusal (evidence_of evidence.now) columns (has_column among.now) call.now rule }
 {
-    let facts = &evidence.facts;
+    let facts = &evidence.known.facts;
     let holds = match rule {
         Rule::Peers => call.is_by_peers(),
         Rule::Unique(number) => shows(facts, among, &[Member::Row], evidence.trace(number)?),
@@ -298,7 +299,7 @@ pub(crate) fn check_limit(
         None => refuse_unless(is_whole_or_ties(limit), refusal),
         Some(number) => {
             let trace = evidence.trace(number)?;
-            let holds = shows_by_keys(alloc, &evidence.facts, &limit.keys, columns, trace)?;
+            let holds = shows_by_keys(alloc, &evidence.known.facts, &limit.keys, columns, trace)?;
             refuse_unless(holds, refusal)
         }
     }

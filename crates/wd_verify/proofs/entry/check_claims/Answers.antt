@@ -17,11 +17,11 @@ keep_passed c =
     (λ i. keep_refusal (evidence_with evidence (sym c.deref.ensures.value i)) (sym c.width.ensures i) (map lean_kept (map kept_of (sym c.deref-2.ensures.value i))))
     ∙ c.in_ok-check_keep.ensures.passed
 
-is : (c : goal.After-check_rules) → entry_refusal c.args.evidence.now.node (seen_of c.args.evidence.now.facts) (plan_of c.args.plan.now) (lean_of c.args.entry.now)
+is : (c : goal.After-check_rules) → entry_refusal c.args.evidence.now.node (seen_of c.args.evidence.now.known.facts) (plan_of c.args.plan.now) (lean_of c.args.entry.now)
     ≡ or_else (keep_refusal (evidence_with c.args.evidence.now c.args.entry.now.traces.items) (width (plan_of c.args.plan.now)) (lean_of c.args.entry.now).keep) (rules_refusal (evidence_of c.args.evidence.now) (plan_of c.args.plan.now) (lean_of c.args.entry.now))
 is c =
     let evidence = c.args.evidence.now in
-    entry_is evidence.node (seen_of evidence.facts) (plan_of c.args.plan.now) (lean_of c.args.entry.now) evidence.traces.items (traced_of evidence.unnamed) c.requires.followed
+    entry_is evidence.node (seen_of evidence.known.facts) (plan_of c.args.plan.now) (lean_of c.args.entry.now) evidence.traces.items (traced_of evidence.unnamed) c.requires.followed
 
 pub returns-clause-passed : goal.returns-clause-passed
 returns-clause-passed c = later_passed _ _ _ (is c) (keep_passed c) c.check_rules.result c.check_rules.ensures.passed

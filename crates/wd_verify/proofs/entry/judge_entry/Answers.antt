@@ -8,7 +8,7 @@ use Rattle.wd_verify.proofs.entry.judge_entry.Goals as goal
 
 pub check_claims-requires-clause-followed : goal.check_claims-requires-clause-followed
 check_claims-requires-clause-followed c =
-    let facts = seen_of c.args.facts in
+    let facts = seen_of c.args.known.facts in
     let entry = lean_of c.args.entry.now in
     let kept = c.in_ok-traces.traces.items in
     fewer_asked c.args.node facts entry.traces (is_marked c.in_ok-marks.marks.items) (is_of_rules entry) kept c.in_ok-marks.ensures

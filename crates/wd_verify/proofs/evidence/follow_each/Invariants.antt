@@ -5,4 +5,4 @@ use Rattle.wd_verify.proofs.Followed.{AreFollowedTo}
 use Rattle.wd_verify.proofs.evidence.follow_each.Given as goal
 
 abbrev pub invariant-loop-trace : goal.invariant-loop-trace
-invariant-loop-trace l = AreFollowedTo l.node (seen_of l.facts) (lean_traces l.traces) (lean_traces (drop l.trace-index l.traces)) l.marks l.list.items
+invariant-loop-trace l = AreFollowedTo l.node (seen_of l.known.facts) (lean_traces l.traces) (lean_traces (drop l.trace-index l.traces)) l.marks l.list.items

@@ -18,7 +18,7 @@ kept_is : (c : goal.After-check_kept) → refusal_of c.check_kept.result ≡ cla
 kept_is c =
     let shown = traced_of c.in-Some-kept.followed.now in
     c.check_kept.ensures
-    ∙ ap (λ targets. kept_refusal c.args.evidence.now.node (seen_of c.args.evidence.now.facts) c.args.columns targets (Some shown)) c.deref.ensures.value
+    ∙ ap (λ targets. kept_refusal c.args.evidence.now.node (seen_of c.args.evidence.now.known.facts) c.args.columns targets (Some shown)) c.deref.ensures.value
     ∙ by_shown c.args.evidence.now c.args.traces.now c.args.columns (kept_of c.args.kept.now) c.requires.followed shown (c.requires.followed.own c.args.kept.now.trace shown c.in-Some-kept.ensures)
 
 pub returns-in-Some-kept-clause-passed : goal.returns-in-Some-kept-clause-passed

@@ -8,6 +8,6 @@ use Rattle.wd_verify.proofs.trace.use_each.Given as goal
 abbrev pub invariant-loop-number : goal.invariant-loop-number
 invariant-loop-number l = record {
   from : l.followed.from.items ≡ l.fn.followed.from.items;
-  used : AreUsed l.node (seen_of l.facts) (has l.followed.set) l.used;
-  uses : with_uses l.node (seen_of l.facts) (has l.followed.set) (drop l.number-index l.uses) ≡ with_uses l.node (seen_of l.facts) (has l.fn.followed.set) l.uses;
+  used : AreUsed l.node (seen_of l.known.facts) (has l.followed.set) l.used;
+  uses : with_uses l.node (seen_of l.known.facts) (has l.followed.set) (drop l.number-index l.uses) ≡ with_uses l.node (seen_of l.known.facts) (has l.fn.followed.set) l.uses;
 }

@@ -8,10 +8,10 @@ use Rattle.wd_verify.proofs.trace.walk.Goals as goal
 
 pub returns-clause-traced : goal.returns-clause-traced
 returns-clause-traced c =
-    let same = after_start c.args.node (seen_of c.args.facts.now) (has c.in_ok-followed.followed.set) (trace_of c.args.trace.now) c.deref.result.now c.in_ok-followed.ensures.below c.in_ok-followed.ensures.named c.deref.ensures.value in
+    let same = after_start c.args.node (seen_of c.args.known.now.facts) (has c.in_ok-followed.followed.set) (trace_of c.args.trace.now) c.deref.result.now c.in_ok-followed.ensures.below c.in_ok-followed.ensures.named c.deref.ensures.value in
     IfOk-weaker c.use_each.result _ _ (λ followed e. same ∙ e) c.use_each.ensures.used
 
 pub returns-clause-refused : goal.returns-clause-refused
 returns-clause-refused c =
-    let same = after_start c.args.node (seen_of c.args.facts.now) (has c.in_ok-followed.followed.set) (trace_of c.args.trace.now) c.deref.result.now c.in_ok-followed.ensures.below c.in_ok-followed.ensures.named c.deref.ensures.value in
+    let same = after_start c.args.node (seen_of c.args.known.now.facts) (has c.in_ok-followed.followed.set) (trace_of c.args.trace.now) c.deref.result.now c.in_ok-followed.ensures.below c.in_ok-followed.ensures.named c.deref.ensures.value in
     IfErr-weaker c.use_each.result _ _ (λ refusal e memory. same ∙ e memory) c.use_each.ensures.refused

@@ -1,6 +1,6 @@
 use Rattle.std.proofs.Common.{arith}
 use Rattle.std.proofs.lemmas.Grind.{common_steps}
-use Rattle.wd_verify.proofs.trace.reaches_columns.Goals as goal
+use Rattle.wd_verify.proofs.reached.reaches_columns.Goals as goal
 
 pub loop-column-preserved : goal.loop-column-preserved
 loop-column-preserved c = grind (arith, common_steps)

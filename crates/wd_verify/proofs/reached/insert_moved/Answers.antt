@@ -1,7 +1,7 @@
 use Rattle.std.proofs.Common.{arith}
 use Rattle.std.proofs.lemmas.Grind.{common_steps}
 use Rattle.wd_verify.proofs.Members.{one_more}
-use Rattle.wd_verify.proofs.trace.insert_moved.Goals as goal
+use Rattle.wd_verify.proofs.reached.insert_moved.Goals as goal
 
 pub loop-member-preserved : goal.loop-member-preserved
 loop-member-preserved c = grind (arith, common_steps, one_more)

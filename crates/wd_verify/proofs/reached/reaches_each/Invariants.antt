@@ -2,7 +2,7 @@ use Rattle.std.proofs.Common.{◌≡◌, drop}
 use Rattle.wd_node_facts.specs.Seen.{seen_of}
 use Rattle.wd_sets.specs.Reaches.{reaches_each}
 use Rattle.wd_sets.specs.Sets.{has}
-use Rattle.wd_verify.proofs.trace.reaches_each.Given as goal
+use Rattle.wd_verify.proofs.reached.reaches_each.Given as goal
 
 abbrev pub invariant-loop-member : goal.invariant-loop-member
 invariant-loop-member l = reaches_each (seen_of l.facts) (has l.set) (drop l.member-index l.members) ≡ reaches_each (seen_of l.facts) (has l.set) l.members

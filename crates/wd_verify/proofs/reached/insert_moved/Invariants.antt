@@ -4,7 +4,7 @@ use Rattle.wd_step_facts.specs.declared.facts.Member.{Member}
 use Rattle.wd_step_facts.specs.Facts.{is_plain, moved}
 use Rattle.wd_sets.specs.Sets.{has}
 use Rattle.wd_sets.specs.Reaches.{also}
-use Rattle.wd_verify.proofs.trace.insert_moved.Given as goal
+use Rattle.wd_verify.proofs.reached.insert_moved.Given as goal
 
 abbrev pub invariant-loop-member : goal.invariant-loop-member
 invariant-loop-member l =
