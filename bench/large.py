@@ -41,6 +41,7 @@ SCAN = b'{"calls":[],"keep":[{"to":["row"],"trace":0}],"limit":null,"traces":[{"
 JOIN = b'{"calls":[],"keep":[%s],"limit":null,"traces":[{"from":[0],"uses":[0,2,1]},{"from":[%s],"uses":[]}]},'
 ROWS_JOINED = JOIN % (b'{"to":["row"],"trace":0}', b"")
 ALL = b",".join(b"%d" % column for column in range(1024))
+KEPT_BY_ALL = b'{"to":[0],"trace":0}'
 # The first column gives all of them, and these give themselves, a thousand times.
 KEPT = b'{"to":[%s],"trace":0}' % ALL + b',{"to":[0],"trace":1}' * 1000
 BELOW = b'{"nodes":[' + SCAN + (SCAN + ROWS_JOINED) * 2 + SCAN + JOIN % (KEPT, ALL) + ENTRY.removeprefix(b'{"nodes":[')
@@ -82,6 +83,7 @@ CERTIFICATES = {
 WIDE_CERTIFICATES = {
     "traces to 1,024 columns": (BELOW + USED_ONCE, b"," + USED_ONCE, ENTRY_END),
     "traces by 1,000 such facts": (BELOW + USED_EACH, b"," + USED_EACH, ENTRY_END),
+    "kept facts by 1,024 columns": (WIDE_FACTS + KEPT_BY_ALL, b"," + KEPT_BY_ALL, TRACES + b'{"from":[' + ALL + b'],"uses":[]}]}' + ABOVE),
     "traces of 1,024, each named": Named(WIDE_FACTS, b'{"to":[],"trace":%d}', 1, b'{"from":[1023],"uses":[]}'),
     "the same, each named twice": Named(WIDE_FACTS, b'{"to":[],"trace":%d}', 2, b'{"from":[1023],"uses":[]}'),
 }

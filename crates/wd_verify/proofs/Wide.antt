@@ -127,10 +127,9 @@ left_half split columns own is m e =
 
 pub right_half : (split columns : ℕ) (own : Set) → IsBetween split columns own → IsHalf member.Right (Some split) columns own
 right_half split columns own is m e =
-    let found = is m e in
-    (
+    let found = is m e in (
       found.0,
       found.1,
       λ h r. or_last (h member.Left && nat_lt found.0 split) (h member.Right && (nat_le split found.0 && nat_lt found.0 columns))
-      (and_true (h member.Right) (nat_le split found.0 && nat_lt found.0 columns) r (and_true (nat_le split found.0) (nat_lt found.0 columns) (not_above split found.0 found.2) (below found.0 columns found.3))),
+          (and_true (h member.Right) (nat_le split found.0 && nat_lt found.0 columns) r (and_true (nat_le split found.0) (nat_lt found.0 columns) (not_above split found.0 found.2) (below found.0 columns found.3))),
     )

@@ -17,8 +17,8 @@ ghost use Rattle.wd_verify.specs.Named.{is_marked as is_marked_by, is_of_kept};
 ghost use Rattle.wd_verify.specs.Shown.{AreGood, HaveColumns, IsFollowed, IsKeptFact, claim_refusal, evidence_with, refusal_of, shown_from, traced_of};
 
 use crate::evidence::Evidence;
-use crate::named::{is_marked, traces_of_kept};
 use crate::known::Known;
+use crate::named::{is_marked, traces_of_kept};
 use crate::reached::reaches;
 use crate::trace::{Followed, follow, start};
 use std::alloc::Global;

@@ -110,12 +110,7 @@ fn add_moved(
 
 /// Adds a child's columns, as they are numbered at the node above.
 #[tactic(auto, using(crate::proofs::Members::one_more))]
-fn insert_columns(
-    set: &mut Set,
-    by: u16,
-    row: Member,
-    columns: &[u16],
-) -> Result<(), OutOfMemory>
+fn insert_columns(set: &mut Set, by: u16, row: Member, columns: &[u16]) -> Result<(), OutOfMemory>
     requires { list_all (is_plain (65536 - by)) (columns_named columns.now) ≡ true }
     ensures { IfOk result (λ _. (m : AMember) → has set.new m ≡ reaching.also (has set.old) (map (moved (λ c. by + c) row) (columns_named columns.now)) m) }
 {
@@ -249,12 +244,7 @@ fn is_covered(known: &Known, set: &Set, wide: &Set) -> bool
 
 /// Whether each member of a side is reached, which the set has if there is one.
 #[tactic(auto, using(crate::proofs::Wide::all_covered))]
-pub(crate) fn reaches_side(
-    known: &Known,
-    set: &Set,
-    wide: Option<&Set>,
-    members: &[Member],
-) -> bool
+pub(crate) fn reaches_side(known: &Known, set: &Set, wide: Option<&Set>, members: &[Member]) -> bool
     requires known { AreKnown known.now }
     requires wide { IfSome wide (λ s. IsSetOf s.now members.now) }
     ensures { result ≡ reaching.reaches_each (seen_of known.now.facts) (has set.now) members.now }

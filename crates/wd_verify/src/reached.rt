@@ -78,7 +78,13 @@ pub(crate) fn insert_each(set: &mut Set, members: &[Member]) -> Result<(), OutOf
 }
 
 /// Whether each of a child's columns is reached with the members of the set.
-pub(crate) fn reaches_columns(facts: &NodeFacts, set: &Set, by: u16, row: Member, columns: &[u16]) -> bool
+pub(crate) fn reaches_columns(
+    facts: &NodeFacts,
+    set: &Set,
+    by: u16,
+    row: Member,
+    columns: &[u16],
+) -> bool
     requires { list_all (is_plain (65536 - by)) (columns_named columns.now) ≡ true }
     ensures { result ≡ reaching.reaches_each (seen_of facts.now) (has set.now) (map (moved (λ c. by + c) row) (columns_named columns.now)) }
 {
@@ -93,7 +99,12 @@ pub(crate) fn reaches_columns(facts: &NodeFacts, set: &Set, by: u16, row: Member
 
 /// Adds a child's members, as they are numbered at the node above.
 #[tactic(auto, using(crate::proofs::Members::one_more))]
-pub(crate) fn insert_moved(set: &mut Set, by: u16, row: Member, members: &[Member]) -> Result<(), OutOfMemory>
+pub(crate) fn insert_moved(
+    set: &mut Set,
+    by: u16,
+    row: Member,
+    members: &[Member],
+) -> Result<(), OutOfMemory>
     requires { list_all (is_plain (65536 - by)) members.now ≡ true }
     ensures { IfOk result (λ _. (m : AMember) → has set.new m ≡ reaching.also (has set.old) (map (moved (λ c. by + c) row) members.now) m) }
 {

@@ -13,7 +13,9 @@ ghost use Rattle.wd_node_facts.specs.Seen.{IsNarrow, each_columns, fact_by, seen
 ghost use Rattle.wd_verify.specs.Known.{AreGivenSets, AreKnown, AreSideSets, IsSetOf};
 ghost use Rattle.wd_verify.specs.Used.{AreUsed, Marks};
 
-use crate::known::{Known, SideSets, insert_moved_side, insert_side, reaches_columns_side, reaches_side, set_at};
+use crate::known::{
+    Known, SideSets, insert_moved_side, insert_side, reaches_columns_side, reaches_side, set_at,
+};
 use std::alloc::Global;
 use std::collections::BTreeSet;
 use wd_certificate::{CertError, Trace};
@@ -157,7 +159,12 @@ fn use_right(node: u64, known: &Known, set: &mut Set, number: usize) -> Result<b
         use_side(node, known, set, &known.facts.right, &known.right, number)
     } else {
         use_given(
-            node, known, set, &known.facts.last, &known.last, number - count,
+            node,
+            known,
+            set,
+            &known.facts.last,
+            &known.last,
+            number - count,
         )
     }
 }
@@ -187,9 +194,7 @@ fn use_number(node: u64, known: &Known, set: &mut Set, number: u64) -> Result<bo
     let number = number as usize;
     let count = known.facts.first.len();
     if number < count {
-        use_given(
-            node, known, set, &known.facts.first, &known.first, number,
-        )
+        use_given(node, known, set, &known.facts.first, &known.first, number)
     } else {
         use_left(node, known, set, number - count)
     }

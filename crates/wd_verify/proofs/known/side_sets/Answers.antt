@@ -30,8 +30,7 @@ loop-number-preserved c =
     let number = c.loop-number.number in
     let h = subst (λ xs. number < length xs) c.deref-kept-items.ensures.value c.loop-number-test.true in
     let is = subst (λ xs. kept ≡ get_or xs number kept) c.deref-kept-items.ensures.value c.kept-item.is in
-    let columns = c.columns_of-columns.ensures ∙ ap (λ xs. columns_or_none (slice_get (each_columns xs) kept.trace)) c.deref.ensures.value in
-    (
+    let columns = c.columns_of-columns.ensures ∙ ap (λ xs. columns_or_none (slice_get (each_columns xs) kept.trace)) c.deref.ensures.value in (
       c.in_ok-add_columns.ensures (trace_side side) (ap (λ cs. map (moved (λ k. side.by + k) side.row) (columns_named cs)) (sym columns)) c.loop-number.invariant.0,
       c.in_ok-add_moved.ensures (kept_side side) (ap (map (moved (λ k. side.by + k) side.row)) (kept_at side.keeps.list.items number kept h is ∙ sym c.deref-in-loop-number.ensures.value)) c.loop-number.invariant.1,
     )

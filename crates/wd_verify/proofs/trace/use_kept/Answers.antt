@@ -9,6 +9,6 @@ pub insert_moved_side-requires-clause-wide : goal.insert_moved_side-requires-cla
 insert_moved_side-requires-clause-wide c =
     let side = c.args.side.now in
     IfSome_then c.set_at-to.result c.set_at-to.ensures (λ s e m.
-        c.requires.sets.to c.args.number s.now (ap (λ xs. set_in (slice_get xs c.args.number)) (sym c.deref-3.ensures.value) ∙ e) m
-        ∙ ap (λ o. stands_in (map (moved (λ k. side.by + k) side.row) (kept_to o)) m) c.requires.at
-        ∙ ap (λ xs. stands_in (map (moved (λ k. side.by + k) side.row) xs) m) (sym c.deref-4.ensures.value))
+    c.requires.sets.to c.args.number s.now (ap (λ xs. set_in (slice_get xs c.args.number)) (sym c.deref-3.ensures.value) ∙ e) m
+    ∙ ap (λ o. stands_in (map (moved (λ k. side.by + k) side.row) (kept_to o)) m) c.requires.at
+    ∙ ap (λ xs. stands_in (map (moved (λ k. side.by + k) side.row) xs) m) (sym c.deref-4.ensures.value))
