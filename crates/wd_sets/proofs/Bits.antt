@@ -1,10 +1,13 @@
 -- Bits of words.
 use Rattle.std.proofs.Common.{◌≡◌, ℕ, Bool, subst, ◌*◌, ◌/◌, ◌%◌, ◌^◌, ◌<◌, ◌≢◌, ◌≤◌, ◌+◌, zero, suc, true, false, max, ◌||◌, List, length, get_or, set, refl, sym, ◌∙◌, ap, arith, eq-eqb, bit_or, nat_eq, nat_lt, inl, inr, ◌⊎◌, w64, if◌then◌else◌}
 use Rattle.std.specs.Int.{bit_at}
-use Rattle.std.proofs.lemmas.Nat.Bits.{bit_at-lt, bit_at-zero, bit_at_or, bit_at_set_same, bit_at_set_other}
+use Rattle.std.proofs.lemmas.Nat.{or_lt}
+use Rattle.std.proofs.lemmas.Nat.Bits.{bit_at-lt, bit_at-suc, bit_at-zero, bit_at_lowest, bit_at_or, bit_at_set_same, bit_at_set_other}
 use Rattle.std.proofs.lemmas.List.{get_or-set_same, get_or-set_other, get_or_past}
 use Rattle.std.proofs.lemmas.Bool.{cases_eq, false≢true}
-use Rattle.wd_sets.specs.Sets.{has_bit}
+use Rattle.wd_step_facts.specs.declared.facts.Member.{Member}
+use Rattle.wd_step_facts.specs.declared.facts.Member.TheVariants.{Column, Left, Right, Row}
+use Rattle.wd_sets.specs.Sets.{has_bit, place}
 
 abbrev bit_put : List ℕ → ℕ → List ℕ
 bit_put words k = set words (k / 64) (bit_or (get_or words (k / 64) 0) (1 * 2 ^ (k % 64) % 18446744073709551616))
@@ -139,3 +142,49 @@ within_all words first second at h before i has = by (order (i / 64) at)
     by : (i / 64 < at) ⊎ (at ≤ i / 64) → (has_bit first i || has_bit second i) ≡ true
     by (inl l) = before i l has
     by (inr l) = absurd (false≢true (sym (past words i (omega (arith, l, h))) ∙ has))
+
+-- ---- words that are not within others
+
+-- two words that differ have a bit in which they do
+differs : (k a b : ℕ) → a < 2 ^ k → b < 2 ^ k → a ≢ b → (i : ℕ) × (i < k) × (bit_at a i ≢ bit_at b i)
+differs zero a b f g ne = absurd (ne (omega arith))
+differs (suc k) a b f g ne = by (cases_eq (a % 2) (b % 2)) (λ apart. differs k (a / 2) (b / 2) (omega arith) (omega arith) apart)
+  where
+    by : (a % 2 ≡ b % 2) ⊎ (a % 2 ≡ b % 2 → ⊥) → (a / 2 ≢ b / 2 → (i : ℕ) × (i < k) × (bit_at (a / 2) i ≢ bit_at (b / 2) i)) → (i : ℕ) × (i < suc k) × (bit_at a i ≢ bit_at b i)
+    by (inl e) later =
+        let found = later (λ h. ne (omega (arith, e, h))) in
+        (suc found.0, omega (arith, found.1), λ h. found.2 (sym (bit_at-suc a found.0) ∙ h ∙ bit_at-suc b found.0))
+    by (inr other) later = (0, omega arith, λ h. other (sym (bit_at_lowest a) ∙ h ∙ bit_at_lowest b))
+
+-- a bit that more words have
+more : (x y : ℕ) → x < 2 → y < 2 → max x y ≢ y → (nat_eq x 1 ≡ true) × (nat_eq y 1 ≡ false)
+more zero zero a b ne = absurd (ne refl)
+more zero (suc zero) a b ne = absurd (ne refl)
+more (suc zero) zero a b ne = (refl, refl)
+more (suc zero) (suc zero) a b ne = absurd (ne refl)
+more (suc (suc x)) y a b ne = absurd (omega arith)
+more x (suc (suc y)) a b ne = absurd (omega arith)
+
+pub outside : (words first second : List ℕ) (at : ℕ) → get_or words at 0 < 2 ^ 64 → get_or first at 0 < 2 ^ 64 → get_or second at 0 < 2 ^ 64
+    → bit_or (get_or words at 0) (bit_or (get_or first at 0) (get_or second at 0)) ≢ bit_or (get_or first at 0) (get_or second at 0)
+    → (i : ℕ) × (has_bit words i ≡ true) × ((has_bit first i || has_bit second i) ≡ false)
+outside words first second at f g h ne =
+    let word = get_or words at 0 in
+    let among = bit_or (get_or first at 0) (get_or second at 0) in
+    let both = or_lt 64 (get_or first at 0) (get_or second at 0) g h in
+    let found = differs 64 (bit_or word among) among (or_lt 64 word among f both) both ne in
+    let own = more (bit_at word found.0) (bit_at among found.0) (bit_at-lt word found.0) (bit_at-lt among found.0) (λ e. found.2 (bit_at_or word among found.0 ∙ e)) in
+    let i : ℕ = at * 64 + found.0 in
+    let quotient : i / 64 ≡ at = omega (arith, found.1) in
+    let rest : i % 64 ≡ found.0 = omega (arith, found.1) in (
+      i,
+      (λ j. nat_eq (bit_at (get_or words (quotient j) 0) (rest j)) 1) ∙ own.0,
+      (λ j. nat_eq (bit_at (get_or first (quotient j) 0) (rest j)) 1 || nat_eq (bit_at (get_or second (quotient j) 0) (rest j)) 1) ∙ sym (or_bits (get_or first at 0) (get_or second at 0) found.0) ∙ own.1,
+    )
+
+-- each bit is a member's
+pub member_at : (i : ℕ) → (m : Member) × (place m ≡ i)
+member_at zero = (Row, refl)
+member_at (suc zero) = (Left, refl)
+member_at (suc (suc zero)) = (Right, refl)
+member_at (suc (suc (suc c))) = (Column c, omega arith)

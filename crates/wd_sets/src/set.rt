@@ -74,7 +74,8 @@ fn word_at(words: &[u64], at: usize) -> u64
 
 /// Whether each bit of the words is set in one of two others.
 fn are_within(words: &[u64], first: &[u64], second: &[u64]) -> bool
-    ensures { IsTrue result → (i : ℕ) → spec.has_bit words.now i ≡ true → (spec.has_bit first.now i || spec.has_bit second.now i) ≡ true }
+    ensures within { IsTrue result → (i : ℕ) → spec.has_bit words.now i ≡ true → (spec.has_bit first.now i || spec.has_bit second.now i) ≡ true }
+    ensures outside { result ≡ false → (i : ℕ) × (spec.has_bit words.now i ≡ true) × ((spec.has_bit first.now i || spec.has_bit second.now i) ≡ false) }
 {
     for (at, word) in words.iter().enumerate() {
         let among = word_at(first, at) | word_at(second, at);
@@ -141,7 +142,8 @@ impl Set {
 
     /// Whether each member is in one of two other sets, by a look at whole words.
     pub fn is_within(&self, first: &Set, second: &Set) -> bool
-        ensures { IsTrue result → (m : AMember) → spec.has self.now m ≡ true → (spec.has first.now m || spec.has second.now m) ≡ true }
+        ensures within { IsTrue result → (m : AMember) → spec.has self.now m ≡ true → (spec.has first.now m || spec.has second.now m) ≡ true }
+        ensures outside { result ≡ false → (m : AMember) × (spec.has self.now m ≡ true) × ((spec.has first.now m || spec.has second.now m) ≡ false) }
     {
         are_within(&self.words, &first.words, &second.words)
     }
