@@ -7,10 +7,10 @@
 First come the searches, by `check`: eight tables joined to all their pairs of rows, 65,536 where each has four rows. A limit that
 takes nothing stands on top, so that no two outcomes differ and the search goes on to its end. In the first the limit alone is
 open, which is 18 evaluations; in the second there are calls enough for 2,000, a third of them over four rows in each table, and all
-of one window; in the third each has a column of its own to sort by, and no call's value is shown in place of that limit; so in those
-after the next one, with some 400 bytes: of seven tables below eight calls, each with an order of its own, and of seven tables of 51
-columns that are joined to a table which is numbered four ways. The one between them shows the greatest value of each call, so no
-simpler plan has one answer by the rules. Then come the witnesses, by `refute`: three tables of 64 rows, joined to 262,144 rows, in
+of one window; in the third each has a column of its own to sort by, and no call's value is shown in place of that limit; so in the
+last two, with some 400 bytes: of seven tables below eight calls, each with an order of its own, and of seven tables of 51 columns that
+are joined to a table which is numbered four ways. The two between them show the greatest value of each call, so no simpler plan has one
+answer by the rules: one of the third's calls, and one, of some 200 bytes, of two calls over eleven tables, 4,194,304 rows. Then come the witnesses, by `refute`: three tables of 64 rows, joined to 262,144 rows, in
 which two rows differ, and four, the fourth of 38 rows, joined to 9,961,472, near the most that a step may have. Of these the last
 choices are 170 MB of text; in the others, of 3 and 4 KB, the rows of one table are numbered before they are joined, and the answer
 has 5 and 17 columns. Prints the seconds and the most memory of one run each.
@@ -50,6 +50,14 @@ def greatest_texts(calls):
     inner = texts["query.sql"].removeprefix("SELECT s.id FROM ")
     greatest = ", ".join("MAX(s.n%d)" % n for n in range(calls))
     return {"schema.sql": texts["schema.sql"], "query.sql": "SELECT %s FROM %s" % (greatest, inner)}
+
+
+def eleven_texts():
+    """The same of two calls over eleven tables, four of which are joined in a derived table."""
+    fours = "(SELECT a.v FROM %s) AS x" % ", ".join("t AS %s" % name for name in JOINED[:4])
+    others = ", ".join("t AS %s" % name for name in JOINED[4:] + "ijk")
+    calls = "ROW_NUMBER() OVER (ORDER BY x.v) AS n, ROW_NUMBER() OVER (ORDER BY e.v) AS o"
+    return {"schema.sql": SCHEMA, "query.sql": "SELECT MAX(s.n), MAX(s.o) FROM (SELECT %s FROM %s, %s) AS s\n" % (calls, fours, others)}
 
 
 def unused_texts():
@@ -104,6 +112,7 @@ def all_texts():
     yield "2,000 evaluations", "check", (2,), search_texts(CALLS)
     yield "2,000 evaluations, a column for each call", "check", (2,), columns_texts(CALLS)
     yield "2,000 evaluations, the greatest value of each call", "check", (2,), greatest_texts(CALLS)
+    yield "the greatest values of two calls over eleven tables", "check", (2,), eleven_texts()
     yield "calls not shown", "check", (2,), unused_texts()
     yield "calls not shown, joined to 51 columns", "check", (2,), wide_texts(51)
     yield "262,144 rows", "refute", (1,), witness_texts([ROWS] * 3)
