@@ -1,6 +1,5 @@
 -- Facts that are reached and reach alike, and the given facts of a node whose children keep such ones.
 use Rattle.std.proofs.Common.{◌≡◌, ℕ, ◌+◌, Bool, true, false, cond, List, [], ◌∷◌, ◌++◌, map, filter, flat_map, refl, sym, ◌∙◌, ap, Option, Some, None, option_map, slice_get, length, nat_eq}
-use Rattle.std.specs.Bool.{⊤}
 use Rattle.std.specs.List.{list_all}
 use Rattle.std.proofs.lemmas.Option.{slice_get-map}
 use Rattle.wd_schema.specs.Tables.{TableRule}
@@ -9,27 +8,14 @@ use Rattle.wd_plan.specs.Plans.{PlanTree, Scan, Join, Over, Filter, Map, Group, 
 use Rattle.wd_certificate.specs.Certificates.{KeptRecord, NodeRecord, TraceRecord}
 use Rattle.wd_step_facts.specs.declared.facts.Member.{Member}
 use Rattle.wd_step_facts.specs.declared.facts.Member.TheVariants as member
-use Rattle.wd_step_facts.specs.Facts.{Fact, FactList, columns_named, is_column, is_plain, key_fact, moved, moved_facts}
+use Rattle.wd_step_facts.specs.Facts.{Fact, columns_named, is_column, is_plain, key_fact, moved, moved_facts}
 use Rattle.wd_step_facts.specs.Steps.{all_columns, restrict_fact, facts_of_group}
 use Rattle.wd_facts.specs.Given.{given}
 use Rattle.wd_rules.specs.Rules.{kept_fact, kept_facts, trace_or}
-use Rattle.wd_verify.specs.Lean.{columns_once, lean_entry, lean_kept, lean_trace}
-use Rattle.wd_verify.proofs.Once.{IsAlike, alike_filter, alike_map, columns_alike, targets_alike}
-
--- the sides of one pass the tests that those of the other do
-pub record IsAlikeFact (f g : Fact) : Type 0 where
-  pub from : IsAlike f.from g.from
-  pub to : IsAlike f.to g.to
-
-abbrev pub AreAlike : List Fact → List Fact → Type 0
-AreAlike [] [] = ⊤
-AreAlike [] (g ∷ gs) = ⊥
-AreAlike (f ∷ fs) [] = ⊥
-AreAlike (f ∷ fs) (g ∷ gs) = IsAlikeFact f g × AreAlike fs gs
-
-pub alike_self : (fs : List Fact) → AreAlike fs fs
-alike_self [] = tt
-alike_self (f ∷ fs) = (record { from = λ t. refl; to = λ t. refl }, alike_self fs)
+use Rattle.wd_verify.specs.Lean.{lean_entry, lean_kept}
+use Rattle.wd_traces.specs.Once.{columns_once, lean_trace}
+use Rattle.wd_traces.proofs.AlikeFacts.{AreAlike, alike_self, with_list}
+use Rattle.wd_traces.proofs.Once.{IsAlike, alike_filter, alike_map, columns_alike, targets_alike}
 
 alike_append : (fs gs xs ys : List Fact) → AreAlike fs gs → AreAlike xs ys → AreAlike (fs ++ xs) (gs ++ ys)
 alike_append [] [] xs ys a b = b
@@ -77,10 +63,6 @@ given_alike tables (Over (Group g) input) kept others more rest a b = alike_appe
 given_alike tables (Over (Window w) input) kept others more rest a b = alike_append _ _ _ _ a (alike_self _)
 given_alike tables (Over Distinct input) kept others more rest a b = alike_append _ _ _ _ a (alike_self (key_fact member.Row (all_columns (width input)) ∷ []))
 given_alike tables (Over (Limit limit) input) kept others more rest a b = a
-
--- other facts at the same node
-abbrev pub with_list : FactList → List Fact → FactList
-with_list facts list = record { columns = facts.columns; split = facts.split; list = list }
 
 pub given_with : (tables : List TableRule) (plan : PlanTree) (kept others more rest : List Fact) → given tables plan others rest ≡ with_list (given tables plan kept more) (given tables plan others rest).list
 given_with tables (Scan table columns) kept others more rest = refl

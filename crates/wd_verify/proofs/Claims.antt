@@ -14,10 +14,11 @@ use Rattle.wd_step_facts.specs.Facts.{FactList, columns_named, is_plain, is_plai
 use Rattle.wd_rules.specs.Rules.{claims_refusal, entry_refusal, is_target, kept_fact, member_of, trace_or}
 use Rattle.wd_rules.specs.Traces.{Traced, and_then, each_traced, traced}
 use Rattle.wd_node_facts.specs.declared.facts.KeptFact.{KeptFact}
-use Rattle.wd_verify.specs.Lean.{lean_kept, once}
+use Rattle.wd_verify.specs.Lean.{lean_kept}
+use Rattle.wd_traces.specs.Once.{once}
 use Rattle.wd_node_facts.specs.Seen.{columns_or_none, fact_by}
 use Rattle.wd_verify.specs.Shown.{IsKeptFact, refusal_of}
-use Rattle.wd_verify.proofs.Once.{targets_all}
+use Rattle.wd_traces.proofs.Once.{targets_all}
 
 -- traces that are good, after those before
 abbrev pub after : List Traced → Result (List Traced) CertError → Result (List Traced) CertError

@@ -10,10 +10,11 @@ use Rattle.wd_certificate.specs.declared.certificate.Trace.{Trace}
 use Rattle.wd_step_facts.specs.Facts.{FactList}
 use Rattle.wd_sets.specs.Sets.{has}
 use Rattle.wd_rules.specs.Traces.{Traced, each_traced, traced}
-use Rattle.wd_verify.specs.Lean.{columns_once, lean_trace, lean_traces}
+use Rattle.wd_verify.specs.Lean.{lean_traces}
+use Rattle.wd_traces.specs.Once.{columns_once, lean_trace}
 use Rattle.wd_verify.specs.Named.{is_marked}
 use Rattle.wd_verify.specs.Shown.{AreFollowed, IsAdded, kept_in, traced_of, traced_or}
-use Rattle.wd_verify.specs.declared.trace.Followed.{Followed}
+use Rattle.wd_traces.specs.declared.trace.Followed.{Followed}
 use Rattle.wd_verify.proofs.Claims.{after, after_none, after_one}
 
 -- so far: what the first traces show, with those that are left; of these the marked ones were kept

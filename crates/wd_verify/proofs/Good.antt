@@ -12,11 +12,12 @@ use Rattle.wd_rules.specs.Rules.{trace_or}
 use Rattle.wd_rules.specs.Traces.{Traced, each_traced, traced}
 use Rattle.wd_rules.proofs.Traces.{parts_of}
 use Rattle.wd_node_facts.specs.Seen.{columns_or_none}
-use Rattle.wd_verify.specs.Lean.{lean_trace, lean_traces}
+use Rattle.wd_verify.specs.Lean.{lean_traces}
+use Rattle.wd_traces.specs.Once.{lean_trace}
 use Rattle.wd_verify.specs.Named.{is_marked}
 use Rattle.wd_verify.specs.Shown.{AreGood, HaveColumns, shown_from}
 use Rattle.wd_verify.proofs.Followed.{appended}
-use Rattle.wd_verify.proofs.LeanEntry.{traced_lean}
+use Rattle.wd_traces.proofs.LeanTrace.{traced_lean}
 
 -- ---- what the trace with a number shows
 

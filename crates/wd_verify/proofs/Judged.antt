@@ -12,7 +12,8 @@ use Rattle.wd_step_facts.specs.Facts.{FactList}
 use Rattle.wd_rules.specs.Rules.{kept_refusal, member_of, or_else}
 use Rattle.wd_rules.specs.Traces.{Traced, each_traced, traced}
 use Rattle.wd_node_facts.specs.Seen.{seen_of}
-use Rattle.wd_verify.specs.Lean.{lean_kept, lean_trace, lean_traces, once}
+use Rattle.wd_verify.specs.Lean.{lean_kept, lean_traces}
+use Rattle.wd_traces.specs.Once.{lean_trace, once}
 use Rattle.wd_verify.specs.Shown.{IsFollowed, claim_refusal, evidence_with, shown_from, shown_or_none}
 use Rattle.wd_verify.specs.declared.evidence.Evidence.{Evidence}
 use Rattle.wd_verify.proofs.Good.{each_at, each_none}

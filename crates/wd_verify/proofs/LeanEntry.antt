@@ -1,5 +1,5 @@
 -- An entry and its lean form are refused alike, over facts that are alike.
-use Rattle.std.proofs.Common.{◌≡◌, ℕ, zero, suc, Bool, cond, ◌&&◌, ◌||◌, List, [], ◌∷◌, map, refl, sym, ◌∙◌, ap, Option, Some, None, option_map, slice_get, nat_lt, Result, Ok, Err}
+use Rattle.std.proofs.Common.{◌≡◌, ℕ, Bool, ◌&&◌, List, [], ◌∷◌, map, refl, sym, ◌∙◌, ap, Option, Some, None, option_map, slice_get, nat_lt, Result, Ok, Err}
 use Rattle.std.specs.List.{list_all}
 use Rattle.std.proofs.lemmas.Option.{slice_get-map}
 use Rattle.wd_plan.specs.declared.window.Call.{Call}
@@ -13,18 +13,20 @@ use Rattle.wd_certificate.specs.declared.certificate.Rule.{Rule}
 use Rattle.wd_certificate.specs.declared.certificate.Rule.TheVariants as rule
 use Rattle.wd_certificate.specs.declared.certificate.Target.{Target}
 use Rattle.wd_certificate.specs.declared.error.CertError.{CertError}
-use Rattle.wd_certificate.specs.declared.error.CertError.TheVariants.{OutOfRange, SecondExchange, UnjustifiedCall, UnjustifiedLimit, UnreachedClaim, UnreachedUse}
+use Rattle.wd_certificate.specs.declared.error.CertError.TheVariants.{OutOfRange, SecondExchange, UnjustifiedCall, UnjustifiedLimit, UnreachedClaim}
 use Rattle.wd_step_facts.specs.declared.facts.Member.{Member}
 use Rattle.wd_step_facts.specs.declared.facts.Member.TheVariants as member
 use Rattle.wd_step_facts.specs.Facts.{Fact, FactList, columns_named}
 use Rattle.wd_step_facts.specs.Steps.{all_columns}
-use Rattle.wd_sets.specs.Sets.{is_in, stands_in}
-use Rattle.wd_sets.specs.Reaches.{also, reaches, reaches_each}
+use Rattle.wd_sets.specs.Sets.{is_in}
+use Rattle.wd_sets.specs.Reaches.{reaches_each}
 use Rattle.wd_rules.specs.Rules.{EvidenceRecord, call_refusal, calls_refusal, claims_refusal, entry_refusal, has_one_exchange, is_target, keep_refusal, kept_refusal, limit_refusal, member_of, or_else, refuse_unless, refuse_unless_shown, rules_refusal, shows, shows_column, shows_value, taken_column}
-use Rattle.wd_rules.specs.Traces.{Traced, and_then, each_traced, traced, with_use, with_uses}
-use Rattle.wd_verify.specs.Lean.{columns_once, lean_entry, lean_kept, lean_trace, lean_traced, once}
-use Rattle.wd_verify.proofs.Once.{IsAlike, alike_stand, columns_all, columns_alike, targets_all, targets_alike}
-use Rattle.wd_verify.proofs.Alike.{AreAlike, alike_self, with_list}
+use Rattle.wd_rules.specs.Traces.{Traced, and_then, each_traced, traced}
+use Rattle.wd_verify.specs.Lean.{lean_entry, lean_kept, lean_traced}
+use Rattle.wd_traces.specs.Once.{lean_trace, once}
+use Rattle.wd_traces.proofs.LeanTrace.{each_alike as other_each_alike, each_same as other_each_same, traced_alike as other_traced_alike}
+use Rattle.wd_traces.proofs.Once.{IsAlike, columns_all, targets_all, targets_alike}
+use Rattle.wd_traces.proofs.AlikeFacts.{AreAlike, with_list}
 
 -- the traces of lean forms
 abbrev lean_shown : Result (List Traced) CertError → Result (List Traced) CertError
@@ -49,49 +51,17 @@ module _ (node : ℕ) (facts : FactList) (list : List Fact) where
   abbrev lean_evidence : List Traced → EvidenceRecord
   lean_evidence shown = record { node = node; facts = Other; shown = map lean_traced shown }
 
-  -- ---- what is reached
-
-  reaches_same : (has : Member → Bool) (m : Member) → reaches facts has m ≡ reaches Other has m
-  reaches_same has (member.Column c) = refl
-  reaches_same has member.Left = refl
-  reaches_same has member.Right = refl
-  reaches_same has member.Row = refl
-
   each_alike : (has : Member → Bool) (X Y : List Member) → IsAlike X Y → reaches_each facts has X ≡ reaches_each Other has Y
-  each_alike has X Y h = h (reaches facts has) ∙ (λ i. list_all (λ m. reaches_same has m i) Y)
+  each_alike = other_each_alike node facts list
 
   each_same : (has : Member → Bool) (X : List Member) → reaches_each facts has X ≡ reaches_each Other has X
-  each_same has X = each_alike has X X (λ t. refl)
+  each_same = other_each_same node facts list
 
   -- ---- traces
 
-  also_alike : (has : Member → Bool) (X Y : List Member) → IsAlike X Y → also has X ≡ also has Y
-  also_alike has X Y h = λ i m. also_at m i
-    where
-      also_at : (m : Member) → also has X m ≡ also has Y m
-      also_at m = ap (λ b. has m || b) (alike_stand X Y h m)
-
-  use_alike : (has : Member → Bool) (fs gs : List Fact) → AreAlike fs gs → (n : ℕ) → with_use node facts has (slice_get fs n) ≡ with_use node Other has (slice_get gs n)
-  use_alike has [] [] a n = refl
-  use_alike has [] (g ∷ gs) a n = absurd a
-  use_alike has (f ∷ fs) [] a n = absurd a
-  use_alike has (f ∷ fs) (g ∷ gs) a zero =
-      let left = each_alike has f.from g.from a.0.from in
-      let right = also_alike has f.to g.to a.0.to in
-      λ i. cond (left i) (Ok (right i)) (Err (UnreachedUse node))
-  use_alike has (f ∷ fs) (g ∷ gs) a (suc n) = use_alike has fs gs a.1 n
-
   module _ (alike : AreAlike facts.list list) where
-    uses_alike : (has : Member → Bool) (uses : List ℕ) → with_uses node facts has uses ≡ with_uses node Other has uses
-    uses_alike has [] = refl
-    uses_alike has (n ∷ uses) = λ i. and_then (use_alike has facts.list list alike n i) (λ more. uses_alike more uses i)
-
     traced_alike : (trace : TraceRecord) → traced node facts trace ≡ traced node Other (lean_trace trace)
-    traced_alike trace =
-        let below = columns_all (λ c. nat_lt c facts.columns) trace.from in
-        let stand : stands_in (columns_named trace.from) ≡ stands_in (columns_named (columns_once trace.from)) = λ i m. alike_stand _ _ (columns_alike trace.from) m i in
-        let uses = uses_alike (stands_in (columns_named trace.from)) trace.uses ∙ ap (λ has. with_uses node Other has trace.uses) stand in
-        λ i. cond (below i) (uses i) (Err (OutOfRange node))
+    traced_alike = other_traced_alike node facts list alike
 
     each_lean : (traces : List TraceRecord) → each_traced node Other (map lean_trace traces) ≡ lean_shown (each_traced node facts traces)
     each_lean [] = refl
@@ -174,9 +144,6 @@ module _ (node : ℕ) (facts : FactList) (list : List Fact) where
   lean_refusal alike plan entry = claims_alike plan entry (each_traced node facts entry.traces) ∙ ap (claims_refusal node Other plan (lean_entry entry)) (sym (each_lean alike entry.traces))
 
 -- ---- over the same facts
-
-pub traced_lean : (node : ℕ) (facts : FactList) (trace : TraceRecord) → traced node facts (lean_trace trace) ≡ traced node facts trace
-traced_lean node facts trace = sym (traced_alike node facts facts.list (alike_self facts.list) trace)
 
 pub kept_lean : (node : ℕ) (facts : FactList) (columns : ℕ) (to : List Target) (o : Option Traced) → kept_refusal node facts columns to o ≡ kept_refusal node facts columns (once member_of to) o
 kept_lean node facts columns to None = refl

@@ -8,7 +8,8 @@ use Rattle.wd_facts.specs.Given.{given}
 use Rattle.wd_rules.specs.Rules.{entry_refusal, kept_facts, or_else}
 use Rattle.wd_rules.specs.Validity.{entry_at, kept_below, kept_right, nodes_refusal, top_at, top_number, top_refusal}
 use Rattle.wd_verify.specs.Lean.{lean_entry, lean_of}
-use Rattle.wd_verify.proofs.Alike.{AreAlike, entry_alike, given_alike, given_with}
+use Rattle.wd_verify.proofs.Alike.{entry_alike, given_alike, given_with}
+use Rattle.wd_traces.proofs.AlikeFacts.{AreAlike}
 use Rattle.wd_verify.proofs.LeanEntry.{lean_refusal}
 
 entry_lean : (nodes : List NodeRecord) (n : ℕ) → lean_entry (entry_at nodes n) ≡ entry_at (map lean_entry nodes) n

@@ -9,8 +9,4 @@ pub mod Joins
 pub mod Judged
 pub mod LeanEntry
 pub mod LeanNodes
-pub mod Members
 pub mod NamedTraces
-pub mod Once
-pub mod Used
-pub mod Wide

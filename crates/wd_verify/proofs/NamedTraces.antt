@@ -21,7 +21,7 @@ use Rattle.wd_rules.specs.Traces.{Traced, each_traced}
 use Rattle.wd_verify.specs.Lean.{lean_kept}
 use Rattle.wd_verify.specs.Named.{is_it, is_of_calls, is_of_kept, is_of_rules}
 use Rattle.wd_verify.specs.Shown.{AreFollowed, shown_or_none, traced_or}
-use Rattle.wd_verify.specs.declared.trace.Followed.{Followed}
+use Rattle.wd_traces.specs.declared.trace.Followed.{Followed}
 use Rattle.wd_verify.proofs.Claims.{traced_claims}
 
 -- ---- numbers that are named

@@ -1,28 +1,11 @@
 -- Entries of a certificate in which no trace starts from a column twice, and no kept fact has a target twice.
-use Rattle.std.specs.Prelude.{ℕ, Bool, false, ◌||◌, List, [], ◌∷◌, map, if◌then◌else◌}
+use Rattle.std.specs.Prelude.{List, map}
 use Rattle.wd_certificate.specs.Certificates.{KeptRecord, NodeRecord, TraceRecord, node_of, trace_of}
 use Rattle.wd_certificate.specs.declared.certificate.Node.{Node}
 use Rattle.wd_certificate.specs.declared.certificate.Trace.{Trace}
-use Rattle.wd_step_facts.specs.declared.facts.Member.{Member}
-use Rattle.wd_step_facts.specs.declared.facts.Member.TheVariants as member
-use Rattle.wd_sets.specs.Sets.{same_member}
 use Rattle.wd_rules.specs.Rules.{member_of}
 use Rattle.wd_rules.specs.Traces.{Traced}
-
--- those elements whose members are not in the test, each once
-abbrev pub once_after : {X : Type 0} → (X → Member) → (Member → Bool) → List X → List X
-once_after name met [] = []
-once_after name met (x ∷ xs) = if met (name x) then once_after name met xs else (x ∷ once_after name (λ m. same_member m (name x) || met m) xs)
-
--- each element once, in the order of first appearance; elements are equal where they name one member
-abbrev pub once : {X : Type 0} → (X → Member) → List X → List X
-once name xs = once_after name (λ m. false) xs
-
-abbrev pub columns_once : List ℕ → List ℕ
-columns_once columns = once (λ c. member.Column c) columns
-
-abbrev pub lean_trace : TraceRecord → TraceRecord
-lean_trace trace = record { from = columns_once trace.from; uses = trace.uses }
+use Rattle.wd_traces.specs.Once.{columns_once, lean_trace, once}
 
 abbrev pub lean_traced : Traced → Traced
 lean_traced trace = record { from = columns_once trace.from; has = trace.has }

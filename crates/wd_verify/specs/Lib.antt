@@ -1,5 +1,3 @@
-pub mod Known
 pub mod Lean
 pub mod Named
 pub mod Shown
-pub mod Used

@@ -11,9 +11,10 @@ use Rattle.wd_rules.specs.Traces.{Traced, each_traced}
 use Rattle.wd_sets.specs.Sets.{has}
 use Rattle.wd_node_facts.specs.Seen.{columns_or_none, seen_of}
 use Rattle.wd_node_facts.specs.declared.facts.KeptFact.{KeptFact}
-use Rattle.wd_verify.specs.Lean.{lean_traces, once}
+use Rattle.wd_verify.specs.Lean.{lean_traces}
+use Rattle.wd_traces.specs.Once.{once}
 use Rattle.wd_verify.specs.declared.evidence.Evidence.{Evidence}
-use Rattle.wd_verify.specs.declared.trace.Followed.{Followed}
+use Rattle.wd_traces.specs.declared.trace.Followed.{Followed}
 
 -- what a trace shows with the members after its uses
 abbrev pub shown_from : TraceRecord → (Member → Bool) → Traced

@@ -9,21 +9,20 @@ ghost use Rattle.wd_facts.specs.Laws.{AreOfChildren, ArePlain};
 ghost use Rattle.wd_rules.specs.Rules as rules;
 ghost use Rattle.wd_verify.specs.Lean.{lean_of};
 ghost use Rattle.wd_node_facts.specs.Seen.{HasNoOther, facts_kept, seen_of};
-ghost use Rattle.wd_verify.specs.Known.{AreKnown};
+ghost use Rattle.wd_traces.specs.Known.{AreKnown};
 ghost use Rattle.wd_verify.specs.Named.{is_of_rules};
 ghost use Rattle.wd_verify.specs.Shown.{AreFollowed, AreGood, evidence_of};
 
 use crate::evidence::{Evidence, follow_each};
 use crate::kept::{check_keep, keeps_of};
-use crate::known::{Known, with_sets};
 use crate::named::traces_to_keep;
 use crate::rules::{check_limit, check_window};
-use crate::trace::Followed;
 use std::alloc::Global;
 use wd_certificate::{CertError, Node};
 use wd_node_facts::{Keeps, facts_at};
 use wd_plan::Plan;
 use wd_schema::Schema;
+use wd_traces::{Followed, Known, with_sets};
 
 /// The number of columns of a node's rows.
 pub(crate) fn width(plan: &Plan) -> u16

@@ -6,15 +6,14 @@ ghost use Rattle.wd_rules.specs.Rules as rules;
 ghost use Rattle.wd_rules.specs.Traces as spec;
 ghost use Rattle.wd_verify.specs.Lean.{lean_traces};
 ghost use Rattle.wd_node_facts.specs.Seen.{seen_of};
-ghost use Rattle.wd_verify.specs.Known.{AreKnown};
+ghost use Rattle.wd_traces.specs.Known.{AreKnown};
 ghost use Rattle.wd_verify.specs.Named.{is_marked as is_marked_by};
 ghost use Rattle.wd_verify.specs.Shown.{AreFollowed, IsAdded, kept_in, refusal_of, shown_by, traced_of};
 
-use crate::known::Known;
 use crate::named::is_marked;
-use crate::trace::{Followed, follow};
 use std::alloc::Global;
 use wd_certificate::{CertError, Trace};
+use wd_traces::{Followed, Known, follow};
 use wd_value::OutOfMemory;
 
 /// The number of a node, its given facts, and the traces of its entry by their numbers.

@@ -10,22 +10,21 @@ ghost use Rattle.wd_sets.specs.Reaches.{reaches_each};
 ghost use Rattle.wd_sets.specs.Sets.{has};
 ghost use Rattle.wd_rules.specs.Rules as rules;
 ghost use Rattle.wd_rules.specs.Traces.{traced};
-ghost use Rattle.wd_verify.specs.Lean.{lean_kept, lean_of, lean_trace, lean_traces, once, once_after};
+ghost use Rattle.wd_verify.specs.Lean.{lean_kept, lean_of, lean_traces};
+ghost use Rattle.wd_traces.specs.Once.{lean_trace, once, once_after};
 ghost use Rattle.wd_node_facts.specs.Seen.{each_columns, fact_by, facts_kept, seen_of};
-ghost use Rattle.wd_verify.specs.Known.{AreKnown};
+ghost use Rattle.wd_traces.specs.Known.{AreKnown};
 ghost use Rattle.wd_verify.specs.Named.{is_marked as is_marked_by, is_of_kept};
 ghost use Rattle.wd_verify.specs.Shown.{AreGood, HaveColumns, IsFollowed, IsKeptFact, claim_refusal, evidence_with, refusal_of, shown_from, traced_of};
 
 use crate::evidence::Evidence;
-use crate::known::Known;
 use crate::named::{is_marked, traces_of_kept};
-use crate::reached::reaches;
-use crate::trace::{Followed, follow, start};
 use std::alloc::Global;
 use wd_certificate::{CertError, Kept, Node, PackedTarget, Target, Trace};
 use wd_facts::Member;
 use wd_node_facts::{Keeps, KeptFact, NodeFacts, are_columns};
 use wd_sets::Set;
+use wd_traces::{Followed, Known, follow, reaches, start};
 use wd_value::OutOfMemory;
 
 /// Whether a target is one of the first `columns` columns, or the row.
@@ -154,7 +153,7 @@ pub(crate) fn check_keep(
 }
 
 /// Adds the member that a target names, unless it was added before.
-#[tactic(auto, using(crate::proofs::Once::once_met, crate::proofs::Once::once_new))]
+#[tactic(auto, using(wd_traces::proofs::Once::once_met, wd_traces::proofs::Once::once_new))]
 fn meet(
     columns: u16,
     met: &mut Set,
@@ -172,7 +171,7 @@ fn meet(
 }
 
 /// The members that the targets name, each once; each is one of the first `columns` columns, or the row.
-#[tactic(auto, using(crate::proofs::Once::once_first))]
+#[tactic(auto, using(wd_traces::proofs::Once::once_first))]
 fn targets_once(
     alloc: Global,
     columns: u16,

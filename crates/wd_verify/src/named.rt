@@ -41,7 +41,7 @@ fn mark_named(marks: &mut [bool], number: Option<u64>)
 }
 
 /// Marks the traces that kept facts name.
-#[tactic(auto, using(crate::proofs::Members::one_more))]
+#[tactic(auto, using(wd_traces::proofs::Members::one_more))]
 fn mark_kept(marks: &mut [bool], keep: &[Kept])
     ensures { (n : ℕ) → spec.is_marked marks.new n ≡ (spec.is_marked marks.old n || spec.is_of_kept (map kept_of keep.now) n) }
 {
@@ -61,7 +61,7 @@ fn trace_of_rule(rule: Rule) -> Option<u64>
 }
 
 /// Marks the traces that the rules of calls name.
-#[tactic(auto, using(crate::proofs::Members::one_more))]
+#[tactic(auto, using(wd_traces::proofs::Members::one_more))]
 fn mark_calls(marks: &mut [bool], rules: &[Rule])
     ensures { (n : ℕ) → spec.is_marked marks.new n ≡ (spec.is_marked marks.old n || spec.is_of_calls rules.now n) }
 {

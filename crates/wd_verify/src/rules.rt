@@ -16,18 +16,17 @@ ghost use Rattle.wd_node_facts.specs.Seen.{seen_of};
 ghost use Rattle.wd_verify.specs.Shown.{evidence_of, refusal_of, traced_of};
 
 use crate::evidence::{Evidence, refuse_unless};
-use crate::reached::{reaches, reaches_each};
-use crate::trace::Followed;
 use std::alloc::Global;
 use wd_certificate::{CertError, Rule};
 use wd_facts::Member;
 use wd_node_facts::NodeFacts;
 use wd_plan::{Call, Class, FrameFunction, Function, Limit, Window};
 use wd_sets::Set;
+use wd_traces::{Followed, reaches, reaches_each};
 use wd_value::{OutOfMemory, SortColumn};
 
 /// Adds columns to a set.
-#[tactic(auto, using(crate::proofs::Members::one_more))]
+#[tactic(auto, using(wd_traces::proofs::Members::one_more))]
 fn insert_columns(set: &mut Set, columns: &[u16]) -> Result<(), OutOfMemory>
     ensures { IfOk result (λ _. (m : AMember) → has set.new m ≡ reaching.also (has set.old) (columns_named columns.now) m) }
 {
@@ -38,7 +37,7 @@ fn insert_columns(set: &mut Set, columns: &[u16]) -> Result<(), OutOfMemory>
 }
 
 /// Adds the columns of sort keys to a set.
-#[tactic(auto, using(crate::proofs::Members::one_more))]
+#[tactic(auto, using(wd_traces::proofs::Members::one_more))]
 fn insert_keys(set: &mut Set, keys: &[SortColumn]) -> Result<(), OutOfMemory>
     ensures { IfOk result (λ _. (m : AMember) → has set.new m ≡ reaching.also (has set.old) (columns_named (key_columns keys.now)) m) }
 {

@@ -1,6 +1,0 @@
-use Rattle.std.proofs.Common.{◌≤◌, max}
-use Rattle.wd_verify.specs.Known.{IsBetween}
-use Rattle.wd_verify.proofs.known.columns_between.Given as goal
-
-abbrev pub invariant-loop-column : goal.invariant-loop-column
-invariant-loop-column l = (l.from ≤ l.column) × (l.column ≤ max l.from l.to) × IsBetween l.from l.column l.set
