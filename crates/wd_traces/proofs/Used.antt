@@ -1,11 +1,7 @@
 -- A fact that a trace has used changes nothing where it is used again, also after others.
-use Rattle.std.proofs.Common.{◌≡◌, ℕ, Bool, true, false, ◌&&◌, ◌||◌, refl, sym, ◌∙◌, ap, cond, Ok, Err, Option, Some, None, List, [], ◌∷◌, nat_lt, nat_le, slice_get}
-use Rattle.std.specs.Ordering.{nat_cmp}
-use Rattle.std.specs.BTreeMap.{is_at}
-use Rattle.std.specs.BTreeSet.{BTreeSet, contains}
+use Rattle.std.proofs.Common.{◌≡◌, ℕ, Bool, true, false, ◌&&◌, ◌||◌, refl, sym, ◌∙◌, ap, cond, Ok, Err, Option, Some, None, List, [], ◌∷◌, nat_lt, nat_le, slice_get, set, replicate, zero, suc, inl, inr, ◌⊎◌, ⊎_elim}
 use Rattle.std.proofs.lemmas.Bool.{false≢true}
-use Rattle.std.proofs.lemmas.Map.Lookups.{exact_unsigned}
-use Rattle.std.proofs.lemmas.Map.Views.{tells_apart}
+use Rattle.std.proofs.lemmas.Option.{none-some, same_Some}
 use Rattle.wd_certificate.specs.declared.error.CertError.TheVariants.{UnreachedUse}
 use Rattle.wd_step_facts.specs.declared.facts.Member.{Member}
 use Rattle.wd_step_facts.specs.declared.facts.Member.TheVariants.{Column, Left, Right, Row}
@@ -98,16 +94,25 @@ module _ (node : ℕ) (facts : FactList) where
       let is : (m : Member) → more m ≡ also has fact.to m = λ m. ap (λ s. s m) (sym first.1) in
       used_is node facts more more fact (each_below has more below facts fact.from first.0) (λ m. is m ∙ sym (twice (has m) (stands_in fact.to m)) ∙ ap (λ b. b || stands_in fact.to m) (sym (is m)))
 
-  pub all_still_used : (has more : Member → Bool) (used : BTreeSet ℕ) (number : ℕ) → with_use node facts has (slice_get facts.list number) ≡ Ok more → AreUsed node facts has used → AreUsed node facts more used
-  all_still_used has more used number h before n at = still_used has more (slice_get facts.list n) (slice_get facts.list number) h (before n at)
+  pub marked : (has more : Member → Bool) (old new : List (Option ℕ)) (number : ℕ) → with_use node facts has (slice_get facts.list number) ≡ Ok more → AreUsed node facts has old → Marks number old new → AreUsed node facts more new
+  marked has more old new number h before marks i n at =
+      ⊎_elim (λ e. ap (λ k. with_use node facts more (slice_get facts.list k)) e ∙ now_used has more (slice_get facts.list number) h)
+      (λ e. still_used has more (slice_get facts.list n) (slice_get facts.list number) h (before i n e))
+      (marks i n at)
 
-  one_or_old : (P : Type 0) (b old : Bool) → (b ≡ true → P) → (old ≡ true → P) → cond b true old ≡ true → P
-  one_or_old P true old f g h = f refl
-  one_or_old P false old f g h = g h
+-- ---- places
 
-  pub marked : (has more : Member → Bool) (old new : BTreeSet ℕ) (number : ℕ) → with_use node facts has (slice_get facts.list number) ≡ Ok more → AreUsed node facts has old → Marks number old new → AreUsed node facts more new
-  marked has more old new number h before marks n at =
-      one_or_old (with_use node facts more (slice_get facts.list n) ≡ Ok more) (is_at (nat_cmp number) n) (contains nat_cmp old n)
-      (λ e. ap (λ k. with_use node facts more (slice_get facts.list k)) (sym (tells_apart exact_unsigned number n e)) ∙ now_used has more (slice_get facts.list number) h)
-      (λ e. all_still_used has more old number h before n e)
-      (sym (marks n) ∙ at)
+-- a number that is put at a place
+pub put_at : (used : List (Option ℕ)) (k number i n : ℕ) → slice_get (set used k (Some number)) i ≡ Some (Some n) → (n ≡ number) ⊎ (slice_get used i ≡ Some (Some n))
+put_at [] zero number i n e = inr e
+put_at [] (suc k) number i n e = inr e
+put_at (x ∷ used) zero number zero n e = inl (let f : Some number ≡ Some n = same_Some (Some number) (Some n) e in sym (same_Some number n f))
+put_at (x ∷ used) zero number (suc i) n e = inr e
+put_at (x ∷ used) (suc k) number zero n e = inr e
+put_at (x ∷ used) (suc k) number (suc i) n e = put_at used k number i n e
+
+-- at first nothing is remembered
+pub none_at : (count i n : ℕ) → slice_get (replicate count None) i ≡ Some (Some n) → ⊥
+none_at zero i n e = none-some (Some n) e
+none_at (suc count) zero n e = none-some n (same_Some None (Some n) e)
+none_at (suc count) (suc i) n e = none_at count i n e

@@ -203,6 +203,9 @@ fn columns_on_right(alloc: Global, facts: &NodeFacts) -> Result<Set, OutOfMemory
 }
 
 /// The given facts of a node with the sets of their long sides.
+///
+/// # Errors
+/// Out of memory.
 pub fn with_sets(alloc: Global, facts: NodeFacts) -> Result<Known, OutOfMemory>
     requires { AreNarrow facts }
     ensures facts { IfOk result (λ k. k.facts ≡ facts) }

@@ -1,6 +1,6 @@
 //! What follows from the columns of a trace by the facts that it uses.
 
-ghost use Rattle.std.specs.Prelude.{◌≡◌, ◌≢◌, ℕ, ◌+◌, ◌-◌, ◌||◌, ◌++◌, List, [], ◌∷◌, true, false, map, nat_lt, Ok, Err, Some, slice_get, IfOk, IfErr, IfSome, OnOk};
+ghost use Rattle.std.specs.Prelude.{◌≡◌, ◌≢◌, ℕ, ◌+◌, ◌-◌, ◌||◌, ◌++◌, List, [], ◌∷◌, true, false, map, nat_lt, Ok, Err, Some, slice_get, IfOk, IfErr, IfSome, IsTrue};
 ghost use Rattle.std.specs.List.{list_all};
 ghost use Rattle.wd_certificate.specs.Certificates.{trace_of};
 ghost use Rattle.wd_step_facts.specs.declared.facts.Member.{Member as AMember};
@@ -17,7 +17,6 @@ use crate::known::{
     Known, SideSets, insert_moved_side, insert_side, reaches_columns_side, reaches_side, set_at,
 };
 use std::alloc::Global;
-use std::collections::BTreeSet;
 use wd_certificate::{CertError, Trace};
 use wd_facts::{Given, Member};
 use wd_node_facts::{KeptFact, NodeFacts, Side, columns_of};
@@ -44,15 +43,7 @@ impl Followed {
     }
 }
 
-/// The most members on a side of a fact that is used again each time a trace names it; a longer fact is used once in a trace.
-const SHORT: usize = 16;
-
-/// Whether a fact with sides of these lengths is used once in a trace.
-fn is_long(from: usize, to: usize) -> bool {
-    from > SHORT || to > SHORT
-}
-
-/// Uses a fact; the result is whether it is a long one.
+/// Uses a fact.
 #[tactic(auto, using(crate::proofs::Members::used_is))]
 fn use_fact(
     node: u64,
@@ -61,7 +52,7 @@ fn use_fact(
     fact: &Given,
     from: Option<&Set>,
     to: Option<&Set>,
-) -> Result<bool, CertError>
+) -> Result<(), CertError>
     requires known { AreKnown known.now }
     requires from { IfSome from (λ s. IsSetOf s.now fact.now.from.items) }
     requires to { IfSome to (λ s. IsSetOf s.now fact.now.to.items) }
@@ -72,7 +63,7 @@ fn use_fact(
         return Err(CertError::UnreachedUse { node });
     }
     insert_side(set, to, &fact.to)?;
-    Ok(is_long(fact.from.len(), fact.to.len()))
+    Ok(())
 }
 
 /// Uses the fact with this number among the given ones.
@@ -83,7 +74,7 @@ fn use_given(
     list: &[Given],
     sets: &SideSets,
     number: usize,
-) -> Result<bool, CertError>
+) -> Result<(), CertError>
     requires known { AreKnown known.now }
     requires sets { AreGivenSets list.now sets.now }
     ensures used { IfOk result (λ _. spec.with_use node (seen_of known.now.facts) (has set.old) (slice_get (map fact_of list.now) number) ≡ Ok (has set.new)) }
@@ -108,7 +99,7 @@ fn use_kept(
     sets: &SideSets,
     number: usize,
     kept: &KeptFact,
-) -> Result<bool, CertError>
+) -> Result<(), CertError>
     requires known { AreKnown known.now }
     requires sets { AreSideSets side.now sets.now }
     requires at { slice_get side.now.keeps.list.items number ≡ Some kept.now }
@@ -123,7 +114,7 @@ fn use_kept(
     }
     let to = set_at(&sets.to, number);
     insert_moved_side(set, to, side.by, side.row, &kept.to)?;
-    Ok(is_long(columns.len(), kept.to.len()))
+    Ok(())
 }
 
 /// Uses the fact with this number among those that a child keeps.
@@ -134,7 +125,7 @@ fn use_side(
     side: &Side,
     sets: &SideSets,
     number: usize,
-) -> Result<bool, CertError>
+) -> Result<(), CertError>
     requires known { AreKnown known.now }
     requires narrow { IsNarrow side.now }
     requires sets { AreSideSets side.now sets.now }
@@ -149,7 +140,7 @@ fn use_side(
 
 /// Uses the fact with this number among those of the right child and the last ones.
 #[tactic(auto, using(crate::proofs::Members::in_side, crate::proofs::Members::after_side))]
-fn use_right(node: u64, known: &Known, set: &mut Set, number: usize) -> Result<bool, CertError>
+fn use_right(node: u64, known: &Known, set: &mut Set, number: usize) -> Result<(), CertError>
     requires { AreKnown known.now }
     ensures used { IfOk result (λ _. spec.with_use node (seen_of known.now.facts) (has set.old) (slice_get (side_facts known.now.facts.right ++ map fact_of known.now.facts.last.items) number) ≡ Ok (has set.new)) }
     ensures refused { IfErr result (λ e. e ≢ CertError.OutOfMemory → spec.with_use node (seen_of known.now.facts) (has set.old) (slice_get (side_facts known.now.facts.right ++ map fact_of known.now.facts.last.items) number) ≡ Err e) }
@@ -171,7 +162,7 @@ fn use_right(node: u64, known: &Known, set: &mut Set, number: usize) -> Result<b
 
 /// Uses the fact with this number among those of the children and the last ones.
 #[tactic(auto, using(crate::proofs::Members::in_side, crate::proofs::Members::after_side))]
-fn use_left(node: u64, known: &Known, set: &mut Set, number: usize) -> Result<bool, CertError>
+fn use_left(node: u64, known: &Known, set: &mut Set, number: usize) -> Result<(), CertError>
     requires { AreKnown known.now }
     ensures used { IfOk result (λ _. spec.with_use node (seen_of known.now.facts) (has set.old) (slice_get (side_facts known.now.facts.left ++ (side_facts known.now.facts.right ++ map fact_of known.now.facts.last.items)) number) ≡ Ok (has set.new)) }
     ensures refused { IfErr result (λ e. e ≢ CertError.OutOfMemory → spec.with_use node (seen_of known.now.facts) (has set.old) (slice_get (side_facts known.now.facts.left ++ (side_facts known.now.facts.right ++ map fact_of known.now.facts.last.items)) number) ≡ Err e) }
@@ -184,9 +175,9 @@ fn use_left(node: u64, known: &Known, set: &mut Set, number: usize) -> Result<bo
     }
 }
 
-/// Uses the fact with this number; the result is whether it is a long one.
+/// Uses the fact with this number.
 #[tactic(auto, using(crate::proofs::Members::in_first, crate::proofs::Members::after_first))]
-fn use_number(node: u64, known: &Known, set: &mut Set, number: u64) -> Result<bool, CertError>
+fn use_number(node: u64, known: &Known, set: &mut Set, number: u64) -> Result<(), CertError>
     requires { AreKnown known.now }
     ensures used { IfOk result (λ _. spec.with_use node (seen_of known.now.facts) (has set.old) (slice_get (seen_of known.now.facts).list number) ≡ Ok (has set.new)) }
     ensures refused { IfErr result (λ e. e ≢ CertError.OutOfMemory → spec.with_use node (seen_of known.now.facts) (has set.old) (slice_get (seen_of known.now.facts).list number) ≡ Err e) }
@@ -212,7 +203,10 @@ fn meet(followed: &mut Followed, column: u16) -> Result<(), OutOfMemory>
     Ok(())
 }
 
-/// The columns from which a trace starts; each has to be a column of the facts.
+/// The columns from which a trace starts, each once; each has to be a column of the facts.
+///
+/// # Errors
+/// 510 at the first one that is none. Out of memory.
 #[tactic(auto, using(crate::proofs::Members::one_more, crate::proofs::Members::not_started, crate::proofs::Once::once_first))]
 pub fn start(
     alloc: Global,
@@ -235,40 +229,58 @@ pub fn start(
     Ok(followed)
 }
 
-/// Marks a fact as used.
-fn mark(used: &mut BTreeSet<u64>, number: u64) -> Result<(), OutOfMemory>
-    ensures { OnOk result (Marks number used.old used.new) }
-{
-    used.insert(number)?;
-    Ok(())
+/// How many numbers of facts are remembered while a trace is followed.
+const REMEMBERED: usize = 64;
+
+/// The place where a fact's number is remembered.
+fn place_of(number: u64) -> usize {
+    (number % REMEMBERED as u64) as usize
 }
 
-/// Uses the fact with this number unless the trace has used it before: a second use changes nothing.
+/// Whether the number is remembered.
+fn is_remembered(used: &[Option<u64>], number: u64) -> bool
+    ensures { IsTrue result → (i : ℕ) × (slice_get used.now i ≡ Some (Some number)) }
+{
+    match used.get(place_of(number)) {
+        Some(Some(other)) => *other == number,
+        _ => false,
+    }
+}
+
+/// Remembers the number, in place of another one with the same place.
+fn remember(used: &mut [Option<u64>], number: u64)
+    ensures { Marks number used.old used.new }
+{
+    let place = place_of(number);
+    if place < used.len() {
+        used[place] = Some(number);
+    }
+}
+
+/// Uses the fact with this number unless it is remembered: a second use changes nothing.
 fn use_once(
     node: u64,
     known: &Known,
     set: &mut Set,
-    used: &mut BTreeSet<u64>,
+    used: &mut [Option<u64>],
     number: u64,
 ) -> Result<(), CertError>
-    requires narrow { AreKnown known.now }
+    requires known { AreKnown known.now }
     requires before { AreUsed node (seen_of known.now.facts) (has set.old) used.old }
     ensures used { IfOk result (λ _. spec.with_use node (seen_of known.now.facts) (has set.old) (slice_get (seen_of known.now.facts).list number) ≡ Ok (has set.new)) }
     ensures after { IfOk result (λ _. AreUsed node (seen_of known.now.facts) (has set.new) used.new) }
     ensures refused { IfErr result (λ e. e ≢ CertError.OutOfMemory → spec.with_use node (seen_of known.now.facts) (has set.old) (slice_get (seen_of known.now.facts).list number) ≡ Err e) }
 {
-    if used.contains(&number) {
+    if is_remembered(used, number) {
         return Ok(());
     }
-    if use_number(node, known, set, number)? {
-        mark(used, number)?;
-    }
+    use_number(node, known, set, number)?;
+    remember(used, number);
     Ok(())
 }
 
 /// Uses facts, one after another.
 fn use_each(
-    alloc: Global,
     node: u64,
     known: &Known,
     mut followed: Followed,
@@ -279,7 +291,7 @@ fn use_each(
     ensures used { IfOk result (λ f. spec.with_uses node (seen_of known.now.facts) (has followed.set) uses.now ≡ Ok (has f.set)) }
     ensures refused { IfErr result (λ e. e ≢ CertError.OutOfMemory → spec.with_uses node (seen_of known.now.facts) (has followed.set) uses.now ≡ Err e) }
 {
-    let mut used = BTreeSet::new(alloc);
+    let mut used = [None; REMEMBERED];
     for number in uses {
         use_once(node, known, &mut followed.set, &mut used, *number)?;
     }
@@ -294,10 +306,14 @@ fn walk(alloc: Global, node: u64, known: &Known, trace: &Trace) -> Result<Follow
     ensures refused { IfErr result (λ e. e ≢ CertError.OutOfMemory → spec.traced node (seen_of known.now.facts) (trace_of trace.now) ≡ Err e) }
 {
     let followed = start(alloc, node, &known.facts, trace)?;
-    use_each(alloc, node, known, followed, &trace.uses)
+    use_each(node, known, followed, &trace.uses)
 }
 
-/// A trace that was followed, with each of its columns once; what it reaches is the same.
+/// A trace that was followed from its columns by the facts that it uses, in order. With each column once it reaches the same.
+///
+/// # Errors
+/// The first of these: 510 for a number that is no column of the facts; then for each use 510 for the number of no fact, 505 where its left
+/// side is not reached. Out of memory.
 pub fn follow(alloc: Global, node: u64, known: &Known, trace: &Trace) -> Result<Followed, CertError>
     requires { AreKnown known.now }
     ensures from { IfOk result (λ f. f.from.items ≡ columns_once trace.now.from.items) }

@@ -181,7 +181,7 @@ fn targets_once(
     ensures { IfOk result (λ v. v.items ≡ map rules.member_of (once rules.member_of targets.now)) }
 {
     let mut met = Set::new(alloc);
-    let mut list = Vec::new(alloc);
+    let mut list = Vec::with_capacity(alloc, targets.len().min(usize::from(columns) + 1))?;
     for target in targets {
         meet(columns, &mut met, &mut list, target.target())?;
     }
