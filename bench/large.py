@@ -38,16 +38,30 @@ WIDE_SCHEMA = b"CREATE TABLE t (c0 BIGINT PRIMARY KEY" + b"".join(b", c%d BIGINT
 WIDE_QUERY = b"SELECT a.c0 FROM t AS a" + b"".join(b" JOIN t AS %s ON a.c0 = %s.c0" % (name, name) for name in (b"b", b"c", b"d")) + b"\n"
 WIDE_FACTS = b'{"nodes":[' + b'{"calls":[],"keep":[],"limit":null,"traces":[]},' * 6 + FACTS.removeprefix(b'{"nodes":[')
 SCAN = b'{"calls":[],"keep":[{"to":["row"],"trace":0}],"limit":null,"traces":[{"from":[0],"uses":[0]}]},'
-JOIN = b'{"calls":[],"keep":[%s],"limit":null,"traces":[{"from":[0],"uses":[0,2,1]},{"from":[%s],"uses":[]}]},'
-ROWS_JOINED = JOIN % (b'{"to":["row"],"trace":0}', b"")
-ALL = b",".join(b"%d" % column for column in range(1024))
+JOIN = b'{"calls":[],"keep":[%s],"limit":null,"traces":[{"from":[0],"uses":[0,2,1]},{"from":[%s],"uses":[0,2,1]}]},'
+BELOW = b'{"nodes":[' + SCAN + (SCAN + JOIN % (b'{"to":["row"],"trace":0}', b"0")) * 2 + SCAN
+
+
+def columns(count, start=0):
+    """The numbers of so many columns."""
+    return b",".join(b"%d" % column for column in range(start, start + count))
+
+
+ALL = columns(1024)
 KEPT_BY_ALL = b'{"to":[0],"trace":0}'
+KEPT_TO_33 = b'{"to":[%s,1023],"trace":0}' % columns(32)
 # The first column gives all of them, and these give themselves, a thousand times.
-KEPT = b'{"to":[%s],"trace":0}' % ALL + b',{"to":[0],"trace":1}' * 1000
-BELOW = b'{"nodes":[' + SCAN + (SCAN + ROWS_JOINED) * 2 + SCAN + JOIN % (KEPT, ALL) + ENTRY.removeprefix(b'{"nodes":[')
+LONG = BELOW + JOIN % (b'{"to":[%s],"trace":0}' % ALL + b',{"to":[0],"trace":1}' * 1000, ALL) + ENTRY.removeprefix(b'{"nodes":[')
+# The same, and the first 32 columns give 32, of which no set is made, in a hundred ways.
+SHORT = BELOW + JOIN % (b'{"to":[%s],"trace":0}' % ALL + b"".join(b',{"to":[%s],"trace":1}' % columns(32, start) for start in range(100)), columns(32))
+SHORT += ENTRY.removeprefix(b'{"nodes":[')
 # In the node above the output gives the first column, and this all of them.
 USED_ONCE = b'{"from":[0],"uses":[1002,0]}'
-USED_EACH = b'{"from":[0],"uses":[1002,0,%s]}' % b",".join(b"%d" % number for number in range(1, 1001))
+USED_EACH = b'{"from":[0],"uses":[1002,0,%s]}' % columns(1000, 1)
+USED_SHORT = b'{"from":[0],"uses":[102,0,%s]}' % columns(100, 1)
+USED_AGAIN = b'{"from":[0],"uses":[102,0,%s]}' % b",".join([b"1"] * 100)
+# What stands above kept facts of the join.
+ABOVE_KEPT = TRACES + b'{"from":[0],"uses":[0,2,1]}]}' + ABOVE
 
 
 class Named(typing.NamedTuple):
@@ -81,8 +95,11 @@ CERTIFICATES = {
     "kept facts of one": (FACTS + b'{"to":[0],"trace":0}', b',{"to":[0],"trace":0}', FACTS_END),
 }
 WIDE_CERTIFICATES = {
-    "traces to 1,024 columns": (BELOW + USED_ONCE, b"," + USED_ONCE, ENTRY_END),
-    "traces by 1,000 such facts": (BELOW + USED_EACH, b"," + USED_EACH, ENTRY_END),
+    "traces to 1,024 columns": (LONG + USED_ONCE, b"," + USED_ONCE, ENTRY_END),
+    "traces by 1,000 such facts": (LONG + USED_EACH, b"," + USED_EACH, ENTRY_END),
+    "traces by 100 facts of 32": (SHORT + USED_SHORT, b"," + USED_SHORT, ENTRY_END),
+    "traces by one of them": (SHORT + USED_AGAIN, b"," + USED_AGAIN, ENTRY_END),
+    "kept facts to 33 columns": (BELOW + FACTS.removeprefix(b'{"nodes":[') + KEPT_TO_33, b"," + KEPT_TO_33, ABOVE_KEPT),
     "kept facts by 1,024 columns": (WIDE_FACTS + KEPT_BY_ALL, b"," + KEPT_BY_ALL, TRACES + b'{"from":[' + ALL + b'],"uses":[]}]}' + ABOVE),
     "traces of 1,024, each named": Named(WIDE_FACTS, b'{"to":[],"trace":%d}', 1, b'{"from":[1023],"uses":[]}'),
     "the same, each named twice": Named(WIDE_FACTS, b'{"to":[],"trace":%d}', 2, b'{"from":[1023],"uses":[]}'),
