@@ -4,18 +4,16 @@ ghost use Rattle.std.specs.Prelude.{◌≡◌, map, pos, IfOk};
 ghost use Rattle.wd_calls.specs.Answers as spec;
 ghost use Rattle.wd_calls.specs.Answers.{AreAnswersOf, AreCounts};
 ghost use Rattle.wd_calls.specs.Parts.{partition_of};
-ghost use Rattle.wd_frame.specs.Slides.{seen, shown};
+ghost use Rattle.wd_frame.specs.Slides.{IsAnswer, seen, shown, sum_over};
 ghost use Rattle.wd_frame.specs.IndexRanges.{AreLists, lists_of};
-ghost use Rattle.wd_plan.specs.Calls.{aggregate_value};
+ghost use Rattle.wd_plan.specs.Calls.{aggregate_value, column_values};
 ghost use Rattle.wd_plan.specs.Expressions as expressions;
 ghost use Rattle.wd_value.specs.declared.value.Value.TheVariants as variant;
 
-use crate::partition::{Partition, column_values};
+use crate::partition::{Partition, column_values, value_at};
 use crate::places::count_at;
 use std::alloc::Global;
-use wd_frame::{
-    Answer, Ascending, Count, Descending, Extreme, IndexRange, Sum, over_all, over_lists,
-};
+use wd_frame::{Answer, Ascending, Count, Descending, Extreme, IndexRange, Join, Sum, over_lists};
 use wd_plan::Aggregate;
 use wd_value::{Fault, OutOfMemory, Value};
 
@@ -54,7 +52,7 @@ pub(crate) fn answers<'a>(
     }
 }
 
-/// The value of an aggregate over all rows of a partition, or its fault.
+/// The value of an aggregate over all rows of a partition, or its fault. Goes over the rows once, and keeps none of their values.
 pub fn aggregate_over(
     alloc: Global,
     aggregate: Aggregate,
@@ -63,41 +61,46 @@ pub fn aggregate_over(
     ensures { IfOk result (λ r. r ≡ aggregate_value aggregate (partition_of partition.now)) }
 {
     let zero = Value::Int(0);
-    let answer = answer_over(alloc, aggregate, &*partition, &zero)?;
+    let answer = answer_over(aggregate, &*partition, &zero);
     value_of(alloc, &answer)
 }
 
 /// The answer of an aggregate over all rows of a partition.
-fn answer_over<'a>(
-    alloc: Global,
-    aggregate: Aggregate,
-    partition: &'a Partition,
-    zero: &'a Value,
-) -> Result<Answer<'a>, OutOfMemory>
+fn answer_over<'a>(aggregate: Aggregate, partition: &'a Partition, zero: &'a Value) -> Answer<'a>
     requires zero { zero.now ≡ variant.Int (pos 0) }
-    ensures { IfOk result (λ a. spec.value_of (shown a) ≡ aggregate_value aggregate (partition_of partition.now)) }
+    ensures { spec.value_of (shown result) ≡ aggregate_value aggregate (partition_of partition.now) }
 {
-    let count = partition.positions.len();
     match aggregate {
-        Aggregate::CountRows => Ok(Answer::Number(count as i128)),
-        Aggregate::Count(column) => {
-            let values = column_values(alloc, partition, column, count)?;
-            over_all(&values, Count::new(alloc))
-        }
-        Aggregate::Sum(column) => {
-            let values = column_values(alloc, partition, column, count)?;
-            let addends = addends(alloc, &values, zero)?;
-            over_all(&addends, Sum::new(alloc))
-        }
-        Aggregate::Min(column) => {
-            let values = column_values(alloc, partition, column, count)?;
-            over_all(&values, Extreme::new(alloc, Ascending))
-        }
-        Aggregate::Max(column) => {
-            let values = column_values(alloc, partition, column, count)?;
-            over_all(&values, Extreme::new(alloc, Descending))
-        }
+        Aggregate::CountRows => Answer::Number(partition.positions.len() as i128),
+        Aggregate::Count(column) => over_rows::<Count<'a>>(partition, column),
+        Aggregate::Sum(column) => total_over_rows(partition, column, zero),
+        Aggregate::Min(column) => over_rows::<Extreme<'a, Ascending>>(partition, column),
+        Aggregate::Max(column) => over_rows::<Extreme<'a, Descending>>(partition, column),
     }
+}
+
+/// A function's answer over the values in a column of all rows of a partition.
+fn over_rows<'a, S: Join<'a>>(partition: &'a Partition, column: u16) -> Answer<'a>
+    ensures { IsAnswer S.plain (column_values column (partition_of partition.now)) result }
+{
+    let mut answer = S::none();
+    for place in 0..partition.positions.len() {
+        answer = S::join(answer, S::one(value_at(partition, place, column)));
+    }
+    answer
+}
+
+/// The total over the values in a column of all rows of a partition. A value that is no whole number counts as 0.
+fn total_over_rows<'a>(partition: &'a Partition, column: u16, zero: &'a Value) -> Answer<'a>
+    requires { zero.now ≡ variant.Int (pos 0) }
+    ensures { IsAnswer sum_over (map spec.addend (column_values column (partition_of partition.now))) result }
+{
+    let mut answer = Sum::none();
+    for place in 0..partition.positions.len() {
+        let value = addend(value_at(partition, place, column), zero);
+        answer = Sum::join(answer, Sum::one(value));
+    }
+    answer
 }
 
 /// How many places each frame has.

@@ -19,7 +19,7 @@ pub struct Partition<'a, 'r> {
 }
 
 /// The value in a column of the row at a place, and NULL past the last place or column.
-fn value_at<'a>(partition: &'a Partition, place: usize, column: u16) -> &'a Value
+pub(crate) fn value_at<'a>(partition: &'a Partition, place: usize, column: u16) -> &'a Value
     ensures { result.now ≡ value_in (partition_of partition.now) column place }
 {
     match partition.positions.get(place) {

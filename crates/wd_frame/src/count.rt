@@ -63,6 +63,14 @@ impl<'a> Slide<'a> for Count<'a> {
 }
 
 impl<'a> Join<'a> for Count<'a> {
+    fn none() -> Answer<'a> {
+        Answer::Number(0)
+    }
+
+    fn one(value: &'a Value) -> Answer<'a> {
+        Answer::Number(weight(value) as i128)
+    }
+
     fn join(first: Answer<'a>, second: Answer<'a>) -> Answer<'a> {
         add(first, second)
     }

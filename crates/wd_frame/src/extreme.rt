@@ -103,6 +103,17 @@ impl<'a, D: Direction> Slide<'a> for Extreme<'a, D> {
 }
 
 impl<'a, D: Direction> Join<'a> for Extreme<'a, D> {
+    fn none() -> Answer<'a> {
+        Answer::Nothing
+    }
+
+    fn one(value: &'a Value) -> Answer<'a> {
+        match value {
+            Value::Null => Answer::Nothing,
+            _ => Answer::Of(value),
+        }
+    }
+
     fn join(first: Answer<'a>, second: Answer<'a>) -> Answer<'a> {
         first_of(first, second, D::key())
     }

@@ -25,6 +25,6 @@ pub use exclusion::frame_ranges;
 pub use extent::{IndexRange, all_bounds, bounds};
 pub use extreme::{Ascending, Descending, Direction, Extreme};
 pub use frame::{Part, members};
-pub use over::{over_all, over_frames, over_lists, over_ranges};
+pub use over::{over_frames, over_lists, over_ranges};
 pub use slide::{Join, Slide};
 pub use sum::Sum;

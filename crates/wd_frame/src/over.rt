@@ -80,16 +80,6 @@ pub fn over_lists<'a, S: Join<'a>>(
     Ok(answers)
 }
 
-/// The function's answer over all values.
-pub fn over_all<'a, S: Slide<'a>>(values: &[&'a Value], empty: S) -> Result<Answer<'a>, OutOfMemory>
-    requires empty { S.values empty ≡ [] }
-    ensures { IfOk result (λ a. shown a ≡ S.plain (seen values.now)) }
-{
-    let mut slide = empty;
-    fill(&mut slide, values, 0, 0, values.len())?;
-    Ok(slide.answer())
-}
-
 /// Replaces each answer over a list of values by the answer over that list and another one after it.
 fn join_all<'a, S: Join<'a>>(answers: &mut [Answer<'a>], more: &[Answer<'a>])
     requires { length more.now ≡ length answers.old }

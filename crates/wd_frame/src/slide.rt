@@ -29,6 +29,14 @@ pub trait Slide<'a>: Drop {
 
 /// A function whose answer over one list and another after it follows from the answers over each.
 pub trait Join<'a>: Slide<'a> {
+    /// The answer over no value.
+    fn none() -> Answer<'a>
+        ensures { IsAnswer Self.plain [] result };
+
+    /// The answer over one value.
+    fn one(value: &'a Value) -> Answer<'a>
+        ensures { IsAnswer Self.plain (value.now ∷ []) result };
+
     /// The answer over both lists, where they have fewer values than 64 bits count.
     fn join(first: Answer<'a>, second: Answer<'a>) -> Answer<'a>
         ensures { (xs ys : Values) → IsAnswer Self.plain xs first.entry → IsAnswer Self.plain ys second.entry → length xs + length ys < 2 ^ 64 → IsAnswer Self.plain (xs ++ ys) result };

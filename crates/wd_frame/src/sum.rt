@@ -70,6 +70,17 @@ impl<'a> Slide<'a> for Sum<'a> {
 }
 
 impl<'a> Join<'a> for Sum<'a> {
+    fn none() -> Answer<'a> {
+        Answer::Nothing
+    }
+
+    fn one(value: &'a Value) -> Answer<'a> {
+        match value {
+            Value::Int(number) => Answer::Number(*number as i128),
+            _ => Answer::Nothing,
+        }
+    }
+
     fn join(first: Answer<'a>, second: Answer<'a>) -> Answer<'a> {
         add(first, second)
     }

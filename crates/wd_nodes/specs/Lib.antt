@@ -3,4 +3,5 @@ pub mod Tables
 pub mod Relation
 pub mod Held
 pub mod Taken
+pub mod Selected
 pub mod Sides

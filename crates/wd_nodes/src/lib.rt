@@ -3,13 +3,14 @@
 //! `tables` are those that Scans read where they are, `moved_in` those that are moved into an evaluation, each for the one Scan that reads
 //! it. `stored` has rows that are there, which a step reads where they are (`source`) and of which it keeps some by their positions
 //! (`pick_rows`); `relation` has beside them pairs that are not made yet, and leaves out those that a condition above can't let through.
-//! `sides` makes the rows of pairs.
+//! `sides` makes the rows of pairs, `selection` finds outputs for which no value has to be made.
 //! `step` has the steps, but for a Window and a Limit, which wd_eval does under its orderings. Rows are kept column by column wherever
 //! they have one width.
 #![tactic(auto)]
 
 mod moved_in;
 mod relation;
+mod selection;
 mod sides;
 mod step;
 mod stored;

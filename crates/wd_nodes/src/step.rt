@@ -1,16 +1,16 @@
 //! Each step of a plan over the rows below it, but for a Window and a Limit.
 
-ghost use Rattle.std.specs.Prelude.{◌≡◌, ◌↔◌, ◌<◌, ◌^◌, ℕ, List, true, false, get_or, length, IfNone, IfOk, IfSome, IsTrue, map, nat_lt, None, Ok, option_map, Some};
-ghost use Rattle.wd_column_store.specs.Moves.{AreDifferent};
+ghost use Rattle.std.specs.Prelude.{◌≡◌, ◌<◌, ◌^◌, false, length, IfOk, map, nat_lt, Ok, option_map};
 ghost use Rattle.wd_nodes.specs.Held.{read_at};
 ghost use Rattle.wd_nodes.specs.Relation.{IsSmallOrLarge, joined_of, relation_of, relation_or_fault_of, stored_rows_of};
-ghost use Rattle.wd_plan.specs.Expressions.{Column, expression_of};
+ghost use Rattle.wd_plan.specs.Expressions.{expression_of};
 ghost use Rattle.wd_plan.specs.Outcomes as spec;
 ghost use Rattle.wd_plan.specs.Plans.{HaveMasks, grouping_of};
 ghost use Rattle.wd_joined.specs.Pairs.{rows_paired};
 ghost use Rattle.wd_value.specs.Rows.{Instance};
 
 use crate::relation::{Relation, from_columns, from_pairs, has_more, narrow, store};
+use crate::selection::selected_columns;
 use crate::sides::{Sides, join_sides};
 use crate::stored::{StoredRows, pick_rows};
 use crate::tables::Tables;
@@ -268,7 +268,7 @@ fn map_table(
     }
 }
 
-/// The values of the outputs over rows of their own: they are moved where the outputs are columns, none of them twice.
+/// The values of the outputs over rows of their own: they are moved where the outputs are columns or NULL, no column twice.
 fn map_own(
     alloc: Global,
     outputs: &[Expr],
@@ -276,7 +276,8 @@ fn map_own(
 ) -> Result<Result<Relation, Fault>, OutOfMemory>
     ensures { IfOk result (λ r. (instance : Instance) → relation_or_fault_of instance r ≡ spec.map_outcome (map expression_of outputs.now) rows) }
 {
-    match selected_columns(alloc, outputs)? {
+    let columns = selected_columns(alloc, outputs, &rows.source())?;
+    match columns {
         Some(columns) => {
             let selected = rows.select(alloc, &columns)?;
             Ok(Ok(Relation::Stored(StoredRows::Own(selected))))
@@ -295,55 +296,6 @@ fn map_source(
 {
     let made = map_columns(alloc, outputs, rows)?;
     Ok(from_columns(made))
-}
-
-/// The columns that the outputs are, exactly where they are columns and none of them stands there twice.
-fn selected_columns(alloc: Global, outputs: &[Expr]) -> Result<Option<Vec<u64>>, OutOfMemory>
-    ensures columns { IfOk result (λ o. IfSome o (λ v. AreDifferent v.items × (map expression_of outputs.now ≡ map Column v.items))) }
-    ensures none { IfOk result (λ o. IfNone o ((columns : List ℕ) → AreDifferent columns → map expression_of outputs.now ≡ map Column columns → ⊥)) }
-{
-    match shown_columns(alloc, outputs)? {
-        Some(columns) => Ok(different(columns)),
-        None => Ok(None),
-    }
-}
-
-/// The numbers, exactly where none stands twice among them.
-fn different(numbers: Vec<u64>) -> Option<Vec<u64>>
-    ensures numbers { IfSome result (λ v. AreDifferent v.items × (v.items ≡ numbers.items)) }
-    ensures none { IfNone result (AreDifferent numbers.items → ⊥) }
-{
-    if are_different(&numbers) {
-        Some(numbers)
-    } else {
-        None
-    }
-}
-
-/// Whether no number stands twice in a list.
-fn are_different(numbers: &[u64]) -> bool
-    ensures { IsTrue result ↔ AreDifferent numbers.now }
-{
-    for i in 0..numbers.len() {
-        if stands_before(numbers, i) {
-            return false;
-        }
-    }
-    true
-}
-
-/// Whether the number at a place stands before it too.
-fn stands_before(numbers: &[u64], place: usize) -> bool
-    requires { place < length numbers.now }
-    ensures before { result ≡ true → AreDifferent numbers.now → ⊥ }
-    ensures not_before { result ≡ false → (k : ℕ) → k < place → get_or numbers.now k 0 ≡ get_or numbers.now place 0 → ⊥ }
-{
-    for k in 0..place {
-        if numbers[k] == numbers[place] {
-            return true;
-        }
-    }
-    false
 }
 
 /// The rows of a Group's sets over the input's rows, or the error that there are more than `most`.

@@ -1,6 +1,6 @@
-use Rattle.std.proofs.Common.{◌≡◌, ◌∙◌, List, ap, sym}
+use Rattle.std.proofs.Common.{◌≡◌, ◌∙◌, List, ap}
 use Rattle.std.proofs.lemmas.Result.{IfOk-weaker}
-use Rattle.wd_value.specs.Rows.{Instance, Row}
+use Rattle.wd_value.specs.Rows.{Instance}
 use Rattle.wd_joined.specs.declared.pairs.Pair.{Pair}
 use Rattle.wd_joined.specs.Pairs.{rows_paired}
 use Rattle.wd_nodes.specs.Relation.{stored_rows_of}

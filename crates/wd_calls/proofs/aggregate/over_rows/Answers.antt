@@ -1,0 +1,30 @@
+use Rattle.std.proofs.Common.{◌≡◌, ◌∙◌, ◌∷◌, [], length, ap, arith, subst, sym}
+use Rattle.std.proofs.lemmas.List.{length-map}
+use Rattle.wd_value.specs.Rows.{row_at}
+use Rattle.wd_frame.specs.Slides.{IsAnswer}
+use Rattle.wd_calls.specs.Parts.{partition_of}
+use Rattle.wd_calls.specs.Values.{first_values, value_in}
+use Rattle.wd_calls.proofs.Whole.{length-first_values, one_more, whole_column}
+use Rattle.wd_calls.proofs.aggregate.over_rows.Goals as goal
+
+pub loop-place-preserved : goal.loop-place-preserved
+loop-place-preserved g c =
+    let p = partition_of c.args.partition.now in
+    let column = c.args.column in
+    let place = c.loop-place.place in
+    let plain = g.S.Slide.plain in
+    let test = c.loop-place-test.true in
+    let long = length-first_values p column place in
+    let one : IsAnswer plain (value_in p column place ∷ []) c.one.result = subst (λ v. IsAnswer plain (v ∷ []) c.one.result) c.value_at.ensures c.one.ensures in
+    subst (λ values. IsAnswer plain values c.join-answer.result) (sym (one_more p column place))
+    (c.join-answer.ensures (first_values p column place) (value_in p column place ∷ []) c.loop-place.invariant one (omega arith))
+
+pub returns : goal.returns
+returns g c =
+    let p = partition_of c.args.partition.now in
+    let ps = c.args.partition.now.positions.now in
+    let test = c.loop-place-test.false in
+    let end = c.loop-place.auto.place-end in
+    let long : length p ≡ length ps = length-map ps (row_at c.args.partition.now.rows.now) in
+    let all : c.loop-place.place ≡ length p = omega arith in
+    subst (λ values. IsAnswer g.S.Slide.plain values c.loop-place.answer) (ap (first_values p c.args.column) all ∙ whole_column p c.args.column) c.loop-place.invariant
