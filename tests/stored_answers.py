@@ -9,8 +9,9 @@ other_order stand the same tables in another order, with the answer over them. W
 `verify --list` what check.txt is to these commands without the flag. Where there is explain.txt too, `explain` prints it, where
 there is certificate.json, `verify` accepts it, and where there is witness.json, `refute` does. A folder with refusal.txt has a
 query that is not read, and the line that `check` and `explain` say of it in place of all these. tests/frames has one schema and one table and many queries, each
-beside its answer: each function of a window in each mode of frame with each exclusion; those answers are PostgreSQL 15's. Each
-run must end with the status of its answer, print exactly what is stored and nothing on standard error. A missing answer is a
+beside its answer: each function of a window in each mode of frame with each exclusion; those answers are PostgreSQL 15's. In
+tests/selected stand likewise select lists with NULL and aggregates of groups, over two tables and their pairs, with SQLite 3.40's
+answers. Each run must end with the status of its answer, print exactly what is stored and nothing on standard error. A missing answer is a
 failure, and so is a folder without queries. The last line is 'N passed, M failed'.
 """
 
@@ -38,11 +39,19 @@ def examples():
                 yield f"{folder}/schema.sql", f"{folder}/query.sql", tables, f"{data}/answer.csv"
 
 
+def queries(name, *tables):
+    """The same for each query of a folder of tests/, over the tables there."""
+    folder = f"{TOP}/tests/{name}"
+    for query in sorted(set(glob.glob(f"{folder}/*.sql")) - {f"{folder}/schema.sql"}):
+        yield f"{folder}/schema.sql", query, [f"{folder}/{table}.csv" for table in tables], query.removesuffix(".sql") + ".csv"
+
+
 def frames():
-    """The same for each query on frames."""
-    folder = f"{TOP}/tests/frames"
-    for query in sorted(glob.glob(f"{folder}/*_exclude_*.sql")):
-        yield f"{folder}/schema.sql", query, [f"{folder}/t.csv"], query.removesuffix(".sql") + ".csv"
+    return queries("frames", "t")
+
+
+def selected():
+    return queries("selected", "t", "u")
 
 
 STATUSES = {"DETERMINISTIC": 0, "LISTED": 0, "DEPENDS": 1, "LIST OPEN": 2, "UNKNOWN": 2}
@@ -112,7 +121,7 @@ def wrong_refusal(program, folder):
 
 def trials(program):
     """Each file that is tried, with what is wrong with it."""
-    for schema, query, tables, answer in [*examples(), *frames()]:
+    for schema, query, tables, answer in [*examples(), *frames(), *selected()]:
         yield answer, wrong_answer(program, schema, query, tables, answer)
     for folder in folders(True):
         yield f"{folder}/refusal.txt", wrong_refusal(program, folder)
@@ -132,6 +141,7 @@ def main():
     program, passed, failed = os.path.abspath(sys.argv[1]), 0, 0
     failed += not list(examples())
     failed += not list(frames())
+    failed += not list(selected())
     for file, wrong in trials(program):
         passed, failed = passed + (not wrong), failed + bool(wrong)
         if wrong:

@@ -1,0 +1,1 @@
+SELECT NULL AS a, NULL AS b FROM t WHERE k = 2

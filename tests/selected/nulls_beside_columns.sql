@@ -1,0 +1,1 @@
+SELECT NULL AS a, v, NULL AS b, id, NULL AS c FROM t ORDER BY id

@@ -1,0 +1,1 @@
+SELECT NULL AS a, id FROM t WHERE id > 100

@@ -1,0 +1,1 @@
+SELECT s.n, NULL AS a, s.id, s.m FROM (SELECT t.id, u.y, ROW_NUMBER() OVER (ORDER BY t.id DESC, u.y) AS n, SUM(u.y) OVER (PARTITION BY t.k ORDER BY t.id, u.y) AS m FROM t JOIN u ON t.k = u.k) AS s ORDER BY s.n

@@ -1,0 +1,1 @@
+SELECT k, SUM(v) AS a FROM t WHERE k > 2 GROUP BY k ORDER BY k
