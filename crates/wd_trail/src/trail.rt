@@ -10,7 +10,7 @@ ghost use Rattle.wd_value.specs.Rows.{Instance, instance_of};
 
 use crate::step::{join_rows, step_rows};
 use std::alloc::Global;
-use wd_columns::{OwnRows, copy_all};
+use wd_columns::{OwnRows, RowSource, copy_all};
 use wd_eval::{EvalError, stable_rows};
 use wd_plan::{Expr, Plan};
 use wd_schema::Schema;
@@ -39,8 +39,8 @@ impl Trail {
 }
 
 /// Keeps what the nodes of a plan give over an instance, a part of the plan without orderings as one. Nothing is kept where a node has
-/// a fault or too many rows, a Join above orderings too many values, or where the nodes have more than `most` values. (A row counts as one
-/// value more than it has.)
+/// a fault or too many rows, a Join above orderings too many values, or where the nodes hold more than `most` values or positions. (A row
+/// counts as one more than it has.)
 pub fn follow(
     alloc: Global,
     plan: &Plan,
@@ -55,7 +55,7 @@ pub fn follow(
     follow_nodes(alloc, plan, schema, instance, &mut room)
 }
 
-/// Keeps what the nodes give, where there is room for their values, which is taken away.
+/// Keeps what the nodes give, where there is room for what they hold, which is taken away.
 fn follow_nodes(
     alloc: Global,
     plan: &Plan,
@@ -82,7 +82,7 @@ fn follow_nodes(
             let Some(right) = follow_nodes(alloc, right, schema, instance, room)? else {
                 return Ok(None);
             };
-            join(alloc, condition, left, right, room)
+            join(alloc, plan, condition, left, right, room)
         }
         Plan::Filter { input, .. }
         | Plan::Map { input, .. }
@@ -110,7 +110,7 @@ fn part(
     ensures { IfOk result (λ o. IfSome o (λ t. IsTrail t (plan_of plan.now) (instance_of instance.now.items))) }
 {
     match stable_rows(alloc, plan, schema, instance) {
-        Ok(Ok(rows)) if has_room(&rows, room) => Ok(Some(Trail::Part(rows))),
+        Ok(Ok(rows)) if has_room(&rows, plan, room) => Ok(Some(Trail::Part(rows))),
         Err(EvalError::OutOfMemory) => Err(OutOfMemory),
         Ok(_) | Err(_) => Ok(None),
     }
@@ -127,16 +127,17 @@ fn step(
     ensures { IfOk result (λ o. IfSome o (λ t. (instance : Instance) (step : Step) (input : PlanTree) → plan_of plan.now ≡ Over step input → IsTrail below input instance → IsTrail t (Over step input) instance)) }
 {
     let found = step_rows(alloc, plan, below.rows(), None)?;
-    let Some(rows) = with_room(found, room) else {
+    let Some(rows) = with_room(found, plan, room) else {
         return Ok(None);
     };
     let below = Box::new(alloc, below)?;
     Ok(Some(Trail::Step(rows, below)))
 }
 
-/// A Join of its two sides.
+/// The Join that is the plan's last node, of its two sides.
 fn join(
     alloc: Global,
+    plan: &Plan,
     condition: &Option<Expr>,
     left: Trail,
     right: Trail,
@@ -146,32 +147,73 @@ fn join(
 {
     let second = copy_all(alloc, &right.rows().source())?;
     let found = join_rows(alloc, condition, left.rows(), second)?;
-    let Some(rows) = with_room(found, room) else {
+    let Some(rows) = with_room(found, plan, room) else {
         return Ok(None);
     };
     let (left, right) = (Box::new(alloc, left)?, Box::new(alloc, right)?);
     Ok(Some(Trail::Join(rows, left, right)))
 }
 
-/// The rows, if there are any and there is room for their values, which is taken away.
-fn with_room(found: Option<OwnRows>, room: &mut u64) -> Option<OwnRows>
+/// The rows that a plan's last node gives, if there are any and there is room for what they hold, which is taken away.
+fn with_room(found: Option<OwnRows>, plan: &Plan, room: &mut u64) -> Option<OwnRows>
     ensures { IfSome result (λ rows. found ≡ Some rows) }
 {
     let rows = found?;
-    if has_room(&rows, room) {
+    if has_room(&rows, plan, room) {
         Some(rows)
     } else {
         None
     }
 }
 
-/// Whether there is room for the values of these rows, which is taken away. A row counts as one value more than it has.
-fn has_room(rows: &OwnRows, room: &mut u64) -> bool {
-    let rows = rows.source();
-    let values = (rows.len() as u64).saturating_mul((rows.width(0) as u64).saturating_add(1));
-    let enough = values <= *room;
+/// Whether there is room for what the rows of a plan's last node hold, which is taken away.
+fn has_room(rows: &OwnRows, plan: &Plan, room: &mut u64) -> bool {
+    let held = held(&rows.source(), plan);
+    let enough = held <= *room;
     if enough {
-        *room -= values;
+        *room -= held;
     }
     enough
+}
+
+/// How many values or positions the rows of a plan's last node hold beyond what they share with the rows below it. A row counts as one
+/// more than it has.
+fn held(rows: &RowSource, plan: &Plan) -> u64 {
+    let width = (rows.width(0) as u64).saturating_add(1);
+    let tables = tables_of(plan);
+    let each = if is_joined(rows) {
+        match plan {
+            Plan::Map { .. } => 1,
+            Plan::Window { window, .. } => (window.calls.len() as u64).saturating_add(1),
+            _ => tables,
+        }
+    } else {
+        width.max(tables)
+    };
+    (rows.len() as u64).saturating_mul(each)
+}
+
+/// Whether rows are kept by their positions in tables, as far as their columns tell: not where all of them are NULL.
+fn is_joined(rows: &RowSource) -> bool {
+    for column in 0..rows.width(0) {
+        if rows.stored_column(column).is_some() {
+            return true;
+        }
+    }
+    false
+}
+
+/// In how many tables the rows of a plan's last node may have positions: those of its Scans, and one for each call.
+fn tables_of(plan: &Plan) -> u64 {
+    match plan {
+        Plan::Scan { .. } | Plan::Group { .. } => 1,
+        Plan::Join { left, right, .. } => tables_of(left).saturating_add(tables_of(right)),
+        Plan::Window { input, window } => {
+            tables_of(input).saturating_add(window.calls.len() as u64)
+        }
+        Plan::Filter { input, .. }
+        | Plan::Map { input, .. }
+        | Plan::Distinct { input }
+        | Plan::Limit { input, .. } => tables_of(input),
+    }
 }
