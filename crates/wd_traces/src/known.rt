@@ -21,6 +21,17 @@ use wd_value::OutOfMemory;
 /// The most members of a side of which no set is made.
 const SHORT: usize = 32;
 
+/// The same of the first facts: their numbers take few bytes, so that a text may use them often, and sets of so few take little memory.
+const SHORT_OF_FIRST: usize = 8;
+
+/// How many facts are the first ones.
+const FIRST_FACTS: usize = 1 << 18;
+
+/// Whether a set is made of so many members of a side of the fact with this number.
+fn is_long(members: usize, number: usize) -> bool {
+    members > SHORT || (members > SHORT_OF_FIRST && number < FIRST_FACTS)
+}
+
 /// The sets of the long sides of facts, by the numbers of the facts. (What a kept fact starts from goes by the number of its trace.)
 #[derive(Drop)]
 pub struct SideSets {
@@ -79,7 +90,7 @@ fn add_side(
 ) -> Result<(), OutOfMemory>
     ensures { IfOk result (λ _. (sides : ℕ → List AMember) → sides number ≡ members.now → AreSets sides sets.old.items → AreSets sides sets.new.items) }
 {
-    if members.len() > SHORT {
+    if is_long(members.len(), number) {
         let mut set = Set::new(alloc);
         insert_each(&mut set, members)?;
         put(alloc, sets, number, set)?;
@@ -100,7 +111,7 @@ fn add_moved(
     requires { list_all (is_plain (65536 - by)) members.now ≡ true }
     ensures { IfOk result (λ _. (sides : ℕ → List AMember) → sides number ≡ map (moved (λ c. by + c) row) members.now → AreSets sides sets.old.items → AreSets sides sets.new.items) }
 {
-    if members.len() > SHORT {
+    if is_long(members.len(), number) {
         let mut set = Set::new(alloc);
         insert_moved(&mut set, by, row, members)?;
         put(alloc, sets, number, set)?;
@@ -133,7 +144,7 @@ fn add_columns(
     requires { list_all (is_plain (65536 - by)) (columns_named columns.now) ≡ true }
     ensures { IfOk result (λ _. (sides : ℕ → List AMember) → sides number ≡ map (moved (λ c. by + c) row) (columns_named columns.now) → AreSets sides sets.old.items → AreSets sides sets.new.items) }
 {
-    if columns.len() > SHORT && set_at(sets, number).is_none() {
+    if is_long(columns.len(), number) && set_at(sets, number).is_none() {
         let mut set = Set::new(alloc);
         insert_columns(&mut set, by, row, columns)?;
         put(alloc, sets, number, set)?;
