@@ -14,7 +14,7 @@ use wd_columns::{OwnRows, RowSource, copy_all};
 use wd_eval::{EvalError, stable_rows};
 use wd_plan::{Expr, Plan};
 use wd_schema::Schema;
-use wd_value::{Instance, OutOfMemory};
+use wd_value::{Instance, OutOfMemory, Value};
 
 /// The rows of a plan's nodes under the choice that leaves rows that tie as they are.
 #[derive(Drop)]
@@ -110,7 +110,9 @@ fn part(
     ensures { IfOk result (λ o. IfSome o (λ t. IsTrail t (plan_of plan.now) (instance_of instance.now.items))) }
 {
     match stable_rows(alloc, plan, schema, instance) {
-        Ok(Ok(rows)) if has_room(&rows, plan, room) => Ok(Some(Trail::Part(rows))),
+        Ok(Ok(rows)) if has_room(&rows, held_by_each(&rows.source(), plan), room) => {
+            Ok(Some(Trail::Part(rows)))
+        }
         Err(EvalError::OutOfMemory) => Err(OutOfMemory),
         Ok(_) | Err(_) => Ok(None),
     }
@@ -154,21 +156,23 @@ fn join(
     Ok(Some(Trail::Join(rows, left, right)))
 }
 
-/// The rows that a plan's last node gives, if there are any and there is room for what they hold, which is taken away.
+/// The rows that a plan's last node gives, if there are any and there is room for what they hold beyond the rows below it, which is taken
+/// away.
 fn with_room(found: Option<OwnRows>, plan: &Plan, room: &mut u64) -> Option<OwnRows>
     ensures { IfSome result (λ rows. found ≡ Some rows) }
 {
     let rows = found?;
-    if has_room(&rows, plan, room) {
+    let each = added_to_each(&rows.source(), plan);
+    if has_room(&rows, each, room) {
         Some(rows)
     } else {
         None
     }
 }
 
-/// Whether there is room for what the rows of a plan's last node hold, which is taken away.
-fn has_room(rows: &OwnRows, plan: &Plan, room: &mut u64) -> bool {
-    let held = held(&rows.source(), plan);
+/// Whether there is room for rows that hold so many values and positions each, which is taken away.
+fn has_room(rows: &OwnRows, each: u64, room: &mut u64) -> bool {
+    let held = (rows.source().len() as u64).saturating_mul(each);
     let enough = held <= *room;
     if enough {
         *room -= held;
@@ -176,21 +180,26 @@ fn has_room(rows: &OwnRows, plan: &Plan, room: &mut u64) -> bool {
     enough
 }
 
-/// How many values or positions the rows of a plan's last node hold beyond what they share with the rows below it. A row counts as one
-/// more than it has.
-fn held(rows: &RowSource, plan: &Plan) -> u64 {
-    let width = (rows.width(0) as u64).saturating_add(1);
-    let tables = tables_of(plan);
-    let each = if is_joined(rows) {
-        match plan {
-            Plan::Map { .. } => 1,
-            Plan::Window { window, .. } => (window.calls.len() as u64).saturating_add(1),
-            _ => tables,
+/// How many values and positions each row of a plan's last node holds beyond those of the row below it.
+fn added_to_each(rows: &RowSource, plan: &Plan) -> u64 {
+    match plan {
+        Plan::Map { .. } if is_joined(rows) => 1,
+        Plan::Window { window, .. } if is_joined(rows) => {
+            (window.calls.len() as u64).saturating_add(1)
         }
+        _ => held_by_each(rows, plan),
+    }
+}
+
+/// How many values and positions each row of a plan's last node holds, where no row below it is kept. A row counts as one value more than
+/// it has.
+fn held_by_each(rows: &RowSource, plan: &Plan) -> u64 {
+    let made = made_in(plan);
+    if is_joined(rows) {
+        made
     } else {
-        width.max(tables)
-    };
-    (rows.len() as u64).saturating_mul(each)
+        made.max((rows.width(0) as u64).saturating_add(1))
+    }
 }
 
 /// Whether rows are kept by their positions in tables, as far as their columns tell: not where all of them are NULL.
@@ -203,17 +212,31 @@ fn is_joined(rows: &RowSource) -> bool {
     false
 }
 
-/// In how many tables the rows of a plan's last node may have positions: those of its Scans, and one for each call.
-fn tables_of(plan: &Plan) -> u64 {
+/// How many positions and values stand behind a row: a position for each Scan, and a value for each column that is made.
+fn made_in(plan: &Plan) -> u64 {
     match plan {
-        Plan::Scan { .. } | Plan::Group { .. } => 1,
-        Plan::Join { left, right, .. } => tables_of(left).saturating_add(tables_of(right)),
-        Plan::Window { input, window } => {
-            tables_of(input).saturating_add(window.calls.len() as u64)
+        Plan::Scan { .. } => 1,
+        Plan::Join { left, right, .. } => made_in(left).saturating_add(made_in(right)),
+        Plan::Filter { input, .. } | Plan::Distinct { input } | Plan::Limit { input, .. } => {
+            made_in(input)
         }
-        Plan::Filter { input, .. }
-        | Plan::Map { input, .. }
-        | Plan::Distinct { input }
-        | Plan::Limit { input, .. } => tables_of(input),
+        Plan::Map { input, outputs } => made_in(input).saturating_add(made_by(outputs)),
+        Plan::Window { input, window } => made_in(input).saturating_add(window.calls.len() as u64),
+        Plan::Group { group, .. } => {
+            u64::from(group.columns).saturating_add(group.calls.len() as u64)
+        }
     }
+}
+
+/// How many columns a Map makes: none where its outputs are columns in rising order and NULLs, and else at most all.
+fn made_by(outputs: &[Expr]) -> u64 {
+    let mut next = 0;
+    for output in outputs {
+        match output {
+            Expr::Column(column) if u32::from(*column) >= next => next = u32::from(*column) + 1,
+            Expr::Literal(Value::Null, _) => {}
+            _ => return outputs.len() as u64,
+        }
+    }
+    0
 }
