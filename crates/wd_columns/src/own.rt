@@ -4,6 +4,7 @@ ghost use Rattle.std.specs.Prelude.{◌≡◌, IfOk, length, map};
 ghost use Rattle.wd_column_store.specs.Along.{values_before, with_values};
 ghost use Rattle.wd_column_store.specs.Moves.{AreDifferent, AreWithin};
 ghost use Rattle.wd_columns.specs.Owned.{JoinedOr, rows_owned};
+ghost use Rattle.wd_joined.specs.Alike.{AreAlikeIn};
 ghost use Rattle.wd_value.specs.Rows.{columns_of, rows_at, rows_of};
 
 use crate::copying;
@@ -139,6 +140,21 @@ impl OwnRows {
                 let selected = rows.select(alloc, columns)?;
                 Ok(OwnRows::of_joined(selected))
             }
+        }
+    }
+
+    /// The same rows; where they are kept by position, with NULL in the columns that are not marked. Those past the marks stay.
+    pub fn keep(self, alloc: Global, marks: &[bool]) -> Result<OwnRows, OutOfMemory>
+        ensures { IfOk result (λ r. AreAlikeIn marks.now r self) }
+    {
+        let OwnRows { owned } = self;
+        match owned {
+            Owned::ByPosition(rows) => {
+                let kept = rows.keep(alloc, marks)?;
+                Ok(OwnRows::of_joined(kept))
+            }
+            Owned::ByRow(rows) => Ok(OwnRows::of_rows(rows)),
+            Owned::ByColumn(columns) => Ok(OwnRows::of_columns(columns)),
         }
     }
 

@@ -113,7 +113,7 @@ selected tables ps origins columns n = selected_along tables ps origins columns 
 stands_nowhere : (n : ℕ) → StandsIn n None
 stands_nowhere n origin is = absurd cc
 
-stands_at : (n c : ℕ) (origins : List (Option Origin)) → All (StandsIn n) origins → StandsIn n (get_or origins c None)
+pub stands_at : (n c : ℕ) (origins : List (Option Origin)) → All (StandsIn n) origins → StandsIn n (get_or origins c None)
 stands_at n c origins within = elim (cases_lt c (length origins)) [
   | inl less ↦ within c None less
   | inr past ↦ rw (get_or_past origins c None past) (stands_nowhere n)
@@ -140,7 +140,7 @@ value_before tables more ps further p long (Some origin) within =
     let there : origin.table < length ps = omega arith in
     (λ i. column_of (row_at (table_before tables more origin.table low i) (position_before ps further origin.table p there i)) origin.column)
 
-row_before : (tables more : List (List Row)) (ps further : List (List ℕ)) (p : ℕ) → length ps ≡ length tables → (origins : List (Option Origin)) → All (StandsIn (length tables)) origins → row_joined (tables ++ more) (ps ++ further) origins p ≡ row_joined tables ps origins p
+pub row_before : (tables more : List (List Row)) (ps further : List (List ℕ)) (p : ℕ) → length ps ≡ length tables → (origins : List (Option Origin)) → All (StandsIn (length tables)) origins → row_joined (tables ++ more) (ps ++ further) origins p ≡ row_joined tables ps origins p
 row_before tables more ps further p long [] within = refl
 row_before tables more ps further p long (o ∷ origins) within =
     λ i. value_before tables more ps further p long o (within 0 None (omega arith)) i ∷ row_before tables more ps further p long origins (λ k d low. within (suc k) d (omega arith)) i
@@ -155,7 +155,7 @@ row_behind : (tables more : List (List Row)) (ps further : List (List ℕ)) (p :
 row_behind tables more ps further p long [] = refl
 row_behind tables more ps further p long (o ∷ origins) = λ i. value_behind tables more ps further p long o i ∷ row_behind tables more ps further p long origins i
 
-stands_in_more : (n m : ℕ) → n ≤ m → (origins : List (Option Origin)) → All (StandsIn n) origins → All (StandsIn m) origins
+pub stands_in_more : (n m : ℕ) → n ≤ m → (origins : List (Option Origin)) → All (StandsIn n) origins → All (StandsIn m) origins
 stands_in_more n m low = All-weaker (StandsIn n) (StandsIn m) (λ o within origin is. (let less = within origin is in omega arith))
 
 -- ---- one column more

@@ -5,6 +5,8 @@ ghost use Rattle.std.specs.Option.{option_copied};
 ghost use Rattle.std.specs.Prelude.{◌≡◌, List, IfOk, IfSome, length, map, unwrap_or};
 ghost use Rattle.wd_column_store.specs.Along.{values_before, with_values};
 ghost use Rattle.wd_column_store.specs.Moves.{AreWithin};
+ghost use Rattle.wd_joined.specs.Alike.{AreAlikeIn};
+ghost use Rattle.wd_joined.specs.Joined.{AreOfTables, rows_joined};
 ghost use Rattle.wd_joined.specs.Pairs.{AreOf, rows_paired};
 ghost use Rattle.wd_joined.specs.Stored.{HasValues, Stores};
 ghost use Rattle.wd_value.specs.Rows.{column_of, columns_of, row_at, rows_at};
@@ -15,7 +17,10 @@ use crate::lists::{
     appended, each_position, first_positions, one_column, only, positions_of_all,
     positions_of_pairs, pushed, share_positions, share_tables, shared_in, stored_in, value_along,
 };
-use crate::origin::{Origin, StoredColumn, appended_behind, origin_at, origins_at, own_origins};
+use crate::needed::Needed;
+use crate::origin::{
+    Origin, StoredColumn, appended_behind, marked_origins, origin_at, origins_at, own_origins,
+};
 use crate::pairs::Pair;
 use crate::shared::{SharedColumn, SharedPositions, SharedTable};
 use std::alloc::Global;
@@ -197,10 +202,43 @@ impl JoinedRows {
             count,
         } = self;
         let picked = origins_at(alloc, &origins, columns)?;
-        Ok(JoinedRows {
+        JoinedRows::of_needed(alloc, &tables, &positions, &picked, count)
+    }
+
+    /// The same rows, but for NULL in the columns that are not marked; those past the marks stay.
+    pub fn keep(self, alloc: Global, marks: &[bool]) -> Result<JoinedRows, OutOfMemory>
+        ensures { IfOk result (λ j. AreAlikeIn marks.now j self) }
+    {
+        let JoinedRows {
             tables,
             positions,
-            origins: picked,
+            origins,
+            count,
+        } = self;
+        let kept = marked_origins(alloc, &origins, marks)?;
+        JoinedRows::of_needed(alloc, &tables, &positions, &kept, count)
+    }
+
+    /// So many rows with columns that stand there. They share the tables in which a column stands, and not the others.
+    fn of_needed(
+        alloc: Global,
+        tables: &[SharedTable],
+        positions: &[SharedPositions],
+        origins: &[Option<Origin>],
+        count: usize,
+    ) -> Result<JoinedRows, OutOfMemory>
+        requires { AreOfTables tables.now positions.now origins.now }
+        ensures { IfOk result (λ j. j ≡ rows_joined tables.now positions.now origins.now count) }
+    {
+        let mut needed = Needed::none(alloc, tables.len())?;
+        let mut placed = Vec::with_capacity(alloc, origins.len())?;
+        for origin in origins {
+            placed.push(needed.origin_of(tables, positions, *origin)?)?;
+        }
+        Ok(JoinedRows {
+            tables: needed.tables,
+            positions: needed.positions,
+            origins: placed,
             count,
         })
     }

@@ -1,8 +1,9 @@
 //! Where the columns of joined rows stand.
 
-ghost use Rattle.std.specs.Prelude.{◌≡◌, ◌+◌, ◌<◌, ◌^◌, ◌++◌, All, IfOk, None, OnOk, Some, map, slice_index_or};
+ghost use Rattle.std.specs.Prelude.{◌≡◌, ◌+◌, ◌<◌, ◌^◌, ◌++◌, true, All, IfOk, None, OnOk, Some, get_or, map, slice_index_or, if◌then◌else◌};
 ghost use Rattle.std.specs.Option.{ForSome};
 ghost use Rattle.wd_joined.specs.Joined.{behind};
+ghost use Rattle.wd_joined.specs.Needed.{origins_marked};
 ghost use Rattle.wd_value.specs.Bags as bags;
 
 use std::alloc::Global;
@@ -48,6 +49,32 @@ pub fn origins_at(
         picked.push(origin_at(origins, *column as usize))?;
     }
     Ok(picked)
+}
+
+/// The columns that are marked, and those past the marks; the others stand nowhere.
+pub fn marked_origins(
+    alloc: Global,
+    origins: &[Option<Origin>],
+    marks: &[bool],
+) -> Result<Vec<Option<Origin>>, OutOfMemory>
+    ensures { IfOk result (λ v. v.items ≡ origins_marked marks.now origins.now) }
+{
+    let mut kept = Vec::with_capacity(alloc, origins.len())?;
+    for column in 0..origins.len() {
+        kept.push(marked_origin(origins, marks, column))?;
+    }
+    Ok(kept)
+}
+
+/// Where a column stands that is marked or past the marks, and else nowhere.
+fn marked_origin(origins: &[Option<Origin>], marks: &[bool], column: usize) -> Option<Origin>
+    ensures { result ≡ (if get_or marks.now column true then slice_index_or origins.now column None else None) }
+{
+    if marks.get(column).copied().unwrap_or(true) {
+        origin_at(origins, column)
+    } else {
+        None
+    }
 }
 
 /// Where the column with a number stands, and nowhere past the last.
