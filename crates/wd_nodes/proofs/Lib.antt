@@ -1,4 +1,5 @@
 pub mod Held
 mod Taken
 pub mod Enough
+pub mod Marked
 pub mod Selected

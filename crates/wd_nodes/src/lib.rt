@@ -3,11 +3,12 @@
 //! `tables` are those that Scans read where they are, `moved_in` those that are moved into an evaluation, each for the one Scan that reads
 //! it. `stored` has rows that are there, which a step reads where they are (`source`) and of which it keeps some by their positions
 //! (`pick_rows`); `relation` has beside them pairs that are not made yet, and leaves out those that a condition above can't let through.
-//! `sides` makes the rows of pairs, `selection` finds outputs for which no value has to be made.
+//! `sides` makes the rows of pairs, `marked` without columns that the step above does not read, `selection` finds outputs for which no value has to be made.
 //! `step` has the steps, but for a Window and a Limit, which wd_eval does under its orderings. Rows are kept column by column wherever
 //! they have one width.
 #![tactic(auto)]
 
+mod marked;
 mod moved_in;
 mod relation;
 mod selection;

@@ -9,6 +9,7 @@ ghost use Rattle.wd_plan.specs.Plans.{HaveMasks, grouping_of};
 ghost use Rattle.wd_joined.specs.Pairs.{rows_paired};
 ghost use Rattle.wd_value.specs.Rows.{Instance};
 
+use crate::marked::{columns_read, keep_marked, store_marked};
 use crate::relation::{Relation, from_columns, from_pairs, has_more, narrow, store};
 use crate::selection::selected_columns;
 use crate::sides::{Sides, join_sides};
@@ -184,11 +185,14 @@ pub fn map_input(
     match input {
         Relation::Stored(stored) => map_stored(alloc, tables, outputs, stored),
         Relation::Pairs(left, right) => {
-            let left = store(alloc, tables, Box::into_inner(left))?;
+            let marks = columns_read(alloc, outputs)?;
+            let left = store_marked(alloc, tables, Box::into_inner(left), &marks)?;
             let pairs = all_pairs(alloc, &tables.source(&left), &tables.source(&right))?;
             map_pairs(alloc, tables, outputs, left, right, &pairs)
         }
         Relation::Joined(left, right, pairs) => {
+            let marks = columns_read(alloc, outputs)?;
+            let left = keep_marked(alloc, left, &marks)?;
             map_pairs(alloc, tables, outputs, left, right, &pairs)
         }
     }
