@@ -1,15 +1,12 @@
 -- The tables in which columns of joined rows stand, without the others.
 use Rattle.std.proofs.Common.{◌≡◌, ◌⊎◌, ◌∙◌, ℕ, zero-add, ◌+◌, ◌<◌, ◌≤◌, Bool, true, false, List, [], ◌∷◌, ◌++◌, All, Option, Some, None, map, length, get_or, set, refl, sym, ap, subst, arith, inl, inr}
-use Rattle.std.specs.Option.{ForSome}
 use Rattle.std.specs.Prelude.{if◌then◌else◌}
-use Rattle.std.specs.List.{AllZip}
 use Rattle.std.proofs.lemmas.Bool.{cases_eq, cases_lt}
-use Rattle.std.proofs.lemmas.List.{append-nil, get_or-map as get_or_mapped, get_or_append_left, get_or_past, get_or_push, get_or-set_other, get_or-set_same, length-append, length-map, length-set, length_push, map-append, map_push}
+use Rattle.std.proofs.lemmas.List.{append-nil, get_or_append_left, get_or_past, get_or_push, get_or-set_other, get_or-set_same, length-append, length-map, length-set, length_push, map-append}
 use Rattle.std.proofs.lemmas.List.Elements.{All-map, All-push}
 use Rattle.std.proofs.lemmas.List.FromFn.{get_or-map-range_with_len, length-range_with_len}
-use Rattle.wd_value.specs.declared.value.Value.{Value}
 use Rattle.wd_value.specs.Bags.{positions}
-use Rattle.wd_value.specs.Rows.{Row, column_of, row_at, table_at}
+use Rattle.wd_value.specs.Rows.{Row, table_at}
 use Rattle.wd_joined.specs.declared.needed.Needed.{Needed}
 use Rattle.wd_joined.specs.declared.origin.Origin.{Origin}
 use Rattle.wd_joined.specs.Alike.{AreAlikeIn, IsAlikeIn}

@@ -1,5 +1,5 @@
 pub mod Held
 mod Taken
 pub mod Enough
-pub mod Marked
+pub mod Reading
 pub mod Selected

@@ -1,6 +1,6 @@
 //! Rows of pairs with the columns that outputs read: of the others those that are kept by position need not be there.
 
-ghost use Rattle.std.specs.Prelude.{IfOk, All, map, get_or, ◌≡◌, true};
+ghost use Rattle.std.specs.Prelude.{◌≡◌, true, All, IfOk, get_or, length, map};
 ghost use Rattle.wd_joined.specs.Alike.{AreAlikeIn};
 ghost use Rattle.wd_joined.specs.Pairs.{rows_paired};
 ghost use Rattle.wd_nodes.specs.Marked.{HasMore, Reads};
@@ -34,6 +34,7 @@ pub(crate) fn columns_read(alloc: Global, outputs: &[Expr]) -> Result<Vec<bool>,
 
 /// Marks the columns that an expression reads. The left operand comes last, so that the compiler makes a loop of that call.
 fn mark_read(marks: &mut [bool], expression: &Expr)
+    ensures long { length marks.new ≡ length marks.old }
     ensures more { HasMore marks.old marks.new }
     ensures reads { Reads marks.new (expression_of expression.now) }
 {
@@ -57,6 +58,7 @@ fn mark_read(marks: &mut [bool], expression: &Expr)
 
 /// Marks a column.
 fn mark(marks: &mut [bool], column: usize)
+    ensures long { length marks.new ≡ length marks.old }
     ensures more { HasMore marks.old marks.new }
     ensures marked { get_or marks.new column true ≡ true }
 {

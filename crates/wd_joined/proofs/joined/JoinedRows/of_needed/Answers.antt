@@ -1,4 +1,4 @@
-use Rattle.std.proofs.Common.{◌≡◌, ◌∙◌, [], None, ap, get_or, length, rules, subst, sym, take}
+use Rattle.std.proofs.Common.{◌∙◌, [], None, ap, get_or, rules, subst, sym, take}
 use Rattle.std.proofs.lemmas.List.{take_all, take_more}
 use Rattle.wd_joined.specs.Joined.{rows_joined}
 use Rattle.wd_joined.proofs.Needing.{ArePlaced, none_placed, one_placed, placed_within, rows_placed}

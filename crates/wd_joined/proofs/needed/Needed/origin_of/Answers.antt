@@ -1,5 +1,3 @@
-use Rattle.std.proofs.Common.{◌≡◌, ◌<◌, length, subst}
-use Rattle.wd_joined.specs.declared.origin.Origin.{Origin}
 use Rattle.wd_joined.proofs.Needing.{none_more, placed_in}
 use Rattle.wd_joined.proofs.needed.Needed.origin_of.Goals as goal
 

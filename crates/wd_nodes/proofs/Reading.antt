@@ -1,15 +1,15 @@
 -- Rows that agree on marked columns, and steps that read no others.
-use Rattle.std.proofs.Common.{◌≡◌, ◌⊎◌, ◌∙◌, ℕ, zero, suc, ◌+◌, ◌-◌, ◌<◌, ◌≤◌, Bool, true, false, List, [], ◌∷◌, ◌++◌, map, length, get_or, Ok, refl, sym, ap, arith, inl, inr}
-use Rattle.std.specs.Prelude.{All, if◌then◌else◌, not}
-use Rattle.std.specs.List.{AllZip}
+use Rattle.std.proofs.Common.{◌≡◌, ◌⊎◌, ◌∙◌, ℕ, zero, suc, ◌+◌, ◌-◌, ◌<◌, ◌≤◌, Bool, true, List, [], ◌∷◌, ◌++◌, map, length, get_or, Ok, refl, sym, ap, arith, inl, inr}
+use Rattle.std.specs.Prelude.{All, if◌then◌else◌}
 use Rattle.std.proofs.lemmas.Bool.{cases_lt}
-use Rattle.std.proofs.lemmas.List.{get_or_append_left, get_or-append_right, get_or_past, length-append}
-use Rattle.std.proofs.lemmas.Simd.{map-map}
+use Rattle.std.proofs.lemmas.List.{get_or_append_left, get_or-append_right, length-append}
+use Rattle.std.proofs.lemmas.List.Elements.{All-push, All-weaker}
+use Rattle.wd_value.specs.declared.value.Value.TheVariants.{Null}
 use Rattle.wd_value.specs.Rows.{Row, column_of, row_at}
 use Rattle.wd_plan.specs.declared.expression.ArithmeticOp.{ArithmeticOp}
 use Rattle.wd_plan.specs.declared.expression.Branch.{Branch}
 use Rattle.wd_plan.specs.declared.expression.ComparisonOp.{ComparisonOp}
-use Rattle.wd_plan.specs.Expressions.{Expression, Arithmetic, Compare, And, Or, Case, Negate, Not, IsNull, IsNotNull, Column, and_result, or_result, arithmetic_value, comparison, is_true, value_of}
+use Rattle.wd_plan.specs.Expressions.{Expression, Arithmetic, Compare, And, Or, Case, Column, and_result, or_result, arithmetic_value, comparison, is_true, value_of}
 use Rattle.wd_plan.specs.Faults.{all_ok, and_then}
 use Rattle.wd_plan.specs.Outcomes.{map_outcome, pairs}
 use Rattle.wd_join.proofs.Joining.{pairs_with}
@@ -44,6 +44,9 @@ reads_or marks x y f g row other alike = λ i. and_then (f row other alike i) (�
 pub reads_case : (marks : List Bool) (k : Branch) (x y z : Expression) → Reads marks x → Reads marks y → Reads marks z → Reads marks (Case k x y z)
 reads_case marks k x y z f g h row other alike = λ i. and_then (f row other alike i) (λ v. if is_true v then g row other alike i else h row other alike i)
 
+pub more_read : (old new : List Bool) (es : List Expression) (e : Expression) → All (Reads old) es → HasMore old new → Reads new e → All (Reads new) (es ++ e ∷ [])
+more_read old new es e read more one = All-push (Reads new) es e (All-weaker (Reads old) (Reads new) (λ x. still_reads old new x more) es read) one
+
 -- ---- rows
 
 pub alike_again : (marks : List Bool) (first second third : List Row) → AreAlikeIn marks first second → AreAlikeIn marks second third → AreAlikeIn marks first third
@@ -59,10 +62,10 @@ alike_before marks row other right alike = (length-append row right ∙ ap (λ n
   by : (c : ℕ) → get_or marks c true ≡ true → (c < length row) ⊎ (length row ≤ c) → column_of (row ++ right) c ≡ column_of (other ++ right) c
   by c is (inl low) =
       let there : c < length other = rw (sym alike.0) low in
-      get_or_append_left row right _ c low ∙ alike.1 c is ∙ sym (get_or_append_left other right _ c there)
+      get_or_append_left row right Null c low ∙ alike.1 c is ∙ sym (get_or_append_left other right Null c there)
   by c is (inr high) =
       let there : length other ≤ c = rw (sym alike.0) high in
-      get_or-append_right row right c _ high ∙ ap (λ n. column_of right (c - n)) alike.0 ∙ sym (get_or-append_right other right c _ there)
+      get_or-append_right row right (length row) c Null refl high ∙ ap (λ n. column_of right (c - n)) alike.0 ∙ sym (get_or-append_right other right (length other) c Null refl there)
 
 with_each : (marks : List Bool) (row other : Row) → IsAlikeIn marks row other → (right : List Row) → AreAlikeIn marks (pairs_with row right) (pairs_with other right)
 with_each marks row other alike [] = tt
