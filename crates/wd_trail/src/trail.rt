@@ -194,11 +194,12 @@ fn added_to_each(rows: &RowSource, plan: &Plan) -> u64 {
 /// How many values and positions each row of a plan's last node holds, where no row below it is kept. A row counts as one value more than
 /// it has.
 fn held_by_each(rows: &RowSource, plan: &Plan) -> u64 {
-    let made = made_in(plan);
+    let behind = behind_each(plan);
+    let held = behind.positions.saturating_add(behind.values);
     if is_joined(rows) {
-        made
+        held
     } else {
-        made.max((rows.width(0) as u64).saturating_add(1))
+        held.max((rows.width(0) as u64).saturating_add(1))
     }
 }
 
@@ -212,31 +213,74 @@ fn is_joined(rows: &RowSource) -> bool {
     false
 }
 
-/// How many positions and values stand behind a row: a position for each Scan, and a value for each column that is made.
-fn made_in(plan: &Plan) -> u64 {
-    match plan {
-        Plan::Scan { .. } => 1,
-        Plan::Join { left, right, .. } => made_in(left).saturating_add(made_in(right)),
-        Plan::Filter { input, .. } | Plan::Distinct { input } | Plan::Limit { input, .. } => {
-            made_in(input)
+/// What stands behind a row: positions in tables, and values that were made for it or for the rows of which it is joined.
+#[derive(Clone, Copy)]
+struct Behind {
+    positions: u64,
+    values: u64,
+}
+
+impl Behind {
+    fn with_values(self, count: usize) -> Behind {
+        Behind {
+            positions: self.positions,
+            values: self.values.saturating_add(count as u64),
         }
-        Plan::Map { input, outputs } => made_in(input).saturating_add(made_by(outputs)),
-        Plan::Window { input, window } => made_in(input).saturating_add(window.calls.len() as u64),
-        Plan::Group { group, .. } => {
-            u64::from(group.columns).saturating_add(group.calls.len() as u64)
+    }
+
+    /// The same where a Map shows these outputs: of tables that no column of theirs stands in, the positions are not kept.
+    fn shown(self, outputs: &[Expr]) -> Behind {
+        if are_moved(outputs) {
+            Behind {
+                positions: self.positions.min(outputs.len() as u64),
+                values: self.values,
+            }
+        } else {
+            Behind {
+                positions: 1,
+                values: self.values,
+            }
+            .with_values(outputs.len())
         }
     }
 }
 
-/// How many columns a Map makes: none where its outputs are columns in rising order and NULLs, and else at most all.
-fn made_by(outputs: &[Expr]) -> u64 {
+/// What stands at most behind each row of a plan's last node.
+fn behind_each(plan: &Plan) -> Behind {
+    match plan {
+        Plan::Scan { .. } => Behind {
+            positions: 1,
+            values: 0,
+        },
+        Plan::Join { left, right, .. } => {
+            let (left, right) = (behind_each(left), behind_each(right));
+            Behind {
+                positions: left.positions.saturating_add(right.positions),
+                values: left.values.saturating_add(right.values),
+            }
+        }
+        Plan::Filter { input, .. } | Plan::Distinct { input } | Plan::Limit { input, .. } => {
+            behind_each(input)
+        }
+        Plan::Map { input, outputs } => behind_each(input).shown(outputs),
+        Plan::Window { input, window } => behind_each(input).with_values(window.calls.len()),
+        Plan::Group { group, .. } => Behind {
+            positions: 1,
+            values: u64::from(group.columns),
+        }
+        .with_values(group.calls.len()),
+    }
+}
+
+/// Whether a Map's outputs are columns in rising order and NULLs, for which no column is made.
+fn are_moved(outputs: &[Expr]) -> bool {
     let mut next = 0;
     for output in outputs {
         match output {
             Expr::Column(column) if u32::from(*column) >= next => next = u32::from(*column) + 1,
             Expr::Literal(Value::Null, _) => {}
-            _ => return outputs.len() as u64,
+            _ => return false,
         }
     }
-    0
+    true
 }
