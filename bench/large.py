@@ -50,11 +50,18 @@ def columns(count, start=0):
 ALL = columns(1024)
 KEPT_BY_ALL = b'{"to":[0],"trace":0}'
 KEPT_TO_33 = b'{"to":[%s,1023],"trace":0}' % columns(32)
+KEPT_TO_9 = b'{"to":[%s,1023],"trace":0}' % columns(8)
 # The first column gives all of them, and these give themselves, a thousand times.
 LONG = BELOW + JOIN % (b'{"to":[%s],"trace":0}' % ALL + b',{"to":[0],"trace":1}' * 1000, ALL) + ENTRY.removeprefix(b'{"nodes":[')
-# The same, and the first 32 columns give 32, of which no set is made, in a hundred ways.
-SHORT = BELOW + JOIN % (b'{"to":[%s],"trace":0}' % ALL + b"".join(b',{"to":[%s],"trace":1}' % columns(32, start) for start in range(100)), columns(32))
-SHORT += ENTRY.removeprefix(b'{"nodes":[')
+
+
+def short(count):
+    """The same, and the first few columns give as many, in a hundred ways."""
+    given = b"".join(b',{"to":[%s],"trace":1}' % columns(count, start) for start in range(100))
+    return BELOW + JOIN % (b'{"to":[%s],"trace":0}' % ALL + given, columns(count)) + ENTRY.removeprefix(b'{"nodes":[')
+
+
+SHORT = short(32)
 # In the node above the output gives the first column, and this all of them.
 USED_ONCE = b'{"from":[0],"uses":[1002,0]}'
 USED_EACH = b'{"from":[0],"uses":[1002,0,%s]}' % columns(1000, 1)
@@ -98,8 +105,10 @@ WIDE_CERTIFICATES = {
     "traces to 1,024 columns": (LONG + USED_ONCE, b"," + USED_ONCE, ENTRY_END),
     "traces by 1,000 such facts": (LONG + USED_EACH, b"," + USED_EACH, ENTRY_END),
     "traces by 100 facts of 32": (SHORT + USED_SHORT, b"," + USED_SHORT, ENTRY_END),
-    "traces by one of them": (SHORT + USED_AGAIN, b"," + USED_AGAIN, ENTRY_END),
+    "traces by 100 facts of 8": (short(8) + USED_SHORT, b"," + USED_SHORT, ENTRY_END),
+    "traces by one of 32": (SHORT + USED_AGAIN, b"," + USED_AGAIN, ENTRY_END),
     "kept facts to 33 columns": (BELOW + FACTS.removeprefix(b'{"nodes":[') + KEPT_TO_33, b"," + KEPT_TO_33, ABOVE_KEPT),
+    "kept facts to 9 columns": (BELOW + FACTS.removeprefix(b'{"nodes":[') + KEPT_TO_9, b"," + KEPT_TO_9, ABOVE_KEPT),
     "kept facts by 1,024 columns": (WIDE_FACTS + KEPT_BY_ALL, b"," + KEPT_BY_ALL, TRACES + b'{"from":[' + ALL + b'],"uses":[]}]}' + ABOVE),
     "traces of 1,024, each named": Named(WIDE_FACTS, b'{"to":[],"trace":%d}', 1, b'{"from":[1023],"uses":[]}'),
     "the same, each named twice": Named(WIDE_FACTS, b'{"to":[],"trace":%d}', 2, b'{"from":[1023],"uses":[]}'),

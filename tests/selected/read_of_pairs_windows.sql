@@ -1,0 +1,1 @@
+SELECT s.id, s.n, s.m FROM (SELECT a.id, u.y, b.id AS j, ROW_NUMBER() OVER (PARTITION BY u.y ORDER BY a.id, b.id) AS n, SUM(b.k) OVER (PARTITION BY a.id ORDER BY u.y, b.id) AS m FROM t AS a, u, t AS b WHERE a.id < 4 AND b.id < 4) AS s ORDER BY s.id, s.y, s.j
