@@ -110,11 +110,16 @@ fn part(
     ensures { IfOk result (λ o. IfSome o (λ t. IsTrail t (plan_of plan.now) (instance_of instance.now.items))) }
 {
     match stable_rows(alloc, plan, schema, instance) {
-        Ok(Ok(rows)) if has_room(&rows, held_by_each(&rows.source(), plan), room) => {
-            Ok(Some(Trail::Part(rows)))
+        Ok(Ok(rows)) => {
+            let each = held_by_each(&rows.source(), plan);
+            if has_room(&rows, each, room) {
+                Ok(Some(Trail::Part(rows)))
+            } else {
+                Ok(None)
+            }
         }
         Err(EvalError::OutOfMemory) => Err(OutOfMemory),
-        Ok(_) | Err(_) => Ok(None),
+        Ok(Err(_)) | Err(_) => Ok(None),
     }
 }
 
