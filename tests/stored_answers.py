@@ -11,8 +11,8 @@ there is certificate.json, `verify` accepts it, and where there is witness.json,
 query that is not read, and the line that `check` and `explain` say of it in place of all these. tests/frames has one schema and one table and many queries, each
 beside its answer: each function of a window in each mode of frame with each exclusion; those answers are PostgreSQL 15's. In
 tests/selected stand likewise select lists with NULL, those that read few of the tables that are joined, and aggregates of groups, over two
-tables and their pairs, with SQLite 3.40's answers. Each run must end with the status of its answer, print exactly what is stored and nothing on standard error. A missing answer is a
-failure, and so is a folder without queries. The last line is 'N passed, M failed'.
+tables and their pairs, with SQLite 3.40's answers. Each run must end with the status of its answer, print exactly what is stored and
+nothing on standard error. A missing answer is a failure, and so is a folder without queries. The last line is 'N passed, M failed'.
 """
 
 import glob
