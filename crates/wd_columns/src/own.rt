@@ -143,7 +143,7 @@ impl OwnRows {
         }
     }
 
-    /// The same rows; where they are kept by position, with NULL in the columns that are not marked. Those past the marks stay.
+    /// Rows that have the same values in each column that is marked, or past the marks; those kept by position have anything in the others.
     pub fn keep(self, alloc: Global, marks: &[bool]) -> Result<OwnRows, OutOfMemory>
         ensures { IfOk result (λ r. AreAlikeIn marks.now r self) }
     {

@@ -205,7 +205,8 @@ impl JoinedRows {
         JoinedRows::of_needed(alloc, &tables, &positions, &picked, count)
     }
 
-    /// The same rows, but for NULL in the columns that are not marked; those past the marks stay.
+    /// Rows that have the same values in each column that is marked, or past the marks, and anything in the others, so that they share no
+    /// table in which only such others stand.
     pub fn keep(self, alloc: Global, marks: &[bool]) -> Result<JoinedRows, OutOfMemory>
         ensures { IfOk result (λ j. AreAlikeIn marks.now j self) }
     {

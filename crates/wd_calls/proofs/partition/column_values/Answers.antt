@@ -1,4 +1,5 @@
-use Rattle.std.proofs.Common.{◌∙◌, ◌++◌, ◌∷◌, [], zero-add, ap, sym}
+use Rattle.std.proofs.lemmas.Grind.{common_steps}
+use Rattle.std.proofs.Common.{◌∙◌, ◌++◌, ◌∷◌, [], zero-add, ap, sym, arith}
 use Rattle.std.proofs.lemmas.List.FromFn.{map-range_with_len_more}
 use Rattle.wd_frame.specs.Slides.{seen}
 use Rattle.wd_frame.proofs.Held.{seen-push}
@@ -13,3 +14,6 @@ loop-place-preserved c =
     ∙ seen-push c.loop-place.values.items c.value_at.result
     ∙ (λ i. c.loop-place.invariant i ++ c.value_at.ensures i ∷ [])
     ∙ sym (map-range_with_len_more (value_in (partition_of c.args.partition.now) c.args.column) 0 place place (zero-add place))
+
+pub returns : goal.returns
+returns c = grind (arith, common_steps)

@@ -1,3 +1,4 @@
+use Rattle.std.proofs.lemmas.Grind.{common_steps}
 use Rattle.std.proofs.Common.{◌∙◌, ◌+◌, ◌-◌, List, drop, ap, sym, arith}
 use Rattle.std.specs.List.{slice_get}
 use Rattle.wd_frame.specs.declared.extent.IndexRange.{IndexRange}
@@ -27,3 +28,6 @@ loop-list-preserved c =
     let sub = c.saturating_sub-length.ensures in
     let more = c.if-left-length.false in
     ap (λ n. slice_get rest (c.loop-list.left - n)) sub ∙ sym (get_later s rest c.loop-list.left (omega arith)) ∙ sym (ap (λ ps. slice_get ps c.loop-list.left) next) ∙ c.loop-list.invariant
+
+pub returns : goal.returns
+returns c = grind (arith, common_steps)

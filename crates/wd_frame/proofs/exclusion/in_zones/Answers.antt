@@ -1,4 +1,5 @@
-use Rattle.std.proofs.Common.{◌∙◌, ◌∷◌, ◌++◌, [], take, get_or, ap, subst, sym}
+use Rattle.std.proofs.lemmas.Grind.{common_steps}
+use Rattle.std.proofs.Common.{◌∙◌, ◌∷◌, ◌++◌, [], take, get_or, ap, subst, sym, arith}
 use Rattle.std.proofs.lemmas.List.{take_more}
 use Rattle.wd_frame.specs.declared.exclusion.Zone.TheVariants.{Before}
 use Rattle.wd_frame.specs.IndexRanges.{AreZones, lists_of}
@@ -14,3 +15,6 @@ loop-zone-preserved c =
     (subst (AreZones (take i zones ++ get_or zones i Before ∷ []) c.args.bounds.now c.args.left_out.now)
     (sym (ap lists_of c.in_ok-push.ensures.items ∙ lists_of-push before c.in_ok-list.list))
     (AreZones-push (take i zones) c.args.bounds.now c.args.left_out.now (lists_of before) (get_or zones i Before) c.in_ok-list.list.items c.loop-zone.invariant c.in_ok-list.ensures))
+
+pub returns : goal.returns
+returns c = grind (arith, common_steps)

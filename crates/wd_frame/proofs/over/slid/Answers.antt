@@ -1,3 +1,4 @@
+use Rattle.std.proofs.lemmas.Grind.{common_steps}
 use Rattle.std.proofs.Common.{◌∙◌, ◌-◌, Bor, drop, ap, subst, sym, arith}
 use Rattle.std.proofs.lemmas.List.{length-map}
 use Rattle.wd_value.specs.declared.value.Value.{Value}
@@ -25,3 +26,6 @@ loop-range-preserved g c =
     ∙ in_drop vs c.loop-range.first c.min-until.result (range_at all i).end (omega arith) (omega arith)
     ∙ ap (λ n. values_in vs n (range_at all i).end) until)
     (record { exact = c.answer.ensures.exact; small = c.answer.ensures.small }))
+
+pub returns : goal.returns
+returns g c = grind (arith, common_steps)

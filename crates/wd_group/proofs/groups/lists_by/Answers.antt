@@ -1,4 +1,5 @@
-use Rattle.std.proofs.Common.{◌≡◌, ◌+◌, ◌<◌, ◌++◌, ◌∷◌, [], get_or, set, sym, subst}
+use Rattle.std.proofs.lemmas.Grind.{common_steps}
+use Rattle.std.proofs.Common.{◌≡◌, ◌+◌, ◌<◌, ◌++◌, ◌∷◌, [], get_or, set, sym, subst, arith}
 use Rattle.wd_group.specs.Groups.{list_at, lists_of}
 use Rattle.wd_group.proofs.Listing.{AreBefore, AreBefore-more}
 use Rattle.wd_group.proofs.groups.lists_by.Goals as goal
@@ -11,3 +12,6 @@ loop-position-preserved c =
     let low : get_or numbers n 0 < c.args.bound = c.requires n c.loop-position-test.true in
     let new : lists_of c.push_to.new.lists.items ≡ set old (get_or numbers n 0) (list_at old (get_or numbers n 0) ++ n ∷ []) = c.in_ok-push_to.ensures in
     subst (AreBefore numbers c.args.bound (n + 1)) (sym new) (AreBefore-more numbers c.args.bound n old c.loop-position.invariant low)
+
+pub returns : goal.returns
+returns c = grind (arith, common_steps)

@@ -1,3 +1,4 @@
+use Rattle.std.proofs.lemmas.Grind.{common_steps}
 use Rattle.std.proofs.Common.{◌≡◌, ◌+◌, ◌*◌, ◌^◌, ◌<◌, ◌≤◌, ◌∙◌, get_or, length, take, ap, sym, arith}
 use Rattle.std.proofs.lemmas.List.{length-take, take_more}
 use Rattle.wd_plan.specs.Outcomes.{mask}
@@ -42,3 +43,6 @@ loop-column-preserved c =
     ] in
     (λ i. 2 * c.loop-column.invariant i + last i)
     ∙ sym (ap (mask set) (take_more columns i 0 within) ∙ mask_push set (take i columns) column)
+
+pub returns : goal.returns
+returns c = grind (arith, common_steps)

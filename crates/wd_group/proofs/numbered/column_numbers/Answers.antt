@@ -1,4 +1,5 @@
-use Rattle.std.proofs.Common.{◌≡◌, ◌+◌, ◌++◌, [], ◌∷◌, rules, subst, sym}
+use Rattle.std.proofs.lemmas.Grind.{common_steps}
+use Rattle.std.proofs.Common.{◌≡◌, ◌+◌, ◌++◌, [], ◌∷◌, rules, subst, sym, arith}
 use Rattle.wd_group.specs.Numbered.{AreNumbersOfEach}
 use Rattle.wd_group.proofs.Numbering.{AreNumbersOfEach-more}
 use Rattle.wd_group.proofs.numbered.column_numbers.Goals as goal
@@ -9,3 +10,6 @@ loop-column-preserved c =
     let n = c.loop-column.column in
     let items : c.push.new.self.items ≡ c.loop-column.found.items ++ c.in_ok-numbers.numbers ∷ [] = search rules in
     subst (AreNumbersOfEach (n + 1) rows) (sym items) (AreNumbersOfEach-more rows n c.loop-column.found.items c.in_ok-numbers.numbers c.loop-column.invariant c.in_ok-numbers.ensures)
+
+pub returns : goal.returns
+returns c = grind (arith, common_steps)

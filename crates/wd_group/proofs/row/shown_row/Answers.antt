@@ -1,4 +1,5 @@
-use Rattle.std.proofs.Common.{◌∙◌, ◌++◌, ◌∷◌, [], zero-add, sym}
+use Rattle.std.proofs.lemmas.Grind.{common_steps}
+use Rattle.std.proofs.Common.{◌∙◌, ◌++◌, ◌∷◌, [], zero-add, sym, arith}
 use Rattle.std.proofs.lemmas.List.FromFn.{map-range_with_len_more}
 use Rattle.wd_value.specs.Rows.{row_at}
 use Rattle.wd_group.specs.Sets.{shown_in}
@@ -10,3 +11,6 @@ loop-column-preserved c =
     c.in_ok-push.ensures.items
     ∙ (λ i. c.loop-column.invariant i ++ c.in_ok-value.ensures i ∷ [])
     ∙ sym (map-range_with_len_more (shown_in c.args.set.now (row_at c.args.rows.now c.args.position)) 0 column column (zero-add column))
+
+pub returns : goal.returns
+returns c = grind (arith, common_steps)

@@ -1,4 +1,5 @@
-use Rattle.std.proofs.Common.{◌≡◌, ◌∙◌, ◌∷◌, ◌++◌, [], true, false, cond, ap, sym}
+use Rattle.std.proofs.lemmas.Grind.{common_steps}
+use Rattle.std.proofs.Common.{◌≡◌, ◌∙◌, ◌∷◌, ◌++◌, [], true, false, cond, ap, sym, arith}
 use Rattle.std.proofs.lemmas.List.{append-nil}
 use Rattle.wd_plan.specs.Plans.{has}
 use Rattle.wd_group.specs.Sets.{set_columns}
@@ -19,3 +20,6 @@ loop-column-preserved c =
           let there : has set n ≡ false = sym c.has_column.ensures ∙ w.if-has_column.false in
           ap (λ v. v.items) w.found-is ∙ c.loop-column.invariant ∙ sym (more ∙ ap (λ b. set_columns n set ++ cond b (n ∷ []) []) there ∙ append-nil (set_columns n set)))
     ]
+
+pub returns : goal.returns
+returns c = grind (arith, common_steps)

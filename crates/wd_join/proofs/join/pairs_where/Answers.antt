@@ -1,3 +1,4 @@
+use Rattle.std.proofs.lemmas.Grind.{common_steps}
 use Rattle.std.proofs.Common.{◌≡◌, ◌∙◌, ◌<◌, ◌≤◌, false, ap, length, take, refl, sym, subst, rules, arith}
 use Rattle.std.proofs.lemmas.List.{length-map}
 use Rattle.wd_value.specs.Rows.{row_at}
@@ -50,3 +51,6 @@ loop-i-preserved c =
     let within : c.loop-i.i < length left = omega arith in
     let all : length right ≤ c.loop-j.j = omega arith in
     subst (λ ps. AreKept (expression_of c.args.condition.now) c.args.most ps (rows_paired left right kept.pairs.items) kept.fault) (pairs_more left right c.loop-i.i c.loop-j.j within all) c.loop-j.invariant
+
+pub returns : goal.returns
+returns c = grind (arith, common_steps)

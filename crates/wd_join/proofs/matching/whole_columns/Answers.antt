@@ -1,3 +1,4 @@
+use Rattle.std.proofs.lemmas.Grind.{common_steps}
 use Rattle.std.proofs.Common.{◌≡◌, ◌<◌, false, length, Contains, rules, arith}
 use Rattle.std.proofs.lemmas.List.Elements.{All-push, All-same, Contains-get_or}
 use Rattle.wd_join.specs.Matching.{AreWhole}
@@ -18,3 +19,6 @@ loop-column-preserved c =
           (All-push (λ k. Contains columns k × AreWhole k left right) c.loop-column.whole.items _ c.loop-column.invariant (Contains-get_or columns c.loop-column.column-index _ within, whole))))
       | else-not-have_nulls w ↦ rw w.whole-is c.loop-column.invariant
     ]
+
+pub returns : goal.returns
+returns c = grind (arith, common_steps)

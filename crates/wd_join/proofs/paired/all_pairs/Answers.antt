@@ -1,3 +1,4 @@
+use Rattle.std.proofs.lemmas.Grind.{common_steps}
 use Rattle.std.proofs.Common.{◌∙◌, ◌++◌, [], ◌∷◌, ◌<◌, ◌≤◌, ap, length, take, arith}
 use Rattle.std.proofs.lemmas.List.{map_push}
 use Rattle.wd_value.specs.Rows.{row_at}
@@ -27,3 +28,6 @@ loop-second-preserved c =
     ∙ map_push (row_paired left right) old pair
     ∙ ap (λ rows. rows ++ row_paired left right pair ∷ []) c.loop-second.invariant
     ∙ pairs_next front (row_at left i) right j within
+
+pub returns : goal.returns
+returns c = grind (arith, common_steps)

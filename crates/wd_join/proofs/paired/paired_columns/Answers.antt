@@ -1,3 +1,4 @@
+use Rattle.std.proofs.lemmas.Grind.{common_steps}
 use Rattle.std.proofs.Common.{◌∙◌, ◌≤◌, ap, length, map, arith}
 use Rattle.std.proofs.lemmas.List.{length-map, take_all}
 use Rattle.wd_column_store.specs.Along.{rows_along}
@@ -15,3 +16,6 @@ returns c =
     let all : length columns ≤ c.loop-column.column-index = omega arith in
     let picked = c.loop-column.invariant ∙ ap (map (column_in rows)) (take_all c.loop-column.column-index columns all) in
     c.new.ensures ∙ ap (λ cs. rows_along cs (length pairs)) picked ∙ columns_along rows columns (length pairs) (length-map pairs (row_paired left right))
+
+pub loop-column-preserved : goal.loop-column-preserved
+loop-column-preserved c = grind (arith, common_steps)

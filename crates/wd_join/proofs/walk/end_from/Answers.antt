@@ -1,3 +1,4 @@
+use Rattle.std.proofs.lemmas.Grind.{common_steps}
 use Rattle.std.proofs.Common.{◌≡◌, ◌<◌, false, get_or, length, rules, arith}
 use Rattle.wd_value.specs.Rows.{row_at}
 use Rattle.wd_join.specs.Matching.{compare_sides, is_before}
@@ -15,3 +16,6 @@ returns-then-not-is_before-clause-is c =
     let within : i < length order = omega arith in
     let no : is_before too (compare_sides columns row (row_at right (get_or order i 0))) ≡ false = search rules in
     IsEnd-here columns right order row c.requires.sorted too i within c.loop-i.invariant.2 no
+
+pub returns : goal.returns
+returns c = grind (arith, common_steps)

@@ -1,4 +1,5 @@
-use Rattle.std.proofs.Common.{◌≡◌, ◌∙◌, ◌++◌, ◌∷◌, ℕ, Option, None, [], ap, get_or, map, sym, true}
+use Rattle.std.proofs.lemmas.Grind.{common_steps}
+use Rattle.std.proofs.Common.{◌≡◌, ◌∙◌, ◌++◌, ◌∷◌, ℕ, Option, None, [], ap, get_or, map, sym, true, arith}
 use Rattle.std.specs.Prelude.{if◌then◌else◌}
 use Rattle.std.proofs.lemmas.List.{map_push}
 use Rattle.wd_value.specs.Bags.{positions}
@@ -13,3 +14,6 @@ loop-column-preserved c =
     let pushed : c.push.new.self.items ≡ map kept (positions n) ++ kept n ∷ [] = c.in_ok-push.ensures.items ∙ (λ i. c.loop-column.invariant i ++ c.marked_origin.ensures i ∷ []) in
     pushed
     ∙ sym (ap (map kept) (positions_push n) ∙ map_push kept (positions n) n)
+
+pub returns : goal.returns
+returns c = grind (arith, common_steps)

@@ -1,4 +1,5 @@
-use Rattle.std.proofs.Common.{◌∙◌, ◌++◌, ◌∷◌, [], ap, map, sym}
+use Rattle.std.proofs.lemmas.Grind.{common_steps}
+use Rattle.std.proofs.Common.{◌∙◌, ◌++◌, ◌∷◌, [], ap, map, sym, arith}
 use Rattle.std.proofs.lemmas.List.{map_push}
 use Rattle.wd_value.specs.Bags.{positions}
 use Rattle.wd_joined.proofs.Joining.{own}
@@ -11,3 +12,6 @@ loop-column-preserved c =
     c.in_ok-push.ensures.items
     ∙ (λ i. c.loop-column.invariant i ++ own n ∷ [])
     ∙ sym (ap (map own) (positions_push n) ∙ map_push own (positions n) n)
+
+pub returns : goal.returns
+returns c = grind (arith, common_steps)

@@ -1,3 +1,4 @@
+use Rattle.std.proofs.lemmas.Grind.{common_steps}
 use Rattle.std.proofs.Common.{◌≡◌, ◌∙◌, ◌≤◌, ◌+◌, ◌++◌, ◌∷◌, [], map, take, sym, ap, subst, arith}
 use Rattle.std.specs.List.{AllZip}
 use Rattle.std.proofs.lemmas.List.{get_or-map, length-map, map_push, take_more}
@@ -36,3 +37,6 @@ loop-output-preserved c =
     subst (AllZip (IsColumnOr past) (map expression_of (take (i + 1) outputs))) (sym c.in_ok-push-in-Some.ensures.items)
     (subst (λ es. AllZip (IsColumnOr past) es (columns ++ column ∷ [])) (sym more)
     (zip_more (IsColumnOr past) (map expression_of before) columns e column c.loop-output.invariant (from_earlier past next e column low c.in-Some.ensures.column)))
+
+pub returns : goal.returns
+returns c = grind (arith, common_steps)

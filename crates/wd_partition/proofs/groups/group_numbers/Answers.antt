@@ -22,3 +22,6 @@ loop-i-preserved c =
       before = λ k e. (let at : k ≡ i = omega arith in is ∙ ap (λ j. f (get_or list j 0)) (sym at));
       small = (let small = c.group_after-group.ensures.small in let before = c.loop-i.invariant.small in omega arith);
     }
+
+pub returns : goal.returns
+returns c = grind (arith, common_steps)

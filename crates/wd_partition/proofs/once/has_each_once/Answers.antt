@@ -25,3 +25,6 @@ returns c =
     let whole : take c.loop-position.position-index list ≡ list = take_all c.loop-position.position-index list (omega arith) in
     let long : length list ≡ c.args.count = omega arith in
     ((λ t. seen_all c.args.count list marks (subst (λ l. AreSeen c.args.count l marks) whole c.loop-position.invariant) long), (λ once. search rules))
+
+pub loop-position-preserved : goal.loop-position-preserved
+loop-position-preserved c = grind (arith, common_steps)

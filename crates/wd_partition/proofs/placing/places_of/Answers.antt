@@ -1,3 +1,4 @@
+use Rattle.std.proofs.lemmas.Grind.{common_steps}
 use Rattle.std.proofs.Common.{◌<◌, arith, get_or, length}
 use Rattle.wd_partition.proofs.Filling.{ArePlaces-more}
 use Rattle.wd_partition.proofs.Marks.{below_once}
@@ -12,3 +13,6 @@ index_mut-requires c =
 
 pub loop-i-preserved : goal.loop-i-preserved
 loop-i-preserved c = ArePlaces-more c.args.list.now c.args.starts.now c.args.ends.now c.loop-i.i c.loop-i.places.items c.requires.once (omega arith) c.loop-i.invariant
+
+pub returns : goal.returns
+returns c = grind (arith, common_steps)

@@ -15,3 +15,6 @@ loop-i-preserved c =
       items = grind (arith, common_steps, take_more list i 0 within, map_push f);
       before = λ k e. (let at : k ≡ i = omega arith in c.next_start-start.ensures ∙ ap (λ j. f (get_or list j 0)) (sym at));
     }
+
+pub returns : goal.returns
+returns c = grind (arith, common_steps)

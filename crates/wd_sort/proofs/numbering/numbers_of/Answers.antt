@@ -1,4 +1,5 @@
-use Rattle.std.proofs.Common.{◌≡◌, ◌∙◌, ℕ, ◌+◌, ◌<◌, ◌⊎◌, inl, inr, ◌++◌, [], ◌∷◌, Some, get_or, length, rules, sym, ap, subst}
+use Rattle.std.proofs.lemmas.Grind.{common_steps}
+use Rattle.std.proofs.Common.{◌≡◌, ◌∙◌, ℕ, ◌+◌, ◌<◌, ◌⊎◌, inl, inr, ◌++◌, [], ◌∷◌, Some, get_or, length, rules, sym, ap, subst, arith}
 use Rattle.std.proofs.lemmas.List.{get_or_append_left, get_or_push, length_push}
 use Rattle.wd_value.specs.Rows.{column_of, row_at}
 use Rattle.wd_sort.specs.Known.{place_in}
@@ -34,3 +35,6 @@ loop-i-preserved c =
     by_case : (k : ℕ) → placed c.loop-i.i → ((k : ℕ) → k < c.loop-i.i → placed k) → (k < c.loop-i.i) ⊎ (k ≡ c.loop-i.i) → placed k
     by_case k last before (inl h) = before k h
     by_case k last before (inr e) = subst placed (sym e) last
+
+pub returns : goal.returns
+returns c = grind (arith, common_steps)

@@ -1,3 +1,4 @@
+use Rattle.std.proofs.lemmas.Grind.{common_steps}
 use Rattle.std.proofs.Common.{◌≡◌, ap, rules, arith, length}
 use Rattle.std.proofs.lemmas.Fn.{always_returns_same}
 use Rattle.std.specs.Ordering.{is_lt}
@@ -19,3 +20,6 @@ returns c =
     (λ k d low. i.each k d (let l = i.long in omega arith)) (λ k d low. i.is k d (let l = i.long in omega arith))
     c.in_ok-sort_by.ensures.permutation
     (c.in_ok-sort_by.ensures.sorted (λ a b. is_lt (compare_entries key a b)) (ranks_by (compare_total key) (λ (e : Entry). e.value.now)) compares)
+
+pub loop-place-preserved : goal.loop-place-preserved
+loop-place-preserved c = grind (arith, common_steps)

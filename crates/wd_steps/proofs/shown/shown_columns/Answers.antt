@@ -1,4 +1,5 @@
-use Rattle.std.proofs.Common.{◌∙◌, map, sym, ap}
+use Rattle.std.proofs.lemmas.Grind.{common_steps}
+use Rattle.std.proofs.Common.{◌∙◌, map, sym, ap, arith}
 use Rattle.std.proofs.lemmas.List.{get_or-map, length-map}
 use Rattle.std.proofs.lemmas.List.Folds.{list_all_at}
 use Rattle.wd_plan.specs.Expressions.{expression_of}
@@ -17,3 +18,9 @@ returns-in_default c =
       columns = tt;
       none = list_all_at is_column (map expression_of outputs) i e (rw length-map c.loop-output-test.true) (ap is_column is ∙ not_column output c.in_default.not-Column);
     }
+
+pub loop-output-preserved : goal.loop-output-preserved
+loop-output-preserved c = grind (arith, common_steps)
+
+pub returns : goal.returns
+returns c = grind (arith, common_steps)
