@@ -60,6 +60,15 @@ def eleven_texts():
     return {"schema.sql": SCHEMA, "query.sql": "SELECT MAX(s.n), MAX(s.o) FROM (SELECT %s FROM %s, %s) AS s\n" % (calls, fours, others)}
 
 
+def condition_texts(operators):
+    """The same, of the rows that meet a condition of so many operators, in chains of 200; nearly all of them do."""
+    texts = eleven_texts()
+    ids = ["%s.id" % name for name in JOINED[4:] + "ijk"]
+    chains = ["(%s)" % " - ".join(ids[(first + n) % len(ids)] for n in range(201)) for first in range(operators // 200)]
+    condition = " WHERE %s < 9) AS s\n" % " + ".join(chains)
+    return {"schema.sql": texts["schema.sql"], "query.sql": texts["query.sql"].replace(") AS s\n", condition)}
+
+
 def unused_texts():
     """A query with calls, some sorted by a column of one table and one by two, whose values are not shown."""
     names = JOINED[:7]
@@ -113,6 +122,7 @@ def all_texts():
     yield "2,000 evaluations, a column for each call", "check", (2,), columns_texts(CALLS)
     yield "2,000 evaluations, the greatest value of each call", "check", (2,), greatest_texts(CALLS)
     yield "the greatest values of two calls over eleven tables", "check", (2,), eleven_texts()
+    yield "the same, of the rows that meet a condition of 200 operators", "check", (2,), condition_texts(200)
     yield "calls not shown", "check", (2,), unused_texts()
     yield "calls not shown, joined to 51 columns", "check", (2,), wide_texts(51)
     yield "262,144 rows", "refute", (1,), witness_texts([ROWS] * 3)
