@@ -9,10 +9,10 @@ takes nothing stands on top, so that no two outcomes differ and the search goes 
 open, which is 18 evaluations; in the second there are calls enough for 2,000, a third of them over four rows in each table, and all
 of one window; in the third each has a column of its own to sort by, and no call's value is shown in place of that limit; so in the
 last two, with some 400 bytes: of seven tables below eight calls, each with an order of its own, and of seven tables of 51 columns that
-are joined to a table which is numbered four ways. The three between them show the greatest value of each call, so no simpler plan has one
-answer by the rules: one of the third's calls, one, of some 200 bytes, of two calls over eleven tables, 4,194,304 rows, and that one under a condition of 200
-operators. Then come the witnesses, by `refute`: three tables of 64 rows, joined to 262,144 rows, in
-which two rows differ, and four, the fourth of 38 rows, joined to 9,961,472, near the most that a step may have. Of these the last
+are joined to a table which is numbered four ways. The three between them show the greatest value of each call, so no simpler plan has
+one answer by the rules: one of the third's calls, one, of some 200 bytes, of two calls over eleven tables, 4,194,304 rows, and that one
+under a condition of 200 operators. Then come the witnesses, by `refute`: three tables of 64 rows, joined to 262,144 rows, in which two
+rows differ, and four, the fourth of 38 rows, joined to 9,961,472, near the most that a step may have. Of these the last
 choices are 170 MB of text; in the others, of 3 and 4 KB, the rows of one table are numbered before they are joined, and the answer
 has 5 and 17 columns. Prints the seconds and the most memory of one run each.
 PROGRAM is the built program (default: crates/wdcheck/out/wdcheck, which ./wdcheck builds). With --write the texts are written to
